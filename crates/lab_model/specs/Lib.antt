@@ -1,0 +1,9 @@
+pub mod Film
+pub mod Cycle
+pub mod Weighing
+pub mod Fit
+pub mod Rates
+pub mod Rules
+pub mod Horizon
+pub mod Choice
+pub mod Row
