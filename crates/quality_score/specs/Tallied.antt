@@ -1,0 +1,30 @@
+-- What a tally keeps of the segments that it was told.
+use Rattle.std.specs.Prelude.{◌≡◌, ℕ, ◌+◌, ◌*◌, ◌≤◌, List, [], ◌∷◌, length, Option, Some, None}
+use Rattle.lab_model.specs.declared.context.Played.{Played}
+use Rattle.lab_model.specs.Weighing.{Weighing}
+use Rattle.quality_score.specs.Score.{changes_of, utilities_of}
+
+-- two sums, the last rung and the number of segments
+pub record Tallied : Type 0 where
+  pub utilities : ℕ
+  pub changes : ℕ
+  pub last : Option ℕ
+  pub count : ℕ
+
+-- the rung of the last segment, or the one before them all
+abbrev pub last_rung : Option ℕ → List Played → Option ℕ
+last_rung before [] = before
+last_rung before (p ∷ ps) = last_rung (Some p.rung) ps
+
+-- the tally stands for these segments under these weights
+pub record StandsFor (w : Weighing) (ps : List Played) (t : Tallied) : Type 0 where
+  pub utilities : t.utilities ≡ utilities_of w ps
+  pub changes : t.changes ≡ changes_of w None ps
+  pub last : t.last ≡ last_rung None ps
+  pub count : t.count ≡ length ps
+
+-- no sum is more than the greatest utility for each segment
+pub record IsSmall (t : Tallied) : Type 0 where
+  pub utilities : t.utilities ≤ 1000000 * t.count
+  pub changes : t.changes ≤ 1000000 * t.count
+  pub count : t.count ≤ 40000
