@@ -1,8 +1,9 @@
 //! A manifest: the film as its segments and its ladder.
 
-ghost use Rattle.std.specs.Prelude.{◌≡◌, ℕ, ◌+◌, ◌*◌, ◌/◌, ◌<◌, ◌≤◌, ◌↔◌, IfSome, IfNone, IsTrue, length, slice_index};
+ghost use Rattle.std.specs.Prelude.{◌≡◌, ℕ, ◌+◌, ◌*◌, ◌/◌, ◌<◌, ◌≤◌, ◌↔◌, IfSome, IfNone, IsTrue, length, nat_le, slice_index};
 ghost use Rattle.std.specs.List.{All};
 ghost use Rattle.std.specs.List.Sorted.{IsStrictlyIncreasing};
+ghost use Rattle.lab_model.specs.Choice.{greatest_rung};
 ghost use Rattle.lab_model.specs.Film.{IsFilm, IsWithin, bitrate_of, film, rungs_of, segments_of, size_of};
 
 use std::marker::Model;
@@ -123,6 +124,21 @@ impl Manifest {
         ensures limits { IsWithin 1 10000000 result }
     {
         self.bitrates[rung as usize]
+    }
+
+    /// The greatest rung whose bitrate, `factor` times, is at most `limit`, or 0 where there is none.
+    #[tactic(auto, using(crate::proofs::Rungs::greatest_more, crate::proofs::Rungs::greatest_none))]
+    pub fn greatest_rung(&self, factor: u16, limit: u64) -> u8
+        ensures value { result ≡ greatest_rung (λ q. nat_le (factor * bitrate_of self.now q) limit) (rungs_of self.now) }
+        ensures rung { result < rungs_of self.now }
+    {
+        let mut best = 0u8;
+        for q in 0..self.rungs() {
+            if factor as u64 * self.bitrate(q) as u64 <= limit {
+                best = q;
+            }
+        }
+        best
     }
 
     /// The size of a segment on a rung, 1 to 200000000 bits.
