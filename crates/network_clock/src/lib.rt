@@ -1,0 +1,10 @@
+//! The recorded network as a clock: when a download begins to take bits, when it is done, and what is
+//! left of a running one at any instant. (The network after Sabre, MMSys 2018.)
+#![tactic(auto)]
+
+mod clock;
+mod job;
+mod plain;
+
+pub use clock::Clock;
+pub use job::{Job, Landing};

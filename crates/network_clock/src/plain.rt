@@ -1,0 +1,90 @@
+//! The network millisecond by millisecond.
+
+ghost use Rattle.std.specs.Prelude.{◌≡◌, ℕ, ◌+◌, ◌-◌, ◌*◌, ◌<◌, ◌≤◌};
+ghost use Rattle.lab_model.specs.Cycle.{IsTrace, cycle_ms};
+ghost use Rattle.network_clock.specs.Network.{done_at, first_at, job_after, period_at, period_in};
+
+use crate::job::Job;
+use lab_model::Period;
+
+/// The milliseconds of one cycle.
+pub fn cycle_ms(periods: &[Period]) -> u64
+    requires { IsTrace periods.now }
+    ensures { result ≡ cycle_ms periods.now }
+{
+    periods.iter().map(|p| p.duration_ms as u64).sum()
+}
+
+/// The period that holds an instant of the first cycle.
+fn period_in(periods: &[Period], instant: u64) -> Period
+    ensures { result ≡ period_in periods.now instant }
+{
+    let mut rest = instant;
+    for p in periods {
+        let duration = p.duration_ms as u64;
+        if rest < duration {
+            return *p;
+        }
+        rest -= duration;
+    }
+    Period {
+        duration_ms: 1,
+        bandwidth: 0,
+        latency: 0,
+    }
+}
+
+/// The period that holds an instant.
+fn period_at(periods: &[Period], instant: u64) -> Period
+    requires { IsTrace periods.now }
+    ensures { result ≡ period_at periods.now instant }
+{
+    period_in(periods, instant % cycle_ms(periods))
+}
+
+/// The least instant from `start` on whose millisecond is spent on bits.
+pub fn first_at(periods: &[Period], start: u64, bits: u32) -> u64
+    requires trace { IsTrace periods.now }
+    requires start { start ≤ 2000000000000000 }
+    ensures { result ≡ first_at periods.now start bits }
+{
+    let mut job = Job::start(bits);
+    for n in 0..410_000_000u64 {
+        let period = period_at(periods, start + n);
+        if job.spends(period) {
+            return start + n;
+        }
+        job = job.pass(period);
+    }
+    unreachable!()
+}
+
+/// The instant at which nothing is left of a download.
+pub fn done_at(periods: &[Period], start: u64, bits: u32) -> u64
+    requires trace { IsTrace periods.now }
+    requires start { start ≤ 2000000000000000 }
+    requires bits { bits ≤ 200000000 }
+    ensures { result ≡ done_at periods.now start bits }
+{
+    let mut job = Job::start(bits);
+    for n in 0..410_000_000u64 {
+        if job.left == 0 {
+            return start + n;
+        }
+        job = job.pass(period_at(periods, start + n));
+    }
+    unreachable!()
+}
+
+/// The job after the milliseconds `from` to `to - 1`.
+pub fn advance(periods: &[Period], start_job: Job, from: u64, to: u64) -> Job
+    requires trace { IsTrace periods.now }
+    requires order { from ≤ to }
+    ensures { result ≡ job_after periods.now from (to - from) start_job }
+{
+    let mut job = start_job;
+    for instant in from..to {
+        job = job.pass(period_at(periods, instant));
+    }
+    job
+}
