@@ -5,7 +5,16 @@ ghost use Rattle.std.specs.Prelude.{◌≡◌, ◌≤◌, [], ℕ, List, IsOk, I
 ghost use Rattle.lab_io.specs.Shelf.{Fetched, Shelved, fetched_as};
 ghost use Rattle.lab_io.specs.Sink.{Puts, Seen};
 
+mod edge;
+mod memory;
+#[cfg(test)]
+mod tests;
+mod text;
+
+pub use edge::{FileShelf, StreamSink};
+pub use memory::{MemShelf, MemSink, SureSink};
 use std::alloc::Global;
+pub use text::{Piece, put_line, put_number, put_pieces, put_text};
 
 /// Why a file was not fetched.
 #[derive(Clone, Copy, Debug, PartialEq, Eq)]
