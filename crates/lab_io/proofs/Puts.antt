@@ -1,5 +1,5 @@
 -- What several pieces in turn come to: the texts of one answer are those of the pieces, one after the other.
-use Rattle.std.proofs.Common.{refl, ◌+◌, [], ◌<◌, ◌≡◌, ℕ, ◌≤◌, ◌++◌, Option, Some, None, Result, Ok, Err, sym, ap, ◌∙◌, inl, inr, arith, append_assoc, append-nil}
+use Rattle.std.proofs.Common.{refl, [], ◌≡◌, ℕ, ◌≤◌, ◌++◌, Option, Some, None, Result, Ok, Err, sym, ap, ◌∙◌, inl, inr, arith, append_assoc, append-nil}
 use Rattle.std.specs.Result.{IsErrAnd}
 use Rattle.std.proofs.lemmas.Result.{err_from_is_err_and}
 use Rattle.lab_io.specs.declared.PutErr.{PutErr}

@@ -1,5 +1,5 @@
 -- A list of pieces, and one of files, taken one by one.
-use Rattle.std.proofs.Common.{refl, ◌≡◌, ℕ, ◌+◌, ◌<◌, ◌≤◌, [], List, ◌++◌, Option, Some, None, Bool, true, false, add-one, drop-cons, drop, get_or, length, String, Vec, Global, string_bytes, ◌∙◌, ap}
+use Rattle.std.proofs.Common.{refl, ◌≡◌, ℕ, ◌+◌, ◌<◌, ◌≤◌, [], List, ◌++◌, Some, None, true, false, add-one, drop-cons, drop, get_or, length, String, Vec, Global, string_bytes}
 use Rattle.std.proofs.lemmas.List.{drop_all}
 use Rattle.std.specs.Str.{bytes_eq}
 use Rattle.lab_io.specs.Sink.{Text}

@@ -1,13 +1,11 @@
 -- What a shelf and the sinks in memory do, call by call.
-use Rattle.std.specs.Prelude.{◌≡◌, ◌≢◌, ◌⊎◌, ℕ, ◌+◌, ◌-◌, ◌^◌, ◌==◌, List, [], ◌++◌, min, take, Bool, true, false, Option, Some, is_some, option_map, map, string_bytes, String, Vec, Result, Ok, Err, if◌then◌else◌}
+use Rattle.std.specs.Prelude.{◌≡◌, ◌≢◌, ℕ, ◌+◌, ◌-◌, ◌^◌, ◌==◌, List, [], ◌++◌, min, Bool, true, false, Option, Some, is_some, map, string_bytes, String, Vec, Result, Ok, Err, if◌then◌else◌}
 use Rattle.std.specs.Global.{Global}
 use Rattle.std.specs.List.{list_any}
 use Rattle.std.specs.Map.{lookup}
 use Rattle.std.specs.Str.{bytes_eq}
 use Rattle.lab_io.specs.Sink.{Text, Seen}
 use Rattle.lab_io.specs.Shelf.{Shelved}
-use Rattle.lab_io.specs.declared.FetchErr.{FetchErr}
-use Rattle.lab_io.specs.declared.FetchErr.TheVariants as fetch
 use Rattle.lab_io.specs.declared.PutErr.{PutErr}
 use Rattle.lab_io.specs.declared.PutErr.TheVariants as put
 

@@ -35,6 +35,13 @@ impl<'r, R: Files> FileShelf<'r, R> {
     }
 }
 
+// The count after a call.
+fn counted(failures: u64, failed: bool) -> u64
+    ensures { result ≡ (if failed then one_more failures else failures) }
+{
+    if failed { raised(failures) } else { failures }
+}
+
 fn cause(error: &io::Error) -> FetchErr {
     match error.kind() {
         io::ErrorKind::OutOfMemory => FetchErr::Memory,
@@ -66,9 +73,7 @@ impl<'r, R: Files> Shelf for FileShelf<'r, R> {
         ensures counts { self.new ≡ (if is_err result then one_more self.old else self.old) }
     {
         let answer = read_first(self.rt, alloc, name, most);
-        if answer.is_err() {
-            self.failures = raised(self.failures);
-        }
+        self.failures = counted(self.failures, answer.is_err());
         answer
     }
 }
@@ -128,9 +133,7 @@ impl<W: Write + Drop> Sink for StreamSink<W> {
         ensures counts { self.new ≡ (if is_err result then one_more self.old else self.old) }
     {
         let answer = write_piece(&mut self.stream, bytes);
-        if answer.is_err() {
-            self.failures = raised(self.failures);
-        }
+        self.failures = counted(self.failures, answer.is_err());
         answer
     }
 }

@@ -1,5 +1,5 @@
 //! A shelf and sinks in memory, with failures that are known beforehand.
-ghost use Rattle.std.specs.Prelude.{◌≡◌, ◌≤◌, [], ℕ, List, Ok, Err, Option, option_map, map, string_bytes, IsOk, IsErrOf, take, IfOk, IfErr, ◌↔◌, true, min, ◌+◌, ◌-◌, ◌^◌};
+ghost use Rattle.std.specs.Prelude.{◌≡◌, ◌≤◌, ◌↔◌, [], ◌++◌, ℕ, List, true, if◌then◌else◌, option_map, take, IfErr, IfOk, IsErrOf, IsOk};
 ghost use Rattle.lab_io.specs.Memory.{MemFiles, MemPuts, MemText, SurePuts, SureText, after_fetch, fetch_fails, file_of, is_failing, mem_seen, mem_shelved, one_more, sure_seen, told_files};
 ghost use Rattle.lab_io.specs.Shelf.{Fetched, fetched_as};
 ghost use Rattle.lab_io.specs.Sink.{Puts};
@@ -102,6 +102,13 @@ impl Shelf for MemShelf {
     }
 }
 
+// Whether memory sufficed for the bytes, which then stand at the end.
+fn append(written: &mut Vec<u8>, bytes: &[u8]) -> bool
+    ensures { written.new.items ≡ (if result then written.old.items ++ bytes.now else written.old.items) }
+{
+    written.extend_from_slice(bytes).is_ok()
+}
+
 /// What was written, in memory. Each call of `put` has a number, from 1 on, and fails where that number was named
 /// beforehand and the piece is not empty.
 #[derive(Drop)]
@@ -167,7 +174,7 @@ impl Sink for MemSink {
             self.faults = raised(self.faults);
             return Err(PutErr::Failed);
         }
-        if self.written.extend_from_slice(bytes).is_err() {
+        if !append(&mut self.written, bytes) {
             self.wants = raised(self.wants);
             return Err(PutErr::Memory);
         }
@@ -220,7 +227,7 @@ impl Sink for SureSink {
         if bytes.is_empty() {
             return Ok(());
         }
-        if self.written.extend_from_slice(bytes).is_err() {
+        if !append(&mut self.written, bytes) {
             self.wants = raised(self.wants);
             return Err(PutErr::Memory);
         }
