@@ -1,0 +1,5 @@
+pub mod Sink
+pub mod Shelf
+pub mod Memory
+pub mod Edge
+pub mod Piece
