@@ -1,12 +1,13 @@
 //! The words of a command line, read by `clap` and by the rules of this project.
 #![tactic(auto)]
 
+mod numbers;
 mod table;
 
 ghost use Rattle.std.specs.Prelude.{◌≡◌, Err, false, map, string_bytes};
 ghost use Rattle.lab_words.specs.Words.{begins_with_verb, command_of, view, Gives};
 
-use std::alloc::{AllocError, Global};
+use std::alloc::{AllocError, AllocFailed, Global};
 
 /// The command that a command line names by its first word.
 #[derive(Clone, Copy, Debug, PartialEq, Eq)]
@@ -78,6 +79,28 @@ pub enum WordsErr {
     Usage,
     /// Memory ran out.
     Memory,
+}
+
+impl From<AllocError> for WordsErr {
+    ghost use Rattle.std.specs.Prelude.{◌≡◌};
+    ghost use Rattle.lab_words.specs.declared.WordsErr.TheVariants.{Memory};
+
+    ghost from_gives = { λ _ e. e ≡ Memory };
+
+    fn from(_refused: AllocError) -> WordsErr {
+        WordsErr::Memory
+    }
+}
+
+impl<T: Drop> From<AllocFailed<T>> for WordsErr {
+    ghost use Rattle.std.specs.Prelude.{◌≡◌};
+    ghost use Rattle.lab_words.specs.declared.WordsErr.TheVariants.{Memory};
+
+    ghost from_gives = { λ _ e. e ≡ Memory };
+
+    fn from(_refused: AllocFailed<T>) -> WordsErr {
+        WordsErr::Memory
+    }
 }
 
 /// What the words ask for, the command line without the program's name. They are refused exactly
