@@ -11,6 +11,7 @@ use Rattle.lab_words.specs.declared.NamedRule.{NamedRule}
 use Rattle.lab_words.specs.declared.Verb.{Verb}
 use Rattle.lab_words.specs.declared.Verb.TheVariants as verb
 use Rattle.lab_words.specs.declared.WordsErr.{WordsErr}
+use Rattle.lab_words.specs.declared.values.Settings.{Settings}
 use Rattle.lab_words.specs.declared.WordsErr.TheVariants as errors
 
 -- what a command line asks for
@@ -79,14 +80,14 @@ utilities_in rows = do
   utilities_of text
 
 -- the numbers that each command on a manifest has
-pub record Settings : Type 0 where
+pub record SettingsWords : Type 0 where
   pub buffer_ms : ℕ
   pub utilities : List ℕ
   pub switch : ℕ
   pub stall : ℕ
   pub startup : ℕ
 
-unfoldable pub settings_in : List Row → Option Settings
+unfoldable pub settings_in : List Row → Option SettingsWords
 settings_in rows = do
   buffer_ms ← number_in 25000 1 10000000 (codes "buffer") rows
   utilities ← utilities_in rows
@@ -158,6 +159,10 @@ view c = record {
   abandon = c.abandon;
   seeks = option_map string_bytes c.seeks;
 }
+
+-- the settings, without where they lie in memory
+abbrev pub settings_view : Settings → SettingsWords
+settings_view s = record { buffer_ms = s.buffer_ms; utilities = s.utilities.items; switch = s.switch; stall = s.stall; startup = s.startup }
 
 -- a call gave the value, or refused, or was out of memory
 abbrev pub Gives : {X Y : Type 0} → (X → Y) → Result X WordsErr → Option Y → Type 0

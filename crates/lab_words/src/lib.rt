@@ -2,7 +2,9 @@
 #![tactic(auto)]
 
 mod numbers;
+mod rules;
 mod table;
+mod values;
 
 ghost use Rattle.std.specs.Prelude.{◌≡◌, Err, false, map, string_bytes};
 ghost use Rattle.lab_words.specs.Words.{begins_with_verb, command_of, view, Gives};
