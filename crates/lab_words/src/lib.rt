@@ -3,12 +3,14 @@
 
 mod numbers;
 mod rules;
+mod simulate;
 mod table;
 mod values;
 
 ghost use Rattle.std.specs.Prelude.{◌≡◌, Err, false, map, string_bytes};
 ghost use Rattle.lab_words.specs.Words.{begins_with_verb, command_of, view, Gives};
 
+use crate::simulate::simulate_of;
 use std::alloc::{AllocError, AllocFailed, Global};
 
 /// The command that a command line names by its first word.
@@ -113,11 +115,11 @@ pub fn read_words(alloc: Global, words: &[String]) -> Result<Command, WordsErr>
     ensures read { Gives view result (command_of (map string_bytes words.now)) }
     ensures no_command { begins_with_verb (map string_bytes words.now) ≡ false → result ≡ Err WordsErr.Usage }
 {
-    let Some((first, _)) = words.split_first() else {
+    let Some((first, others)) = words.split_first() else {
         return Err(WordsErr::Usage);
     };
     match first.as_str() {
-        "simulate" => Err(WordsErr::Memory),
+        "simulate" => simulate_of(alloc, others),
         _ => Err(WordsErr::Usage),
     }
 }
