@@ -1,15 +1,14 @@
 -- What a parse says of a spelled number, and how a list of numbers is read piece by piece.
-use Rattle.std.proofs.Common.{◌≡◌, ◌&&◌, ◌==◌, ◌<◌, ◌≤◌, ◌^◌, ◌+◌, ◌++◌, ◌∙◌, ℕ, List, [], ◌∷◌, Bool, true, false, not, Option, Some, None, Result, Ok, Err, length, refl, sym, ap, arith, cond, inl, inr, zero, suc, add-one, drop, drop-cons, map, get_or, option_map, append_assoc, Bor, lit≤}
+use Rattle.std.proofs.Common.{◌≡◌, ◌&&◌, ◌==◌, ◌<◌, ◌≤◌, ◌^◌, ◌+◌, ◌++◌, ℕ, List, [], ◌∷◌, Bool, true, false, not, Option, Some, None, Result, Err, length, refl, sym, arith, cond, inl, inr, zero, suc, map, get_or, option_map, Bor, lit≤}
 use Rattle.std.proofs.lemmas.Bool.{cases_lt}
 use Rattle.std.proofs.lemmas.Bool.Decides.{nat_tests}
-use Rattle.std.proofs.lemmas.List.{drop_all}
 use Rattle.std.specs.List.Sorted.{IsNonDecreasing}
 use Rattle.std.specs.Str.{all_ascii_digits}
 use Rattle.std.specs.Str.Parse.{ParsesUnsigned, digits_value}
 use Rattle.std.proofs.lemmas.Str.Parse.{IsNumeralModel, numerals_by_value, parse_digits, tells_all_ascii_digits}
 use Rattle.std.specs.Result.{OkIff}
 use Rattle.std.specs.Prelude.{nat_le, MatchBool}
-use Rattle.lab_words.specs.Spelling.{Text, is_number, number_of, all_numbers, never_falls}
+use Rattle.lab_words.specs.Spelling.{Text, is_number, number_of, never_falls}
 
 -- ---- a number
 

@@ -1,5 +1,5 @@
 -- What a command line asks for, or that it is refused.
-use Rattle.std.specs.Prelude.{◌≡◌, ℕ, ◌||◌, ◌==◌, Bool, true, false, List, [], ◌∷◌, Option, Some, None, Result, Ok, Err, codes, map, string_bytes, option_map, option_and_then, unwrap_or, if◌then◌else◌}
+use Rattle.std.specs.Prelude.{◌≡◌, ℕ, ◌==◌, Bool, true, false, List, [], ◌∷◌, Option, Some, None, Result, Ok, Err, codes, map, string_bytes, option_map, option_and_then, unwrap_or, is_some, if◌then◌else◌}
 use Rattle.std.specs.List.{list_any}
 use Rattle.std.specs.Str.{bytes_eq}
 use Rattle.clap.specs.Walk.{Row, first_of}
@@ -122,23 +122,27 @@ simulate_in rows = do
 abbrev pub has_dashes : List Text → Bool
 has_dashes words = list_any (λ w. bytes_eq w (codes "--")) words
 
--- what the words behind `simulate` ask for
-unfoldable pub simulate_of : List Text → Option CommandWords
-simulate_of words = if has_dashes words then None else option_and_then simulate_in (accepted simulate_app words)
-
--- the command that a first word names
+-- the command that a word names
 abbrev pub verb_of : Text → Option Verb
 verb_of word = if bytes_eq word (codes "simulate") then Some verb.Simulate else None
+
+-- what the words behind a command's name ask for
+abbrev pub asked_of : Verb → List Text → Option CommandWords
+asked_of verb.Simulate words = option_and_then simulate_in (accepted simulate_app words)
+asked_of verb.Compare words = None
+asked_of verb.Plan words = None
+asked_of verb.Check words = None
+asked_of verb.Demo words = None
 
 -- the first word is a command
 abbrev pub begins_with_verb : List Text → Bool
 begins_with_verb [] = false
-begins_with_verb (word ∷ words) = bytes_eq word (codes "simulate")
+begins_with_verb (word ∷ words) = is_some (verb_of word)
 
 -- what a command line asks for, without the program's name; none where it is refused
 unfoldable pub command_of : List Text → Option CommandWords
 command_of [] = None
-command_of (word ∷ words) = if bytes_eq word (codes "simulate") then simulate_of words else None
+command_of (word ∷ words) = if has_dashes words then None else option_and_then (λ verb. asked_of verb words) (verb_of word)
 
 -- a rule and its word, without where they lie in memory
 abbrev pub named : NamedRule → Text × RuleSpoken

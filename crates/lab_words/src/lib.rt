@@ -7,8 +7,10 @@ mod simulate;
 mod table;
 mod values;
 
-ghost use Rattle.std.specs.Prelude.{◌≡◌, Err, false, map, string_bytes};
-ghost use Rattle.lab_words.specs.Words.{begins_with_verb, command_of, view, Gives};
+ghost use Rattle.std.specs.Prelude.{◌≡◌, Err, codes, false, map, string_bytes};
+ghost use Rattle.std.specs.List.{list_any};
+ghost use Rattle.std.specs.Str.{bytes_eq};
+ghost use Rattle.lab_words.specs.Words.{Gives, asked_of, begins_with_verb, command_of, has_dashes, verb_of, view};
 
 use crate::simulate::simulate_of;
 use std::alloc::{AllocError, AllocFailed, Global};
@@ -107,9 +109,42 @@ impl<T: Drop> From<AllocFailed<T>> for WordsErr {
     }
 }
 
+fn any_dashes(words: &[String]) -> bool
+    ensures { result ≡ list_any (λ word. bytes_eq (string_bytes word) (codes "--")) words.now }
+{
+    words.iter().any(|word| word.as_str() == "--")
+}
+
+/// Whether the word `--` stands among the words.
+fn has_dashes(words: &[String]) -> bool
+    ensures { result ≡ has_dashes (map string_bytes words.now) }
+{
+    any_dashes(words)
+}
+
+/// The command that a word names.
+fn verb_of(word: &str) -> Option<Verb>
+    ensures { result ≡ verb_of word.now }
+{
+    match word {
+        "simulate" => Some(Verb::Simulate),
+        _ => None,
+    }
+}
+
+/// What the words behind a command's name ask for.
+fn asked_of(alloc: Global, verb: Verb, words: &[String]) -> Result<Command, WordsErr>
+    ensures { Gives view result (asked_of verb (map string_bytes words.now)) }
+{
+    match verb {
+        Verb::Simulate => simulate_of(alloc, words),
+        Verb::Compare | Verb::Plan | Verb::Check | Verb::Demo => Err(WordsErr::Usage),
+    }
+}
+
 /// What the words ask for, the command line without the program's name. They are refused exactly
-/// where `command_of` has no command for them. No memory is taken where the first word is no
-/// command.
+/// where `command_of` has no command for them. No memory is taken where there are no words or the
+/// first is no command.
 #[tactic(auto, unfolding(crate::specs::Words::command_of))]
 pub fn read_words(alloc: Global, words: &[String]) -> Result<Command, WordsErr>
     ensures read { Gives view result (command_of (map string_bytes words.now)) }
@@ -118,8 +153,11 @@ pub fn read_words(alloc: Global, words: &[String]) -> Result<Command, WordsErr>
     let Some((first, others)) = words.split_first() else {
         return Err(WordsErr::Usage);
     };
-    match first.as_str() {
-        "simulate" => simulate_of(alloc, others),
-        _ => Err(WordsErr::Usage),
+    let Some(verb) = verb_of(first) else {
+        return Err(WordsErr::Usage);
+    };
+    if has_dashes(others) {
+        return Err(WordsErr::Usage);
     }
+    asked_of(alloc, verb, others)
 }

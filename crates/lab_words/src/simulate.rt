@@ -1,29 +1,14 @@
 //! The words of `simulate`.
 
-ghost use Rattle.std.specs.Prelude.{◌≡◌, codes, map, string_bytes};
-ghost use Rattle.std.specs.List.{list_any};
-ghost use Rattle.std.specs.Str.{bytes_eq};
+ghost use Rattle.std.specs.Prelude.{map, string_bytes};
 ghost use Rattle.clap.specs.Words.{found_of, rows_of};
-ghost use Rattle.lab_words.specs.Words.{Gives, has_dashes, simulate_in, simulate_of, view};
+ghost use Rattle.lab_words.specs.Words.{Gives, asked_of, simulate_in, view};
 
 use crate::table::simulate_matches;
 use crate::values::{file_name, is_given, optional_file_name, rule_in, settings_in};
 use crate::{Command, Verb, WordsErr};
 use clap::ArgMatches;
 use std::alloc::Global;
-
-fn any_dashes(words: &[String]) -> bool
-    ensures { result ≡ list_any (λ word. bytes_eq (string_bytes word) (codes "--")) words.now }
-{
-    words.iter().any(|word| word.as_str() == "--")
-}
-
-/// Whether the word `--` stands among the words.
-fn has_dashes(words: &[String]) -> bool
-    ensures { result ≡ has_dashes (map string_bytes words.now) }
-{
-    any_dashes(words)
-}
 
 /// What `simulate` is asked for, by the values of its options.
 #[tactic(auto, unfolding(crate::specs::Words::simulate_in))]
@@ -51,13 +36,9 @@ fn simulate_in(alloc: Global, matches: &ArgMatches<'_>) -> Result<Command, Words
 }
 
 /// What the words behind `simulate` ask for.
-#[tactic(auto, unfolding(crate::specs::Words::simulate_of))]
 pub(crate) fn simulate_of(alloc: Global, words: &[String]) -> Result<Command, WordsErr>
-    ensures { Gives view result (simulate_of (map string_bytes words.now)) }
+    ensures { Gives view result (asked_of Verb.Simulate (map string_bytes words.now)) }
 {
-    if has_dashes(words) {
-        return Err(WordsErr::Usage);
-    }
     let matches = simulate_matches(alloc, words)?;
     simulate_in(alloc, &matches)
 }

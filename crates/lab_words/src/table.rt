@@ -98,7 +98,11 @@ fn plain_command<'a>(alloc: Global, name: &'a str) -> Command<'a>
         .disable_version_flag(true)
 }
 
-fn table_command<'a>(alloc: Global, name: &'a str, table: &[Word]) -> Result<Command<'a>, AllocError>
+fn table_command<'a>(
+    alloc: Global,
+    name: &'a str,
+    table: &[Word],
+) -> Result<Command<'a>, AllocError>
     ensures { IfOk result (λ c. app_of c ≡ table_app name.entry.now (map entry_of table.now)) }
 {
     let mut command = plain_command(alloc, name);

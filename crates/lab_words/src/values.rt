@@ -45,13 +45,8 @@ pub(crate) fn optional<'a>(
     ensures { Gives (option_map (λ text. text.now)) result (optional name.now (rows_of (found_of matches.now))) }
 {
     match text_of(matches, name) {
-        Some(text) => {
-            if is_stray(text) {
-                return Err(WordsErr::Usage);
-            }
-            Ok(Some(text))
-        }
-        None => Ok(None),
+        Some(text) if is_stray(text) => Err(WordsErr::Usage),
+        given => Ok(given),
     }
 }
 
@@ -60,11 +55,7 @@ pub(crate) fn optional<'a>(
 pub(crate) fn required<'a>(matches: &ArgMatches<'a>, name: &str) -> Result<&'a str, WordsErr>
     ensures { Gives (λ text. text.now) result (required name.now (rows_of (found_of matches.now))) }
 {
-    match optional(matches, name) {
-        Ok(Some(text)) => Ok(text),
-        Ok(None) => Err(WordsErr::Usage),
-        Err(e) => Err(e),
-    }
+    optional(matches, name)?.ok_or(WordsErr::Usage)
 }
 
 /// A file name that has to be given.
@@ -75,10 +66,7 @@ pub(crate) fn file_name(
 ) -> Result<String, WordsErr>
     ensures { Gives string_bytes result (required name.now (rows_of (found_of matches.now))) }
 {
-    match required(matches, name) {
-        Ok(text) => Ok(text.to_string(alloc)?),
-        Err(e) => Err(e),
-    }
+    Ok(required(matches, name)?.to_string(alloc)?)
 }
 
 /// A file name, if it is given.
@@ -89,10 +77,9 @@ pub(crate) fn optional_file_name(
 ) -> Result<Option<String>, WordsErr>
     ensures { Gives (option_map string_bytes) result (optional name.now (rows_of (found_of matches.now))) }
 {
-    match optional(matches, name) {
-        Ok(Some(text)) => Ok(Some(text.to_string(alloc)?)),
-        Ok(None) => Ok(None),
-        Err(e) => Err(e),
+    match optional(matches, name)? {
+        Some(text) => Ok(Some(text.to_string(alloc)?)),
+        None => Ok(None),
     }
 }
 
@@ -107,10 +94,9 @@ pub(crate) fn number_in(
 ) -> Result<u32, WordsErr>
     ensures { Gives (λ number. number) result (number_in default least most name.now (rows_of (found_of matches.now))) }
 {
-    match optional(matches, name) {
-        Ok(Some(text)) => number_of(text, least, most).ok_or(WordsErr::Usage),
-        Ok(None) => Ok(default),
-        Err(e) => Err(e),
+    match optional(matches, name)? {
+        Some(text) => number_of(text, least, most).ok_or(WordsErr::Usage),
+        None => Ok(default),
     }
 }
 
@@ -129,16 +115,11 @@ pub(crate) fn is_given(matches: &ArgMatches<'_>, name: &str) -> bool
 pub(crate) fn rule_in(alloc: Global, matches: &ArgMatches<'_>) -> Result<NamedRule, WordsErr>
     ensures { Gives named result (rule_in (rows_of (found_of matches.now))) }
 {
-    match required(matches, "rule") {
-        Ok(text) => {
-            let rule = rule_of(alloc, text)?;
-            Ok(NamedRule {
-                name: text.to_string(alloc)?,
-                rule,
-            })
-        }
-        Err(e) => Err(e),
-    }
+    let text = required(matches, "rule")?;
+    Ok(NamedRule {
+        name: text.to_string(alloc)?,
+        rule: rule_of(alloc, text)?,
+    })
 }
 
 /// The utilities that have to be given.
@@ -146,10 +127,7 @@ pub(crate) fn rule_in(alloc: Global, matches: &ArgMatches<'_>) -> Result<NamedRu
 fn utilities_in(alloc: Global, matches: &ArgMatches<'_>) -> Result<Vec<u32>, WordsErr>
     ensures { Gives (λ utilities. utilities.items) result (utilities_in (rows_of (found_of matches.now))) }
 {
-    match required(matches, "utilities") {
-        Ok(text) => utilities_of(alloc, text),
-        Err(e) => Err(e),
-    }
+    utilities_of(alloc, required(matches, "utilities")?)
 }
 
 /// The numbers of a command on a manifest.

@@ -1,5 +1,5 @@
 use Rattle.std.proofs.Common.{◌≡◌, ◌<◌, ◌^◌, true, arith, rules}
-use Rattle.lab_words.specs.Spelling.{is_number, number_of}
+use Rattle.lab_words.specs.Spelling.{is_number}
 use Rattle.lab_words.proofs.NumberLemmas.{too_large}
 use Rattle.lab_words.proofs.numbers.number_of.Goals as goal
 
