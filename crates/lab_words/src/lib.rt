@@ -161,3 +161,6 @@ pub fn read_words(alloc: Global, words: &[String]) -> Result<Command, WordsErr>
     }
     asked_of(alloc, verb, others)
 }
+
+#[cfg(test)]
+mod tests;
