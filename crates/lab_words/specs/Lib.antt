@@ -1,0 +1,4 @@
+pub mod Rules
+pub mod Spelling
+pub mod Table
+pub mod Words

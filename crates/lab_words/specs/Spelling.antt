@@ -1,0 +1,50 @@
+-- How numbers and lists of numbers are spelled on the command line.
+use Rattle.std.specs.Prelude.{ℕ, ◌&&◌, ◌==◌, Bool, true, false, not, List, [], ◌∷◌, Option, Some, None, length, if◌then◌else◌, nat_le, option_map, option_and_then}
+use Rattle.std.specs.List.{slice_split}
+use Rattle.std.specs.Str.{all_ascii_digits}
+use Rattle.std.specs.Str.Parse.{digits_value}
+
+-- a text, by its bytes
+abbrev pub Text : Type 0
+Text = List ℕ
+
+-- `0`, or digits of which the first isn't `0`
+abbrev pub is_number : Text → Bool
+is_number [] = false
+is_number (c ∷ []) = all_ascii_digits (c ∷ [])
+is_number (c ∷ d ∷ cs) = not (c == 48) && all_ascii_digits (c ∷ d ∷ cs)
+
+-- n, where it is from `least` to `most`
+abbrev pub in_range : ℕ → ℕ → ℕ → Option ℕ
+in_range least most n = if nat_le least n && nat_le n most then Some n else None
+
+-- the number from `least` to `most` that the text spells
+unfoldable pub number_of : ℕ → ℕ → Text → Option ℕ
+number_of least most text = if is_number text then in_range least most (digits_value 10 text) else None
+
+-- the number of each text, where each spells one
+abbrev pub all_numbers : ℕ → ℕ → List Text → Option (List ℕ)
+all_numbers least most [] = Some []
+all_numbers least most (text ∷ texts) = option_and_then (λ n. option_map (λ ns. n ∷ ns) (all_numbers least most texts)) (number_of least most text)
+
+-- what stands between the commas of a text
+abbrev pub pieces_of : Text → List Text
+pieces_of text = slice_split (λ b. b == 44) text
+
+-- one number and more, joined by `,`, at most `count` of them and each from `least` to `most`
+unfoldable pub numbers_of : ℕ → ℕ → ℕ → Text → Option (List ℕ)
+numbers_of count least most text = if nat_le (length (pieces_of text)) count then all_numbers least most (pieces_of text) else None
+
+-- no number is below the one before it
+abbrev pub never_falls : List ℕ → Bool
+never_falls [] = true
+never_falls (x ∷ []) = true
+never_falls (x ∷ y ∷ ys) = nat_le x y && never_falls (y ∷ ys)
+
+-- the numbers, unless one is below the one before it
+abbrev pub unless_falling : List ℕ → Option (List ℕ)
+unless_falling ns = if never_falls ns then Some ns else None
+
+-- 1 to 16 utilities joined by `,`, non-decreasing, each from 0 to 1000000
+unfoldable pub utilities_of : Text → Option (List ℕ)
+utilities_of text = option_and_then unless_falling (numbers_of 16 0 1000000 text)

@@ -1,0 +1,145 @@
+//! The values of a command's options, by `clap`'s matches.
+
+ghost use Rattle.std.specs.Prelude.{◌≡◌, option_map, string_bytes};
+ghost use Rattle.clap.specs.Words.{first_of, found_of, rows_of};
+ghost use Rattle.lab_words.specs.Words.{Gives, is_given, is_stray, named, number_in, optional, required, rule_in, settings_view, settings_in, utilities_in};
+
+use crate::numbers::{number_of, utilities_of};
+use crate::rules::rule_of;
+use crate::{NamedRule, WordsErr};
+use clap::ArgMatches;
+use std::alloc::Global;
+
+/// The numbers that each command on a manifest has.
+#[derive(Drop)]
+pub(crate) struct Settings {
+    pub buffer_ms: u32,
+    pub utilities: Vec<u32>,
+    pub switch: u32,
+    pub stall: u32,
+    pub startup: u32,
+}
+
+/// Whether a value is empty or begins with `-`.
+fn is_stray(text: &str) -> bool
+    ensures { result ≡ is_stray text.now }
+{
+    match text.as_bytes().first() {
+        Some(byte) => *byte == b'-',
+        None => true,
+    }
+}
+
+fn text_of<'a>(matches: &ArgMatches<'a>, name: &str) -> Option<&'a str>
+    ensures { option_map (λ text. text.now) result ≡ first_of name.now (rows_of (found_of matches.now)) }
+{
+    matches.get_str(name)
+}
+
+/// The value of an option, if it is given.
+#[tactic(auto, unfolding(crate::specs::Words::optional))]
+pub(crate) fn optional<'a>(
+    matches: &ArgMatches<'a>,
+    name: &str,
+) -> Result<Option<&'a str>, WordsErr>
+    ensures { Gives (option_map (λ text. text.now)) result (optional name.now (rows_of (found_of matches.now))) }
+{
+    match text_of(matches, name) {
+        Some(text) if is_stray(text) => Err(WordsErr::Usage),
+        given => Ok(given),
+    }
+}
+
+/// The value of an option that has to be given.
+#[tactic(auto, unfolding(crate::specs::Words::required))]
+pub(crate) fn required<'a>(matches: &ArgMatches<'a>, name: &str) -> Result<&'a str, WordsErr>
+    ensures { Gives (λ text. text.now) result (required name.now (rows_of (found_of matches.now))) }
+{
+    optional(matches, name)?.ok_or(WordsErr::Usage)
+}
+
+/// A file name that has to be given.
+pub(crate) fn file_name(
+    alloc: Global,
+    matches: &ArgMatches<'_>,
+    name: &str,
+) -> Result<String, WordsErr>
+    ensures { Gives string_bytes result (required name.now (rows_of (found_of matches.now))) }
+{
+    Ok(required(matches, name)?.to_string(alloc)?)
+}
+
+/// A file name, if it is given.
+pub(crate) fn optional_file_name(
+    alloc: Global,
+    matches: &ArgMatches<'_>,
+    name: &str,
+) -> Result<Option<String>, WordsErr>
+    ensures { Gives (option_map string_bytes) result (optional name.now (rows_of (found_of matches.now))) }
+{
+    match optional(matches, name)? {
+        Some(text) => Ok(Some(text.to_string(alloc)?)),
+        None => Ok(None),
+    }
+}
+
+/// The number of an option from `least` to `most`, or its default where it isn't given.
+#[tactic(auto, unfolding(crate::specs::Words::number_in))]
+pub(crate) fn number_in(
+    matches: &ArgMatches<'_>,
+    name: &str,
+    default: u32,
+    least: u32,
+    most: u32,
+) -> Result<u32, WordsErr>
+    ensures { Gives (λ number. number) result (number_in default least most name.now (rows_of (found_of matches.now))) }
+{
+    match optional(matches, name)? {
+        Some(text) => number_of(text, least, most).ok_or(WordsErr::Usage),
+        None => Ok(default),
+    }
+}
+
+/// Whether a flag is given.
+pub(crate) fn is_given(matches: &ArgMatches<'_>, name: &str) -> bool
+    ensures { result ≡ is_given name.now (rows_of (found_of matches.now)) }
+{
+    match text_of(matches, name) {
+        Some(text) => text == "true",
+        None => false,
+    }
+}
+
+/// The rule and its word.
+#[tactic(auto, unfolding(crate::specs::Words::rule_in))]
+pub(crate) fn rule_in(alloc: Global, matches: &ArgMatches<'_>) -> Result<NamedRule, WordsErr>
+    ensures { Gives named result (rule_in (rows_of (found_of matches.now))) }
+{
+    let text = required(matches, "rule")?;
+    Ok(NamedRule {
+        name: text.to_string(alloc)?,
+        rule: rule_of(alloc, text)?,
+    })
+}
+
+/// The utilities that have to be given.
+#[tactic(auto, unfolding(crate::specs::Words::utilities_in))]
+fn utilities_in(alloc: Global, matches: &ArgMatches<'_>) -> Result<Vec<u32>, WordsErr>
+    ensures { Gives (λ utilities. utilities.items) result (utilities_in (rows_of (found_of matches.now))) }
+{
+    utilities_of(alloc, required(matches, "utilities")?)
+}
+
+/// The numbers of a command on a manifest.
+#[tactic(auto, unfolding(crate::specs::Words::settings_in))]
+pub(crate) fn settings_in(alloc: Global, matches: &ArgMatches<'_>) -> Result<Settings, WordsErr>
+    ensures { Gives settings_view result (settings_in (rows_of (found_of matches.now))) }
+{
+    Ok(Settings {
+        buffer_ms: number_in(matches, "buffer", 25_000, 1, 10_000_000)?,
+        utilities: utilities_in(alloc, matches)?,
+        switch: number_in(matches, "switch", 0, 0, 1_000_000)?,
+        stall: number_in(matches, "stall", 100, 0, 1_000_000)?,
+        startup: number_in(matches, "startup", 1, 0, 1_000_000)?,
+    })
+}
