@@ -61,6 +61,12 @@ number_at key least most d = do
   v ← member_of key d
   number_of least most v
 
+-- the list under a key of an object
+abbrev pub list_at : List ℕ → Data → Result Items Fault
+list_at key d = do
+  v ← member_of key d
+  list_of v
+
 -- a call answered the value, as `seen` sees it, or the fault
 abbrev pub Answers : {X Y E : Type 0} → (X → Y) → Result X E → Result Y E → Type 0
 Answers seen (Ok x) r = r ≡ Ok (seen x)

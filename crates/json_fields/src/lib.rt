@@ -8,7 +8,7 @@
 
 ghost use Rattle.std.specs.Prelude.{◌≡◌, ◌≤◌, IfOk};
 ghost use Rattle.serde_json.specs.View.{view, items_view};
-ghost use Rattle.json_fields.specs.Fields.{list_of, member_of, number_at, number_of, object_of, value_of, Answers, Reads};
+ghost use Rattle.json_fields.specs.Fields.{list_at, list_of, member_of, number_at, number_of, object_of, value_of, Answers, Reads};
 
 use serde_json::{Category, Value};
 use std::alloc::Global;
@@ -110,4 +110,11 @@ pub fn number_under(object: &Value, key: &str, least: u32, most: u32) -> Result<
     ensures { Answers (λ n. n) result (number_at key.now least most (view object.now)) }
 {
     number_from(member_from(object, key)?, least, most)
+}
+
+/// The members of the list under a key of an object; else `MissingKey` or `WrongKind`.
+pub fn list_under<'a>(object: &'a Value, key: &str) -> Result<&'a [Value], Fault>
+    ensures { Answers (λ v. items_view v.now) result (list_at key.now (view object.now)) }
+{
+    list_from(member_from(object, key)?)
 }
