@@ -20,6 +20,11 @@ abbrev pub or_fault : {A E : Type 0} → E → Option A → Result A E
 or_fault e (Some x) = Ok x
 or_fault e None = Err e
 
+-- what `f` makes of a good answer's value
+abbrev pub map_ok : {A B E : Type 0} → (A → B) → Result A E → Result B E
+map_ok f (Ok x) = Ok (f x)
+map_ok f (Err e) = Err e
+
 -- the value that serde_json makes of the bytes; none where it refuses them
 abbrev pub json_of : List ℕ → Option Data
 json_of bytes = if is_utf8 bytes then read bytes else None
