@@ -1,0 +1,88 @@
+-- What the bytes of a manifest stand for: the film, or the first test that fails.
+use Rattle.std.specs.Prelude.{ℕ, ◌==◌, List, length, Option, Some, None, Result, Ok, Err, codes, if◌then◌else◌, nat_lt}
+use Rattle.std.specs.List.{concat}
+use Rattle.serde_json.specs.Data.{Data, Items}
+use Rattle.serde_json.specs.Events.{items_len}
+use Rattle.json_fields.specs.Fields.{◌>>=◌, list_at, list_of, map_ok, number_at, number_of, object_of, value_of}
+use Rattle.json_fields.specs.Each.{each_after, each_of}
+use Rattle.lab_model.specs.Film.{Film, film}
+use Rattle.lab_model.specs.declared.fault.Refusal.{Refusal}
+use Rattle.lab_model.specs.declared.fault.Kind.TheVariants as kind
+use Rattle.lab_model.specs.declared.fault.Key.{Key}
+use Rattle.lab_model.specs.declared.fault.Key.TheVariants as key
+use Rattle.manifest_reader.specs.Faults.{placed, refusal}
+
+-- a list of one member to the most
+abbrev pub counted : Key → ℕ → Items → Result Items Refusal
+counted k most ds =
+    if items_len ds == 0 then Err (refusal kind.Empty k 0 0)
+    else (if nat_lt most (items_len ds) then Err (refusal kind.OutOfRange k 0 0) else Ok ds)
+
+-- the list of one member to the most under a key
+abbrev pub counted_list : Key → List ℕ → ℕ → Data → Result Items Refusal
+counted_list k name most d = do
+  ds ← placed k 0 0 (list_at name d)
+  counted k most ds
+
+-- a bitrate is greater than the one before
+abbrev pub above : Option ℕ → ℕ → ℕ → Result ℕ Refusal
+above None column n = Ok n
+above (Some before) column n = if nat_lt before n then Ok n else Err (refusal kind.Order key.Bitrates 0 column)
+
+-- the bitrate in a column, behind the one before
+abbrev pub bitrate_in : Option ℕ → ℕ → Data → Result ℕ Refusal
+bitrate_in before column d = do
+  n ← placed key.Bitrates 0 column (number_of 1 10000000 d)
+  above before column n
+
+-- the ladder of bitrates
+abbrev pub bitrates_of : Data → Result (List ℕ) Refusal
+bitrates_of d = do
+  ds ← counted_list key.Bitrates (codes "bitrates_kbps") 16 d
+  each_after bitrate_in None 1 ds
+
+-- the size in a row and column
+abbrev pub size_in : ℕ → ℕ → Data → Result ℕ Refusal
+size_in row column d = placed key.SegmentSizes row column (number_of 1 200000000 d)
+
+-- a row has a size for each rung
+abbrev pub shaped : ℕ → ℕ → Items → Result Items Refusal
+shaped rungs row ds = if items_len ds == rungs then Ok ds else Err (refusal kind.Shape key.SegmentSizes row 0)
+
+-- the members of a row
+abbrev pub row_members : ℕ → ℕ → Data → Result Items Refusal
+row_members rungs row d = do
+  ds ← placed key.SegmentSizes row 0 (list_of d)
+  shaped rungs row ds
+
+-- the sizes of a segment, rung by rung
+abbrev pub row_in : ℕ → ℕ → Data → Result (List ℕ) Refusal
+row_in rungs row d = do
+  ds ← row_members rungs row d
+  each_of (size_in row) ds
+
+-- the sizes, segment by segment
+abbrev pub sizes_of : ℕ → Data → Result (List ℕ) Refusal
+sizes_of rungs d = do
+  ds ← counted_list key.SegmentSizes (codes "segment_sizes_bits") 2000 d
+  map_ok concat (each_of (row_in rungs) ds)
+
+-- the manifest that an object is
+abbrev pub film_of : Data → Result Film Refusal
+film_of d = do
+  seg_ms ← placed key.SegmentDuration 0 0 (number_at (codes "segment_duration_ms") 1 60000 d)
+  bitrates ← bitrates_of d
+  sizes ← sizes_of (length bitrates) d
+  Ok (film seg_ms bitrates sizes)
+
+-- the object that the bytes are
+abbrev pub whole_of : List ℕ → Result Data Refusal
+whole_of bytes = do
+  d ← placed key.Whole 0 0 (value_of bytes)
+  placed key.Whole 0 0 (object_of d)
+
+-- the manifest that the bytes are
+unfoldable pub manifest_of : List ℕ → Result Film Refusal
+manifest_of bytes = do
+  d ← whole_of bytes
+  film_of d
