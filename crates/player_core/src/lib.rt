@@ -1,0 +1,10 @@
+//! The player: a session of a film over a recorded network, millisecond by millisecond.
+#![tactic(auto)]
+
+mod player;
+mod rules;
+mod session;
+
+pub use player::{available, play, play_from, seeks_fit};
+pub use rules::{Fixed, Listed};
+pub use session::{Event, Session};

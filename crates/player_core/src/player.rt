@@ -1,0 +1,99 @@
+//! The player.
+
+ghost use Rattle.std.specs.Prelude.{◌≡◌, ℕ, ◌+◌, ◌*◌, ◌<◌, ◌≤◌, ◌↔◌, [], length, IfOk, IsTrue};
+ghost use Rattle.std.specs.List.{All};
+ghost use Rattle.lab_model.specs.Film.{rungs_of, segments_of};
+ghost use Rattle.lab_model.specs.Fit.{SetupFits};
+ghost use Rattle.lab_model.specs.Rules.{KindFits};
+ghost use Rattle.player_core.specs.Available.{all_ahead, available_at};
+ghost use Rattle.player_core.specs.State.{Case};
+ghost use Rattle.player_core.specs.Session.{session_of, shown};
+ghost use Rattle.player_core.specs.Seeks.{AreRising, SeeksFit};
+
+use crate::session::Session;
+use lab_model::{Manifest, NoMemory, Rule, Seek, Setup};
+use network_clock::Clock;
+use std::alloc::Global;
+
+/// The instant in milliseconds from which a segment may be asked for, where `ahead` milliseconds of media, at most 120000000, are there at instant 0.
+pub fn available(m: &Manifest, ahead: u32, seg: u16) -> u64
+    requires { seg < segments_of m.now }
+    ensures { result ≡ available_at m.now ahead seg }
+{
+    ((seg as u64 + 1) * m.seg_ms() as u64).saturating_sub(ahead as u64)
+}
+
+fn rises(seeks: &[Seek]) -> bool
+    ensures { IsTrue result ↔ AreRising seeks.now }
+{
+    for i in 1..seeks.len() {
+        if seeks[i].at_ms <= seeks[i - 1].at_ms {
+            return false;
+        }
+    }
+    true
+}
+
+/// Whether a seek script fits a film: at most 16 seeks, at strictly rising instants up to 1000000000 ms, each to a segment of the film.
+pub fn seeks_fit(seeks: &[Seek], m: &Manifest) -> bool
+    ensures { IsTrue result ↔ SeeksFit seeks.now m.now }
+{
+    let segments = m.segments();
+    seeks.len() <= 16
+        && seeks.iter().all(|s| s.at_ms <= 1_000_000_000)
+        && rises(seeks)
+        && seeks.iter().all(|s| s.to < segments)
+}
+
+/// The session of a film of which `ahead` milliseconds of media are there at instant 0.
+pub fn play_from<T: Rule + Drop>(
+    alloc: Global,
+    m: &Manifest,
+    clock: &Clock,
+    set: &Setup,
+    seeks: &[Seek],
+    ahead: u32,
+    rule: T,
+) -> Result<Session, NoMemory>
+    requires setup { SetupFits set.now m.now }
+    requires rule { KindFits (T.kind rule) m.now }
+    requires seeks { SeeksFit seeks.now m.now }
+    requires ahead { ahead ≤ 120000000 }
+    requires told { T.stands_for rule [] }
+    ensures session { IfOk result (λ s. shown s ≡ session_of (record { film = m.now; periods = clock.now; setup = set.now; seeks = seeks.now; ahead = ahead; rule = T.kind rule })) }
+    ensures rungs { IfOk result (λ s. All (λ p. (p.rung < rungs_of m.now) × (p.segment < segments_of m.now)) s.played.items) }
+    ensures count { IfOk result (λ s. length s.played.items ≤ 34000) }
+    ensures ends { IfOk result (λ s. s.end < 1000000000000000) }
+    ensures times { IfOk result (λ s. s.startup_ms + s.stall_ms + s.seek_ms ≤ s.end) }
+{
+    let _ = alloc;
+    let _ = m;
+    let _ = clock;
+    let _ = set;
+    let _ = seeks;
+    let _ = ahead;
+    let _ = rule;
+    Err(NoMemory)
+}
+
+/// The session of a film on demand.
+pub fn play<T: Rule + Drop>(
+    alloc: Global,
+    m: &Manifest,
+    clock: &Clock,
+    set: &Setup,
+    seeks: &[Seek],
+    rule: T,
+) -> Result<Session, NoMemory>
+    requires setup { SetupFits set.now m.now }
+    requires rule { KindFits (T.kind rule) m.now }
+    requires seeks { SeeksFit seeks.now m.now }
+    requires told { T.stands_for rule [] }
+    ensures session { IfOk result (λ s. shown s ≡ session_of (record { film = m.now; periods = clock.now; setup = set.now; seeks = seeks.now; ahead = all_ahead; rule = T.kind rule })) }
+    ensures rungs { IfOk result (λ s. All (λ p. (p.rung < rungs_of m.now) × (p.segment < segments_of m.now)) s.played.items) }
+    ensures count { IfOk result (λ s. length s.played.items ≤ 34000) }
+    ensures ends { IfOk result (λ s. s.end < 1000000000000000) }
+    ensures times { IfOk result (λ s. s.startup_ms + s.stall_ms + s.seek_ms ≤ s.end) }
+{
+    play_from(alloc, m, clock, set, seeks, 120_000_000, rule)
+}
