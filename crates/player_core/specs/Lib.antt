@@ -4,3 +4,4 @@ pub mod Parts
 pub mod Session
 pub mod Seeks
 pub mod Value
+pub mod Sound
