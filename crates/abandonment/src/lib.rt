@@ -47,6 +47,7 @@ pub fn abandon_to(m: &Manifest, seg: u16, rung: u8, now: &Progress) -> Option<u8
     requires pace { now.now.got ≤ 10000000 * now.now.bit_ms }
     ensures test { result ≡ abandonment m.now seg rung now.now }
     ensures rung { IfSome result (λ q. q < rung) }
+    ensures waited { IfSome result (λ _. 1 ≤ now.now.bit_ms) }
 {
     if !is_due(now) {
         return None;

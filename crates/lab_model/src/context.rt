@@ -1,8 +1,22 @@
 //! Small values that several crates pass on.
 
+use std::alloc::{AllocError, AllocFailed};
+
 /// Want of memory: the one word for it.
 #[derive(Clone, Copy, PartialEq, Eq, Debug)]
 pub struct NoMemory;
+
+impl From<AllocError> for NoMemory {
+    fn from(_refused: AllocError) -> NoMemory {
+        NoMemory
+    }
+}
+
+impl<T: Drop> From<AllocFailed<T>> for NoMemory {
+    fn from(_refused: AllocFailed<T>) -> NoMemory {
+        NoMemory
+    }
+}
 
 /// A seek: at an instant, to a segment.
 #[derive(Clone, Copy, PartialEq, Eq, Debug)]

@@ -5,3 +5,5 @@ pub mod Session
 pub mod Seeks
 pub mod Value
 pub mod Sound
+pub mod Seen
+pub mod Ready

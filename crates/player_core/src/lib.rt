@@ -1,6 +1,7 @@
 //! The player: a session of a film over a recorded network, millisecond by millisecond.
 #![tactic(auto)]
 
+mod body;
 mod player;
 mod rules;
 mod session;
