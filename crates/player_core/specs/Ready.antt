@@ -1,5 +1,5 @@
 -- What the parts of a player millisecond need of the player.
-use Rattle.std.specs.Prelude.{ℕ, ◌-◌, ◌*◌, ◌≤◌, ◌<◌, IfSome}
+use Rattle.std.specs.Prelude.{ℕ, ◌+◌, ◌-◌, ◌*◌, ◌≤◌, ◌<◌, IfSome}
 use Rattle.lab_model.specs.Film.{Film, rungs_of, segments_of}
 use Rattle.lab_model.specs.declared.setup.Setup.{Setup}
 use Rattle.lab_model.specs.Fit.{SetupFits}
@@ -34,3 +34,21 @@ pub record CanChoose (f : Film) (set : Setup) (kind : RuleKind) (p : Player) : T
   pub level : p.y - p.x ≤ set.buffer_ms - f.seg_ms
   pub last : IfSome p.last (λ q. q < rungs_of f)
   pub forced : IfSome p.forced (λ q. q < rungs_of f)
+
+-- a request can be made, where there is cause for one
+pub record CanRequest (f : Film) (set : Setup) (kind : RuleKind) (p : Player) : Type 0 where
+  pub setup_fits : SetupFits set f
+  pub kind_fits : KindFits kind f
+  pub position : p.x ≤ p.y
+  pub end : p.y ≤ 120000000
+  pub instant : p.t ≤ 1000000000000000
+  pub last : IfSome p.last (λ q. q < rungs_of f)
+  pub forced : IfSome p.forced (λ q. q < rungs_of f)
+
+-- a millisecond can pass
+pub record CanPass (p : Player) : Type 0 where
+  pub position : p.x ≤ p.y
+  pub end : p.y ≤ 120000000
+  pub instant : p.t < 1000000000000000
+  pub times : p.startup_ms + p.stall_ms + p.seek_ms ≤ p.t
+  pub stalls : p.stalls ≤ 2000000

@@ -1,8 +1,8 @@
 -- What the values of the player's code stand for.
-use Rattle.std.specs.Prelude.{◌≡◌, ℕ, List, [], Option, IfSome, option_map}
+use Rattle.std.specs.Prelude.{◌≡◌, ℕ, List, [], ◌≤◌, ◌==◌, Option, None, IfSome, option_map}
 use Rattle.lab_model.specs.declared.trace.Period.{Period}
 use Rattle.lab_model.specs.Film.{Film, size_of}
-use Rattle.network_clock.specs.Network.{first_at}
+use Rattle.network_clock.specs.Network.{first_at, is_spent}
 use Rattle.player_core.specs.declared.body.Running.{Running}
 use Rattle.player_core.specs.declared.body.Body.{Body}
 use Rattle.player_core.specs.declared.body.Phase.{Phase}
@@ -40,3 +40,9 @@ IsSound c from b = Sound c from (seen b [])
 -- a running download of some film and network knows when its bits begin
 abbrev pub IsTimed : Film → List Period → Option Running → Type 0
 IsTimed f periods download = IfSome download (λ r. r.begins ≡ first_at periods r.asked (size_of f r.segment r.rung))
+
+-- a running download can take its network millisecond
+pub record CanTake (periods : List Period) (t : ℕ) (r : Running) : Type 0 where
+  pub credit : r.job.credit ≤ 100000000
+  pub left : r.job.left ≤ 200000000000
+  pub begins : r.first ≡ None → is_spent periods t r.job ≡ (t == r.begins)

@@ -1,7 +1,7 @@
 //! The player's state, and what each part of a millisecond does to it.
 
 ghost use Rattle.std.specs.Prelude.{◌≡◌, ℕ, ◌+◌, ◌*◌, ◌<◌, ◌≤◌, List, [], IfOk, Option, option_map};
-ghost use Rattle.lab_model.specs.Film.{rungs_of, segments_of, size_of};
+ghost use Rattle.lab_model.specs.Film.{Film, rungs_of, segments_of, size_of};
 ghost use Rattle.player_core.specs.State.{Case};
 ghost use Rattle.player_core.specs.Parts.{arrival, finish, got_of, sample_of, wasted_by};
 ghost use Rattle.player_core.specs.Sound.{IsCase, Runs};
@@ -306,7 +306,9 @@ impl Body {
     fn can_ask(&self, m: &Manifest, set: &Setup, ahead: u32) -> bool
         requires position { self.now.x ≤ self.now.y }
         requires end { self.now.y ≤ 120000000 }
-        ensures { (c : Case) → c.film ≡ m.now → c.setup ≡ set.now → c.ahead ≡ ahead → result ≡ can_ask c (seen self.now []) }
+        ensures asks { (c : Case) → c.film ≡ m.now → c.setup ≡ set.now → c.ahead ≡ ahead → result ≡ can_ask c (seen self.now []) }
+        ensures next { result ≡ true → self.now.k < segments_of m.now }
+        ensures room { result ≡ true → self.now.y - self.now.x ≤ set.now.buffer_ms - m.now.seg_ms }
     {
         self.download.is_none()
             && self.k < m.segments()
@@ -369,7 +371,10 @@ impl Body {
 
     /// The segment at whose beginning the position stands begins to play.
     fn begin(&mut self) -> Result<(), NoMemory>
-        ensures { IfOk result (λ _. Follows (λ p. begins p p.loaded) self.old self.new) }
+        ensures begins { IfOk result (λ _. Follows (λ p. begins p p.loaded) self.old self.new) }
+        ensures position { IfOk result (λ _. self.new.x ≡ self.old.x) }
+        ensures instant { IfOk result (λ _. self.new.t ≡ self.old.t) }
+        ensures download { IfOk result (λ _. self.new.download ≡ self.old.download) }
     {
         let Some(q) = self.loaded.pop_front() else {
             return Ok(());
@@ -382,7 +387,140 @@ impl Body {
         self.played.push(q)?;
         Ok(())
     }
+
+    /// 5. Request.
+    fn request<T: Rule>(&mut self, m: &Manifest, clock: &Clock, set: &Setup, ahead: u32, rule: &T) -> Result<(), NoMemory>
+        requires ready { CanRequest m.now set.now (T.kind rule.now) (seen self.old []) }
+        ensures requests { IfOk result (λ _. (c : Case) (history : List ℕ) → c.film ≡ m.now → c.setup ≡ set.now → c.ahead ≡ ahead → c.rule ≡ T.kind rule.now → T.stands_for rule.now history → seen self.new history ≡ request c (seen self.old history)) }
+        ensures timed { IfOk result (λ _. IsTimed m.now clock.now self.old.download → IsTimed m.now clock.now self.new.download) }
+    {
+        if !self.can_ask(m, set, ahead) {
+            return Ok(());
+        }
+        let rung = self.rung_for(m, set, rule);
+        self.ask(m, clock, rung)?;
+        Ok(())
+    }
+
+    /// A millisecond of play.
+    fn play(&mut self, m: &Manifest) -> Result<(), NoMemory>
+        requires { self.old.x < 120000000 }
+        ensures plays { IfOk result (λ _. (c : Case) → c.film ≡ m.now → Follows (plays c) self.old self.new) }
+        ensures instant { IfOk result (λ _. self.new.t ≡ self.old.t) }
+        ensures download { IfOk result (λ _. self.new.download ≡ self.old.download) }
+    {
+        if self.x % m.seg_ms() == 0 {
+            self.begin()?;
+        }
+        self.x += 1;
+        self.stalling = false;
+        Ok(())
+    }
+
+    /// A millisecond of stall.
+    fn stall(&mut self) -> Result<(), NoMemory>
+        requires time { self.old.stall_ms ≤ 1000000000000000 }
+        requires stalls { self.old.stalls ≤ 2000000 }
+        ensures stalls { IfOk result (λ _. Follows stalls_on self.old self.new) }
+        ensures instant { IfOk result (λ _. self.new.t ≡ self.old.t) }
+        ensures download { IfOk result (λ _. self.new.download ≡ self.old.download) }
+    {
+        self.stall_ms += 1;
+        if self.stalling {
+            return Ok(());
+        }
+        self.events.push(Event::Stall { at: self.t })?;
+        self.stalls += 1;
+        self.stalling = true;
+        Ok(())
+    }
+
+    /// A millisecond of the phase.
+    fn pass_in_phase(&mut self, m: &Manifest) -> Result<(), NoMemory>
+        requires ready { CanPass (seen self.old []) }
+        ensures passes { IfOk result (λ _. (c : Case) → c.film ≡ m.now → Follows (λ p. passes_in c p p.mode) self.old self.new) }
+        ensures instant { IfOk result (λ _. self.new.t ≡ self.old.t) }
+        ensures download { IfOk result (λ _. self.new.download ≡ self.old.download) }
+    {
+        match self.phase {
+            Phase::Starting => {
+                self.startup_ms += 1;
+                self.stalling = false;
+                Ok(())
+            }
+            Phase::Seeking => {
+                self.seek_ms += 1;
+                self.stalling = false;
+                Ok(())
+            }
+            Phase::Playing if self.x < self.y => self.play(m),
+            Phase::Playing => self.stall(),
+            Phase::Ended => Ok(()),
+        }
+    }
+
+    /// A download, if there is one, takes its network millisecond.
+    fn take(&mut self, clock: &Clock)
+        requires instant { self.old.t ≤ 1000000000000000 }
+        requires takes { IfSome self.old.download (CanTake clock.now self.old.t) }
+        ensures takes { (c : Case) → c.periods ≡ clock.now → Follows (λ p. record p { download = option_map (takes c p.t) p.download }) self.old self.new }
+        ensures ready { CanPass (seen self.old []) → CanPass (seen self.new []) }
+        ensures timed { (f : Film) → IsTimed f clock.now self.old.download → IsTimed f clock.now self.new.download }
+    {
+        if let Some(d) = self.download {
+            self.download = Some(take_ms(clock, self.t, &d));
+        }
+    }
+
+    /// The millisecond passes.
+    pub fn pass(&mut self, m: &Manifest, clock: &Clock) -> Result<(), NoMemory>
+        requires ready { CanPass (seen self.old []) }
+        requires takes { IfSome self.old.download (CanTake clock.now self.old.t) }
+        ensures passes { IfOk result (λ _. (c : Case) → c.film ≡ m.now → c.periods ≡ clock.now → Follows (pass_ms c) self.old self.new) }
+        ensures timed { IfOk result (λ _. IsTimed m.now clock.now self.old.download → IsTimed m.now clock.now self.new.download) }
+    {
+        self.take(clock);
+        self.pass_in_phase(m)?;
+        self.t += 1;
+        Ok(())
+    }
 }
+
+/// The first instant spent on bits, once a millisecond has passed.
+fn first_after(t: u64, d: &Running) -> Option<u64>
+    ensures { result ≡ (if is_some d.now.first then d.now.first else (if t == d.now.begins then Some t else None)) }
+{
+    match d.first {
+        Some(first) => Some(first),
+        None if t == d.begins => Some(t),
+        None => None,
+    }
+}
+
+/// A download takes its network millisecond.
+fn take_ms(clock: &Clock, t: u64, d: &Running) -> Running
+    requires instant { t ≤ 1000000000000000 }
+    requires credit { d.now.job.credit ≤ 100000000 }
+    requires left { d.now.job.left ≤ 200000000000 }
+    requires begins { d.now.first ≡ None → is_spent clock.now t d.now.job ≡ (t == d.now.begins) }
+    ensures takes { (c : Case) → c.periods ≡ clock.now → download_of result ≡ takes c t (download_of d.now) }
+    ensures same { (result.begins ≡ d.now.begins) × (result.asked ≡ d.now.asked) × (result.segment ≡ d.now.segment) × (result.rung ≡ d.now.rung) }
+{
+    Running {
+        job: clock.advance(d.job, t, t + 1),
+        first: first_after(t, d),
+        segment: d.segment,
+        rung: d.rung,
+        asked: d.asked,
+        begins: d.begins,
+    }
+}
+
+ghost use Rattle.std.specs.Prelude.{◌==◌, ◌-◌, None, true, is_some, if◌then◌else◌};
+ghost use Rattle.network_clock.specs.Network.{is_spent};
+ghost use Rattle.player_core.specs.Parts.{pass_ms, passes_in, plays, request, stalls_on, takes};
+ghost use Rattle.player_core.specs.Ready.{CanPass, CanRequest};
+ghost use Rattle.player_core.specs.Seen.{CanTake};
 
 /// The sizes of loaded segments, summed.
 fn sizes_of(m: &Manifest, loaded: &[Played]) -> u64
