@@ -4,3 +4,4 @@ pub mod Periods
 pub mod Turns
 pub mod Laws
 pub mod Downloads
+pub mod Pace

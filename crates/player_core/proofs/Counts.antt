@@ -1,0 +1,107 @@
+-- The counts by which a session is bounded: segments begun, seeks to come, turns to come, stalls to spare.
+use Rattle.std.proofs.Common.{◌≡◌, ℕ, zero, suc, ◌+◌, ◌-◌, ◌*◌, ◌/◌, ◌%◌, ◌<◌, ◌≤◌, Bool, true, false, not, ◌&&◌, cond, eqb, ltb, leb, List, [], ◌∷◌, length, Option, Some, None, IfSome, find, is_some, refl, sym, ◌∙◌, ap, subst, ⊎_elim, lt-ltb, le-ltb, arith}
+use Rattle.std.specs.List.{All, sum_by, count_by}
+use Rattle.std.proofs.lemmas.Bool.{cases_Bool, cases_lt, cond-true, cond-false, cond_both, false≢true, ltb-true, ltb-false, leb-true, le-leb, eqb-true}
+use Rattle.std.proofs.lemmas.Bool.Decides.{nat_tests}
+use Rattle.std.proofs.lemmas.Option.{IfSome_then}
+use Rattle.std.proofs.lemmas.List.Elements.{All-head, All-tail}
+use Rattle.std.proofs.lemmas.List.Sums.{sum_by-cons, count_by-le-length}
+use Rattle.std.proofs.lemmas.Nat.{div_below, le-div, div-add-mod', row_fits}
+use Rattle.lab_model.specs.declared.context.Seek.{Seek}
+use Rattle.lab_model.specs.Film.{Film, segments_of}
+use Rattle.player_core.specs.State.{Mode, Player, starting, playing, seeking, ended}
+use Rattle.player_core.specs.Parts.{begun, is_playing, is_ended, seek_at}
+use Rattle.player_core.specs.Sound.{begun_before, is_waiting, seeks_left, spare_stall, turns_to_end}
+
+-- ---- segments that begin before a position
+
+module _ (x s : ℕ) (some : 1 ≤ s) where
+  begun_most_at : (n : ℕ) → x ≤ n * s → (x + s - 1) / s ≤ n
+  begun_most_at n h = let low = div_below (x + s - 1) s (n + 1) (omega (arith, some)) (omega (arith, h, some)) in omega (arith, low)
+
+  begun_grows_at : (x + s - 1) / s ≤ (x + 1 + s - 1) / s
+  begun_grows_at =
+      let whole = div-add-mod' (x + s - 1) s in
+      le-div ((x + s - 1) / s) (x + 1 + s - 1) s (omega (arith, some)) (omega (arith, whole))
+
+  begun_one_at : x % s ≡ 0 → (x + s - 1) / s + 1 ≤ (x + 1 + s - 1) / s
+  begun_one_at none =
+      let whole = div-add-mod' x s in
+      let most = begun_most_at (x / s) (omega (arith, whole, none)) in
+      let least = le-div (x / s + 1) (x + 1 + s - 1) s (omega (arith, some)) (omega (arith, whole, none)) in
+      omega (arith, most, least)
+
+pub begun_most : (f : Film) (x n : ℕ) → 1 ≤ f.seg_ms → x ≤ n * f.seg_ms → begun_before f x ≤ n
+begun_most f x n some h = begun_most_at x f.seg_ms some n h
+
+pub begun_grows : (f : Film) (x : ℕ) → 1 ≤ f.seg_ms → begun_before f x ≤ begun_before f (x + 1)
+begun_grows f x some = begun_grows_at x f.seg_ms some
+
+pub begun_one : (f : Film) (x : ℕ) → 1 ≤ f.seg_ms → x % f.seg_ms ≡ 0 → begun_before f x + 1 ≤ begun_before f (x + 1)
+begun_one f x some none = begun_one_at x f.seg_ms some none
+
+-- ---- seeks to come
+
+counts_fewer : (t a : ℕ) → cond (leb (t + 1) a) 1 0 ≤ cond (leb t a) 1 0
+counts_fewer t a = grind (arith, nat_tests)
+
+counts_one : (t a : ℕ) → a ≡ t → cond (leb (t + 1) a) 1 0 + 1 ≤ cond (leb t a) 1 0
+counts_one t a e = grind (arith, nat_tests)
+
+seeks_more : (s : Seek) (ss : List Seek) (t : ℕ) → seeks_left (s ∷ ss) t ≡ cond (leb t s.at_ms) 1 0 + seeks_left ss t
+seeks_more s ss t = sum_by-cons (λ (q : Seek). cond (leb t q.at_ms) 1 0) s ss
+
+pub seeks_fewer : (seeks : List Seek) (t : ℕ) → seeks_left seeks (t + 1) ≤ seeks_left seeks t
+seeks_fewer [] t = omega arith
+seeks_fewer (s ∷ ss) t =
+    let before = seeks_more s ss t in
+    let after = seeks_more s ss (t + 1) in
+    let rest = seeks_fewer ss t in
+    let first = counts_fewer t s.at_ms in
+    omega (arith, before, after, rest, first)
+
+pub seeks_one : (seeks : List Seek) (t : ℕ) → IfSome (seek_at seeks t) (λ s. seeks_left seeks (t + 1) + 1 ≤ seeks_left seeks t)
+seeks_one [] t = tt
+seeks_one (s ∷ ss) t =
+    let before = seeks_more s ss t in
+    let after = seeks_more s ss (t + 1) in
+    let first = counts_fewer t s.at_ms in
+    let rest = seeks_fewer ss t in
+    cond_both (eqb s.at_ms t) (Some s) (seek_at ss t) (λ o. IfSome o (λ q. seeks_left (s ∷ ss) (t + 1) + 1 ≤ seeks_left (s ∷ ss) t))
+    (λ e. let one = counts_one t s.at_ms (eqb-true s.at_ms t e) in omega (arith, before, after, rest, one))
+    (λ e. IfSome_then (seek_at ss t) (seeks_one ss t) (λ q less. omega (arith, before, after, first, less)))
+
+pub seek_fits : (P : Seek → Type 0) (seeks : List Seek) (t : ℕ) → All P seeks → IfSome (seek_at seeks t) P
+seek_fits P [] t all = tt
+seek_fits P (s ∷ ss) t all =
+    cond_both (eqb s.at_ms t) (Some s) (seek_at ss t) (λ o. IfSome o P) (λ e. All-head P s ss all) (λ e. seek_fits P ss t (All-tail P s ss all))
+
+-- ---- turns to come
+
+pub turns_now : (n k h : ℕ) → k < n → cond (ltb k n) (32 * (n - k - 1) + h) 0 ≡ 32 * (n - k - 1) + h
+turns_now n k h low = cond-true (ltb k n) (32 * (n - k - 1) + h) 0 (lt-ltb k n low)
+
+pub turns_next : (n k h : ℕ) → h ≤ 32 → cond (ltb (k + 1) n) (32 * (n - (k + 1) - 1) + h) 0 ≤ 32 * (n - k - 1)
+turns_next n k h few =
+    cond_both (ltb (k + 1) n) (32 * (n - (k + 1) - 1) + h) 0 (λ x. x ≤ 32 * (n - k - 1))
+    (λ e. let low = ltb-true (k + 1) n e in omega (arith, low, few)) (λ e. omega arith)
+
+-- ---- modes and stalls
+
+pub begun_waits : (m : Mode) → is_waiting (begun m) ≡ true → ⊥
+begun_waits starting e = false≢true e
+begun_waits playing e = false≢true e
+begun_waits seeking e = false≢true e
+begun_waits ended e = false≢true e
+
+pub playing_waits : (m : Mode) → is_playing m ≡ true → is_waiting m ≡ false
+playing_waits starting e = absurd (false≢true e)
+playing_waits playing e = refl
+playing_waits seeking e = absurd (false≢true e)
+playing_waits ended e = absurd (false≢true e)
+
+pub spare_most : (p : Player) → spare_stall p ≤ 1
+spare_most p = cond_both (p.stalling && eqb p.x p.y && not (is_waiting p.mode)) 0 1 (λ n. n ≤ 1) (λ e. omega arith) (λ e. omega arith)
+
+pub seeks_most : (seeks : List Seek) (t : ℕ) → seeks_left seeks t ≤ length seeks
+seeks_most seeks t = count_by-le-length (λ (s : Seek). leb t s.at_ms) seeks
