@@ -138,7 +138,7 @@ fn bitrate_in(value: &Value, before: Option<u32>, column: u32) -> Result<u32, In
         column,
     )?;
     match before {
-        Some(before) if bitrate <= before => { Err(refused(Kind::Order, Key::Bitrates, 0, column)) }
+        Some(before) if bitrate <= before => Err(refused(Kind::Order, Key::Bitrates, 0, column)),
         _ => Ok(bitrate),
     }
 }
@@ -270,3 +270,6 @@ pub fn read_manifest(alloc: Global, bytes: &[u8]) -> Result<Manifest, InputFault
     let object = whole_object(alloc, bytes)?;
     manifest_from(alloc, &object)
 }
+
+#[cfg(test)]
+mod tests;

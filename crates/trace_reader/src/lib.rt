@@ -4,5 +4,7 @@
 mod cycle;
 mod fault;
 mod json;
+#[cfg(test)]
+mod tests;
 
 pub use json::read_trace_json;
