@@ -118,3 +118,6 @@ pub fn list_under<'a>(object: &'a Value, key: &str) -> Result<&'a [Value], Fault
 {
     list_from(member_from(object, key)?)
 }
+
+#[cfg(test)]
+mod tests;

@@ -1,1 +1,4 @@
 pub mod Refusals
+pub mod Rising
+pub mod Sizes
+pub mod Limits

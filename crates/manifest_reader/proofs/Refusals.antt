@@ -1,5 +1,5 @@
 -- A refusal that is handed on.
-use Rattle.std.proofs.Common.{◌≡◌, Result, Ok, Err, refl, sym}
+use Rattle.std.proofs.Common.{◌≡◌, Result, Ok, Err}
 use Rattle.std.specs.Result.{IsErrAnd}
 use Rattle.lab_model.specs.declared.fault.Refusal.{Refusal}
 use Rattle.lab_model.specs.declared.fault.InputFault.{InputFault}

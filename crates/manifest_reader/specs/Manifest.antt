@@ -12,6 +12,10 @@ use Rattle.lab_model.specs.declared.fault.Key.{Key}
 use Rattle.lab_model.specs.declared.fault.Key.TheVariants as key
 use Rattle.manifest_reader.specs.Faults.{placed, refusal}
 
+-- the duration of a segment
+abbrev pub seg_ms_of : Data → Result ℕ Refusal
+seg_ms_of d = placed key.SegmentDuration 0 0 (number_at (codes "segment_duration_ms") 1 60000 d)
+
 -- a list of one member to the most
 abbrev pub counted : Key → ℕ → Items → Result Items Refusal
 counted k most ds =
@@ -70,7 +74,7 @@ sizes_of rungs d = do
 -- the manifest that an object is
 abbrev pub film_of : Data → Result Film Refusal
 film_of d = do
-  seg_ms ← placed key.SegmentDuration 0 0 (number_at (codes "segment_duration_ms") 1 60000 d)
+  seg_ms ← seg_ms_of d
   bitrates ← bitrates_of d
   sizes ← sizes_of (length bitrates) d
   Ok (film seg_ms bitrates sizes)

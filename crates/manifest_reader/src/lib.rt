@@ -12,10 +12,10 @@ ghost use Rattle.std.specs.List.{concat};
 ghost use Rattle.json_fields.specs.Fields.{map_ok};
 ghost use Rattle.json_fields.specs.Each.{each_after, each_of};
 ghost use Rattle.manifest_reader.specs.Faults.{kind_of, placed, Gives};
-ghost use Rattle.manifest_reader.specs.Manifest.{bitrate_in, bitrates_of, counted, counted_list, row_in, row_members, shaped, size_in, sizes_of, whole_of};
+ghost use Rattle.manifest_reader.specs.Manifest.{bitrate_in, bitrates_of, counted, counted_list, film_of, manifest_of, row_in, row_members, seg_ms_of, shaped, size_in, sizes_of, whole_of};
 
 use json_fields::{Fault, ReadErr};
-use lab_model::{InputFault, Key, Kind, Refusal};
+use lab_model::{InputFault, Key, Kind, Manifest, Refusal};
 use serde_json::Value;
 use std::alloc::Global;
 
@@ -87,6 +87,18 @@ fn whole_object(alloc: Global, bytes: &[u8]) -> Result<Value, InputFault>
     Ok(value)
 }
 
+/// The duration of a segment.
+fn seg_ms_of(object: &Value) -> Result<u32, InputFault>
+    ensures { Gives (λ n. n) result (seg_ms_of (view object.now)) }
+{
+    placed(
+        json_fields::number_under(object, "segment_duration_ms", 1, 60_000),
+        Key::SegmentDuration,
+        0,
+        0,
+    )
+}
+
 /// A list, if it has 1 to `most` members.
 fn counted(values: &[Value], key: Key, most: usize) -> Result<&[Value], InputFault>
     ensures list { Gives (λ v. items_view v.now) result (counted key most (items_view values.now)) }
@@ -126,9 +138,7 @@ fn bitrate_in(value: &Value, before: Option<u32>, column: u32) -> Result<u32, In
         column,
     )?;
     match before {
-        Some(before) if bitrate <= before => {
-            Err(refused(Kind::Order, Key::Bitrates, 0, column))
-        }
+        Some(before) if bitrate <= before => Err(refused(Kind::Order, Key::Bitrates, 0, column)),
         _ => Ok(bitrate),
     }
 }
@@ -203,12 +213,7 @@ fn row_members(value: &Value, rungs: usize, row: u32) -> Result<&[Value], InputF
 }
 
 /// Appends a row, which is a list of a size for each rung.
-fn push_row(
-    sizes: &mut Vec<u32>,
-    value: &Value,
-    rungs: usize,
-    row: u32,
-) -> Result<(), InputFault>
+fn push_row(sizes: &mut Vec<u32>, value: &Value, rungs: usize, row: u32) -> Result<(), InputFault>
     requires { rungs ≤ 16 }
     ensures { Gives (λ _. sizes.new.items) result
         (map_ok (λ xs. sizes.old.items ++ xs) (row_in rungs row (view value.now))) }
@@ -235,6 +240,36 @@ fn sizes_of(alloc: Global, object: &Value, rungs: usize) -> Result<Vec<u32>, Inp
     requires { rungs ≤ 16 }
     ensures { Gives (λ v. v.items) result (sizes_of rungs (view object.now)) }
 {
-    let values = counted_list(object, "segment_sizes_bits", Key::SegmentSizes, MOST_SEGMENTS)?;
+    let values = counted_list(
+        object,
+        "segment_sizes_bits",
+        Key::SegmentSizes,
+        MOST_SEGMENTS,
+    )?;
     all_sizes(alloc, values, rungs)
 }
+
+/// The manifest that an object is.
+fn manifest_from(alloc: Global, object: &Value) -> Result<Manifest, InputFault>
+    ensures { Gives (λ m. m) result (film_of (view object.now)) }
+{
+    let seg_ms = seg_ms_of(object)?;
+    let bitrates = bitrates_of(alloc, object)?;
+    let sizes = sizes_of(alloc, object, bitrates.len())?;
+    match Manifest::from_parts(seg_ms, bitrates, sizes) {
+        Some(manifest) => Ok(manifest),
+        None => unreachable!(),
+    }
+}
+
+/// Reads a JSON manifest. The answer is `Refused` exactly where the bytes are no manifest, with the
+/// first test that they fail: rows count the segments and columns the rungs, both from 1.
+pub fn read_manifest(alloc: Global, bytes: &[u8]) -> Result<Manifest, InputFault>
+    ensures { Gives (λ m. m) result (manifest_of bytes.now) }
+{
+    let object = whole_object(alloc, bytes)?;
+    manifest_from(alloc, &object)
+}
+
+#[cfg(test)]
+mod tests;

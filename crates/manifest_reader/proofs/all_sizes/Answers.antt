@@ -1,6 +1,7 @@
-use Rattle.std.proofs.Common.{◌∙◌, ◌+◌, ◌∷◌, ◌++◌, [], Option, Ok, List, ℕ, ap, sym, append_assoc, append-nil}
+use Rattle.std.proofs.Common.{◌∙◌, ◌+◌, ◌++◌, Option, Ok, List, ℕ, ap, sym, append_assoc, append-nil}
 use Rattle.std.specs.List.{concat}
-use Rattle.json_fields.proofs.Each.{each_ended, each_next, each_stopped, map_ok-err, map_ok-ok}
+use Rattle.json_fields.proofs.Each.{each_ended, each_next, each_stopped}
+use Rattle.json_fields.proofs.Answers.{map_ok-err, map_ok-ok}
 use Rattle.manifest_reader.specs.Manifest.{row_in}
 use Rattle.manifest_reader.proofs.Refusals.{fails_on, gives_error}
 use Rattle.manifest_reader.proofs.all_sizes.Goals as goal

@@ -1,5 +1,5 @@
 use Rattle.std.proofs.Common.{◌∙◌, ◌+◌, ◌∷◌, ◌++◌, [], Option, Ok, ℕ, ap, sym, append_assoc, append-nil}
-use Rattle.json_fields.proofs.Each.{each_ended, each_next, each_stopped, map_ok-err}
+use Rattle.json_fields.proofs.Each.{each_ended, each_next, each_stopped}
 use Rattle.manifest_reader.specs.Manifest.{size_in}
 use Rattle.manifest_reader.proofs.Refusals.{fails_on, gives_error}
 use Rattle.manifest_reader.proofs.push_sizes.Goals as goal

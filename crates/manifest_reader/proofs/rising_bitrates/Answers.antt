@@ -1,7 +1,5 @@
-use Rattle.std.proofs.Common.{◌≡◌, ◌∙◌, ◌+◌, ◌∷◌, ◌++◌, [], List, ℕ, Ok, ap, sym, append_assoc, append-nil}
-use Rattle.serde_json.specs.View.{view, items_view}
-use Rattle.json_fields.specs.Each.{each_after}
-use Rattle.json_fields.proofs.Each.{each_ended, each_start, each_stopped, each_went}
+use Rattle.std.proofs.Common.{◌∙◌, ◌+◌, ◌∷◌, ◌++◌, [], Ok, ap, sym, append_assoc, append-nil}
+use Rattle.json_fields.proofs.Each.{each_ended, each_stopped, each_went}
 use Rattle.manifest_reader.specs.Manifest.{bitrate_in}
 use Rattle.manifest_reader.proofs.Refusals.{fails_on, gives_error}
 use Rattle.manifest_reader.proofs.rising_bitrates.Goals as goal
