@@ -14,7 +14,7 @@ mod text;
 pub use edge::{FileShelf, StreamSink};
 pub use memory::{MemShelf, MemSink, SureSink};
 use std::alloc::Global;
-pub use text::{Piece, put_line, put_number, put_pieces, put_text};
+pub use text::{Piece, put_fields, put_line, put_number, put_pieces, put_text};
 
 /// Why a file was not fetched.
 #[derive(Clone, Copy, Debug, PartialEq, Eq)]

@@ -1,7 +1,7 @@
 // Each public call once, at numbers and failures taken from the rules by hand.
 use crate::{
-    FetchErr, MemShelf, MemSink, Piece, PutErr, Shelf, Sink, SureSink, put_line, put_number,
-    put_pieces, put_text,
+    FetchErr, MemShelf, MemSink, Piece, PutErr, Shelf, Sink, SureSink, put_fields, put_line,
+    put_number, put_pieces, put_text,
 };
 use std::test::Fail;
 
@@ -64,12 +64,13 @@ fn numbers_and_words(rt: HostRuntime) -> Result<(), Fail> {
         put_text(&mut out, ";")?;
     }
     put_line(&mut out, " end")?;
-    put_pieces(
+    put_pieces(&mut out, &[Piece::Word("V"), Piece::Number(4)])?;
+    put_fields(
         &mut out,
-        &[Piece::Word("stall "), Piece::Number(12), Piece::Word("\n")],
+        &[Piece::Word("stall"), Piece::Number(12), Piece::Word("ms")],
     )?;
     let text = "0;-1;18446744073709551615;-18446744073709551616;\
-        170141183460469231731687303715884105727;-170141183460469231731687303715884105728; end\nstall 12\n";
+        170141183460469231731687303715884105727;-170141183460469231731687303715884105728; end\nV4stall 12 ms\n";
     assert_eq!(rt; out.written(), text.as_bytes());
     Ok(())
 }

@@ -1,13 +1,13 @@
 //! Words, numbers and lines that go out through a sink.
-ghost use Rattle.std.specs.Prelude.{◌≡◌};
+ghost use Rattle.std.specs.Prelude.{map};
 ghost use Rattle.std.specs.Fmt.{signed_decimal};
-ghost use Rattle.lab_io.specs.Piece.{piece_text, pieces_text};
+ghost use Rattle.lab_io.specs.Piece.{fields_line, later_fields, piece_text, pieces_text};
 ghost use Rattle.lab_io.specs.Sink.{Puts, line};
 
 use crate::{PutErr, Sink};
 use itoa::Buffer;
 
-/// A piece of a line.
+/// A piece of a line, or one of its fields.
 #[derive(Clone, Copy)]
 pub enum Piece<'a> {
     /// The text as it is.
@@ -60,4 +60,28 @@ pub fn put_pieces<O: Sink>(out: &mut O, pieces: &[Piece<'_>]) -> Result<(), PutE
         put_piece(out, *piece)?;
     }
     Ok(())
+}
+
+// The fields that follow the first, each behind one space, and the newline.
+fn put_later_fields<O: Sink>(out: &mut O, fields: &[Piece<'_>]) -> Result<(), PutErr>
+    ensures { Puts (O.seen out.old) (later_fields (map piece_text fields.now)) (O.seen out.new) result }
+{
+    for field in fields {
+        put_text(out, " ")?;
+        put_piece(out, *field)?;
+    }
+    put_text(out, "\n")
+}
+
+/// Puts a line of fields, which are parted by one space. It takes no memory of its own.
+pub fn put_fields<O: Sink>(out: &mut O, fields: &[Piece<'_>]) -> Result<(), PutErr>
+    ensures { Puts (O.seen out.old) (fields_line (map piece_text fields.now)) (O.seen out.new) result }
+{
+    match fields {
+        [] => put_text(out, "\n"),
+        [first, later @ ..] => {
+            put_piece(out, *first)?;
+            put_later_fields(out, later)
+        }
+    }
 }
