@@ -1,5 +1,5 @@
 -- How a rule is spelled on the command line.
-use Rattle.std.specs.Prelude.{ℕ, ◌==◌, Bool, List, Option, None, codes, if◌then◌else◌, length, nat_lt, option_map}
+use Rattle.std.specs.Prelude.{◌==◌, Bool, Option, None, codes, if◌then◌else◌, length, nat_lt, option_map}
 use Rattle.std.specs.List.{before_first, after_first, position_or_len}
 use Rattle.std.specs.Str.{bytes_eq}
 use Rattle.lab_model.specs.Rules.{RuleKind, fixed, listed, throughput, bola, mpc}
