@@ -1,3 +1,4 @@
+pub mod LimitLemmas
 pub mod NumberLemmas
 pub mod Simple
 pub mod TableLemmas

@@ -1,24 +1,17 @@
 -- How a rule is spelled on the command line.
-use Rattle.std.specs.Prelude.{ℕ, ◌==◌, Bool, List, Option, None, codes, if◌then◌else◌, length, nat_lt, option_map}
+use Rattle.std.specs.Prelude.{◌==◌, Bool, Option, None, codes, if◌then◌else◌, length, nat_lt, option_map}
 use Rattle.std.specs.List.{before_first, after_first, position_or_len}
 use Rattle.std.specs.Str.{bytes_eq}
+use Rattle.lab_model.specs.Rules.{RuleKind, fixed, listed, throughput, bola, mpc}
 use Rattle.lab_words.specs.Spelling.{Text, number_of, numbers_of}
 use Rattle.lab_words.specs.declared.RuleWords.{RuleWords}
 use Rattle.lab_words.specs.declared.RuleWords.TheVariants as words
 
--- a rule by its numbers
-pub data RuleSpoken : Type 0 where
-  fixed : ℕ → RuleSpoken
-  list : List ℕ → RuleSpoken
-  throughput : List ℕ → RuleSpoken
-  bola : ℕ → RuleSpoken
-  mpc : ℕ → RuleSpoken
-
 -- the rule of this kind with these numbers
-abbrev pub rule_of_kind : Text → Text → Option RuleSpoken
+abbrev pub rule_of_kind : Text → Text → Option RuleKind
 rule_of_kind kind numbers =
     if bytes_eq kind (codes "fixed") then option_map fixed (number_of 0 15 numbers)
-    else if bytes_eq kind (codes "list") then option_map list (numbers_of 2000 0 15 numbers)
+    else if bytes_eq kind (codes "list") then option_map listed (numbers_of 2000 0 15 numbers)
     else if bytes_eq kind (codes "throughput") then option_map throughput (numbers_of 4 1 100 numbers)
     else if bytes_eq kind (codes "bola") then option_map bola (number_of 1 1000000 numbers)
     else if bytes_eq kind (codes "mpc") then option_map mpc (number_of 1 5 numbers)
@@ -29,13 +22,13 @@ abbrev pub has_colon : Text → Bool
 has_colon text = nat_lt (position_or_len (λ b. b == 58) text) (length text)
 
 -- the rule that the text spells: its kind, a `:` and its numbers
-unfoldable pub rule_of : Text → Option RuleSpoken
+unfoldable pub rule_of : Text → Option RuleKind
 rule_of text = if has_colon text then rule_of_kind (before_first (λ b. b == 58) text) (after_first (λ b. b == 58) text) else None
 
--- a rule, without where its numbers lie in memory
-abbrev pub spoken : RuleWords → RuleSpoken
+-- the kind of a rule, without where its numbers lie in memory
+abbrev pub spoken : RuleWords → RuleKind
 spoken (words.Fixed rung) = fixed rung
-spoken (words.List rungs) = list rungs.items
+spoken (words.List rungs) = listed rungs.items
 spoken (words.Throughput windows) = throughput windows.items
 spoken (words.Bola g) = bola g
 spoken (words.Mpc horizon) = mpc horizon

@@ -3,7 +3,8 @@ use Rattle.std.specs.Prelude.{◌≡◌, ℕ, ◌==◌, Bool, true, false, List,
 use Rattle.std.specs.List.{list_any}
 use Rattle.std.specs.Str.{bytes_eq}
 use Rattle.clap.specs.Walk.{Row, first_of}
-use Rattle.lab_words.specs.Rules.{RuleSpoken, rule_of, spoken}
+use Rattle.lab_model.specs.Rules.{RuleKind}
+use Rattle.lab_words.specs.Rules.{rule_of, spoken}
 use Rattle.lab_words.specs.Spelling.{Text, number_of, utilities_of}
 use Rattle.lab_words.specs.Table.{accepted, simulate_app}
 use Rattle.lab_words.specs.declared.Command.{Command}
@@ -19,7 +20,7 @@ pub record CommandWords : Type 0 where
   pub verb : Verb
   pub manifest : Text
   pub traces : List Text
-  pub rules : List (Text × RuleSpoken)
+  pub rules : List (Text × RuleKind)
   pub buffer_ms : ℕ
   pub utilities : List ℕ
   pub switch : ℕ
@@ -28,6 +29,7 @@ pub record CommandWords : Type 0 where
   pub abandon : Bool
   pub seeks : Option Text
 
+-- the first that is refused refuses the whole
 infixl 10 ◌>>=◌
 abbrev pub ◌>>=◌ : {A B : Type 0} → Option A → (A → Option B) → Option B
 (Some x) >>= f = f x
@@ -42,11 +44,12 @@ is_stray (c ∷ cs) = c == 45
 abbrev pub not_stray : Text → Option (Option Text)
 not_stray text = if is_stray text then None else Some (Some text)
 
--- the value of an option: none where it isn't given; a stray one is refused
+-- none where nothing is given; a stray value is refused
 abbrev pub checked : Option Text → Option (Option Text)
 checked None = Some None
 checked (Some text) = not_stray text
 
+-- the value of an option, or that none is given; refused where it is stray
 unfoldable pub optional : Text → List Row → Option (Option Text)
 optional name rows = checked (first_of name rows)
 
@@ -67,13 +70,14 @@ number_in default least most name rows = option_and_then (number_or default leas
 abbrev pub is_given : Text → List Row → Bool
 is_given name rows = bytes_eq (unwrap_or (first_of name rows) []) (codes "true")
 
--- the rule and its word
-unfoldable pub rule_in : List Row → Option (Text × RuleSpoken)
+-- the rule, which has to be given, behind its word
+unfoldable pub rule_in : List Row → Option (Text × RuleKind)
 rule_in rows = do
   text ← required (codes "rule") rows
   rule ← rule_of text
   Some (text, rule)
 
+-- the utilities, which have to be given
 unfoldable pub utilities_in : List Row → Option (List ℕ)
 utilities_in rows = do
   text ← required (codes "utilities") rows
@@ -87,6 +91,7 @@ pub record SettingsWords : Type 0 where
   pub stall : ℕ
   pub startup : ℕ
 
+-- the numbers of the options of a command on a manifest
 unfoldable pub settings_in : List Row → Option SettingsWords
 settings_in rows = do
   buffer_ms ← number_in 25000 1 10000000 (codes "buffer") rows
@@ -145,7 +150,7 @@ command_of [] = None
 command_of (word ∷ words) = if has_dashes words then None else option_and_then (λ verb. asked_of verb words) (verb_of word)
 
 -- a rule and its word, without where they lie in memory
-abbrev pub named : NamedRule → Text × RuleSpoken
+abbrev pub named : NamedRule → Text × RuleKind
 named r = (string_bytes r.name, spoken r.rule)
 
 -- a command, without where its texts lie in memory

@@ -7,9 +7,10 @@ mod simulate;
 mod table;
 mod values;
 
-ghost use Rattle.std.specs.Prelude.{◌≡◌, Err, codes, false, map, string_bytes};
+ghost use Rattle.std.specs.Prelude.{◌≡◌, Err, IfOk, codes, false, map, string_bytes};
 ghost use Rattle.std.specs.List.{list_any};
 ghost use Rattle.std.specs.Str.{bytes_eq};
+ghost use Rattle.lab_words.specs.Limits.{IsWithinLimits};
 ghost use Rattle.lab_words.specs.Words.{Gives, asked_of, begins_with_verb, command_of, has_dashes, verb_of, view};
 
 use crate::simulate::simulate_of;
@@ -148,6 +149,7 @@ fn asked_of(alloc: Global, verb: Verb, words: &[String]) -> Result<Command, Word
 #[tactic(auto, unfolding(crate::specs::Words::command_of))]
 pub fn read_words(alloc: Global, words: &[String]) -> Result<Command, WordsErr>
     ensures read { Gives view result (command_of (map string_bytes words.now)) }
+    ensures limits { IfOk result (λ command. IsWithinLimits (view command)) }
     ensures no_command { begins_with_verb (map string_bytes words.now) ≡ false → result ≡ Err WordsErr.Usage }
 {
     let Some((first, others)) = words.split_first() else {
