@@ -1,13 +1,14 @@
 //! The player's state, and what each part of a millisecond does to it.
 
 ghost use Rattle.std.specs.Prelude.{◌≡◌, ℕ, ◌+◌, ◌*◌, ◌<◌, ◌≤◌, List, [], IfOk, Option, option_map};
+ghost use Rattle.lab_model.specs.declared.trace.Period.{Period};
 ghost use Rattle.lab_model.specs.Film.{Film, rungs_of, segments_of, size_of};
 ghost use Rattle.player_core.specs.State.{Case};
 ghost use Rattle.player_core.specs.Parts.{arrival, finish, got_of, sample_of, wasted_by};
 ghost use Rattle.player_core.specs.Sound.{IsCase, Runs};
 ghost use Rattle.player_core.specs.Seen.{Follows, IsTimed, download_of, mode_of, seen};
 
-use crate::session::Event;
+use crate::session::{Event, Session};
 use abandonment::{Progress, abandon_to};
 use crate::player::available;
 use lab_model::{Context, Manifest, NoMemory, Played, Rule, Sample, Seek, Setup};
@@ -152,6 +153,7 @@ impl Body {
         ensures kind { T.kind rule.new ≡ T.kind rule.old }
         ensures loads { IfOk result (λ _. (c : Case) → c.film ≡ m.now → Follows (λ p. loads c p (download_of d.now)) self.old self.new) }
         ensures told { IfOk result (λ _. (history : List ℕ) → T.stands_for rule.old history → T.stands_for rule.new (history ++ sample_of m.now self.old.t (download_of d.now) ∷ [])) }
+        ensures timed { IfOk result (λ _. (f : Film) (ps : List Period) → IsTimed f ps self.old.download → IsTimed f ps self.new.download) }
     {
         let sample = sample_of(m, self.t, d);
         self.events.push(Event::Arrive {
@@ -180,6 +182,7 @@ impl Body {
         ensures kind { T.kind rule.new ≡ T.kind rule.old }
         ensures arrives { IfOk result (λ _. (c : Case) → c.film ≡ m.now → Follows (arrival c) self.old self.new) }
         ensures told { IfOk result (λ _. (c : Case) → c.film ≡ m.now → (history : List ℕ) → T.stands_for rule.old history → T.stands_for rule.new (arrival c (seen self.old history)).history) }
+        ensures timed { IfOk result (λ _. (f : Film) (ps : List Period) → IsTimed f ps self.old.download → IsTimed f ps self.new.download) }
     {
         match self.download {
             Some(d) if d.job.left == 0 => self.load(m, &d, rule),
@@ -189,7 +192,8 @@ impl Body {
 
     /// 2. End: all is played.
     fn finish(&mut self, m: &Manifest) -> Result<(), NoMemory>
-        ensures { IfOk result (λ _. (c : Case) → c.film ≡ m.now → Follows (finish c) self.old self.new) }
+        ensures follows { IfOk result (λ _. (c : Case) → c.film ≡ m.now → Follows (finish c) self.old self.new) }
+        ensures timed { IfOk result (λ _. (f : Film) (ps : List Period) → IsTimed f ps self.old.download → IsTimed f ps self.new.download) }
     {
         let all_ms = m.segments() as u32 * m.seg_ms();
         if self.phase.is_playing() && self.x == all_ms {
@@ -207,6 +211,7 @@ impl Body {
         ensures kind { T.kind rule.new ≡ T.kind rule.old }
         ensures gives_up { IfOk result (λ _. (c : Case) → c.film ≡ m.now → Follows (λ p. gives_up c p (download_of d.now) (Some to)) self.old self.new) }
         ensures told { IfOk result (λ _. (history : List ℕ) → T.stands_for rule.old history → T.stands_for rule.new (history ++ sample_of m.now self.old.t (download_of d.now) ∷ [])) }
+        ensures timed { IfOk result (λ _. (f : Film) (ps : List Period) → IsTimed f ps self.old.download → IsTimed f ps self.new.download) }
     {
         let got = got_of(m, d);
         self.events.push(Event::Abandon {
@@ -244,6 +249,7 @@ impl Body {
         ensures kind { T.kind rule.new ≡ T.kind rule.old }
         ensures abandons { IfOk result (λ _. (c : Case) → c.film ≡ m.now → c.setup ≡ set.now → Follows (abandon c) self.old self.new) }
         ensures told { IfOk result (λ _. (c : Case) → c.film ≡ m.now → c.setup ≡ set.now → (history : List ℕ) → T.stands_for rule.old history → T.stands_for rule.new (abandon c (seen self.old history)).history) }
+        ensures timed { IfOk result (λ _. (f : Film) (ps : List Period) → IsTimed f ps self.old.download → IsTimed f ps self.new.download) }
     {
         if !set.abandon {
             return Ok(());
@@ -279,7 +285,8 @@ impl Body {
         requires room { length self.old.loaded.items ≤ 2000 }
         requires wasted { self.old.wasted ≤ 1000000000000000 }
         requires targets { All (λ s. s.to < segments_of m.now) seeks.now }
-        ensures { IfOk result (λ _. (c : Case) → c.film ≡ m.now → c.seeks ≡ seeks.now → Follows (seek c) self.old self.new) }
+        ensures follows { IfOk result (λ _. (c : Case) → c.film ≡ m.now → c.seeks ≡ seeks.now → Follows (seek c) self.old self.new) }
+        ensures timed { IfOk result (λ _. (f : Film) (ps : List Period) → IsTimed f ps self.old.download → IsTimed f ps self.new.download) }
     {
         let Some(s) = seek_at(seeks, self.t) else {
             return Ok(());
@@ -472,6 +479,22 @@ impl Body {
         }
     }
 
+    /// What the player shows at its end.
+    pub fn into_session(self) -> Session
+        ensures { (history : List ℕ) → shown result ≡ shown_by (seen self history) }
+    {
+        Session {
+            events: self.events,
+            played: self.played,
+            startup_ms: self.startup_ms,
+            stall_ms: self.stall_ms,
+            seek_ms: self.seek_ms,
+            stalls: self.stalls,
+            wasted_bits: self.wasted,
+            end: self.t,
+        }
+    }
+
     /// The millisecond passes.
     pub fn pass(&mut self, m: &Manifest, clock: &Clock) -> Result<(), NoMemory>
         requires ready { CanPass (seen self.old []) }
@@ -520,6 +543,7 @@ ghost use Rattle.std.specs.Prelude.{◌==◌, ◌-◌, None, true, is_some, if�
 ghost use Rattle.network_clock.specs.Network.{is_spent};
 ghost use Rattle.player_core.specs.Parts.{pass_ms, passes_in, plays, request, stalls_on, takes};
 ghost use Rattle.player_core.specs.Ready.{CanPass, CanRequest};
+ghost use Rattle.player_core.specs.Session.{shown, shown_by};
 ghost use Rattle.player_core.specs.Seen.{CanTake};
 
 /// The sizes of loaded segments, summed.
