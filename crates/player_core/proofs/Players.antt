@@ -64,7 +64,7 @@ module _ (c : Case) where
   gives_any_t p None = refl
   gives_any_t p (Some d) = gives_t p d (abandonment c.film d.segment d.rung (progress_of c.film p.t d))
 
-  abandon_t : (p : Player) → (abandon c p).t ≡ p.t
+  pub abandon_t : (p : Player) → (abandon c p).t ≡ p.t
   abandon_t p = cond_both c.setup.abandon (gives_up_any c p p.download) p (λ q. q.t ≡ p.t) (λ e. gives_any_t p p.download) (λ e. refl)
 
   seeks_t : (p : Player) (o : Option Seek) → (seeks_to c p o).t ≡ p.t
@@ -87,7 +87,7 @@ module _ (c : Case) where
       (λ e. cond_both (eqb (p.x % c.film.seg_ms) 0) (begins p p.loaded) p (λ q. q.t ≡ p.t) (λ z. begins_t p p.loaded) (λ z. refl))
       (λ e. cond_both p.stalling (record p { stall_ms = p.stall_ms + 1 }) (record p { stall_ms = p.stall_ms + 1; stalls = p.stalls + 1; stalling = true; events = p.events ++ event.Stall p.t ∷ [] }) (λ q. q.t ≡ p.t) (λ z. refl) (λ z. refl))
 
-  pass_t : (p : Player) → (pass_ms c p).t ≡ p.t + 1
+  pub pass_t : (p : Player) → (pass_ms c p).t ≡ p.t + 1
   pass_t p = ap (λ n. n + 1) (passes_t (record p { download = option_map (takes c p.t) p.download }) p.mode)
 
 -- ---- the parts of an instant, one after the other
@@ -112,7 +112,7 @@ stopped_open c p = finish_open c (arrival c p) (arrival_open c p)
 pub gone_on_t : (c : Case) (r : Player) → (gone_on c r).t ≡ r.t
 gone_on_t c r = request_t c (seek c (abandon c r)) ∙ seeks_t c (abandon c r) (seek_at c.seeks (abandon c r).t) ∙ abandon_t c r
 
-sought_sound : (c : Case) → IsCase c → (t : ℕ) (a : Player) → a.t ≡ t → Sound c t a → Sound c (t + 1) (seek c a)
+pub sought_sound : (c : Case) → IsCase c → (t : ℕ) (a : Player) → a.t ≡ t → Sound c t a → Sound c (t + 1) (seek c a)
 sought_sound c is t a e h = subst (λ k. Sound c (k + 1) (seek c a)) e (seek_sound c is a (subst (λ k. Sound c k a) (sym e) h))
 
 pub gone_on_sound : (c : Case) → IsCase c → (t : ℕ) (r : Player) → r.t ≡ t → Sound c t r → Sound c (t + 1) (gone_on c r)

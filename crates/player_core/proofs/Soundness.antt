@@ -27,7 +27,7 @@ use Rattle.player_core.proofs.Runs.{runs_next, runs_pace, runs_start, asked_with
 -- ---- 1. Arrival
 
 module _ (c : Case) (from : ℕ) where
-  loads_turns : (p : Player) (d : Download) → p.k < segments_of c.film → p.download ≡ Some d → p.forced ≡ None → turns_left c from (loads c p d) + 2 * d.rung + 1 ≤ turns_left c from p
+  pub loads_turns : (p : Player) (d : Download) → p.k < segments_of c.film → p.download ≡ Some d → p.forced ≡ None → turns_left c from (loads c p d) + 2 * d.rung + 1 ≤ turns_left c from p
   loads_turns p d low some none =
       let n = segments_of c.film in
       let before = ap (λ o. cond (ltb p.k n) (32 * (n - p.k - 1) + turns_here o p.forced) 0) some ∙ turns_now n p.k (2 * d.rung + 1) low in
@@ -110,7 +110,7 @@ module _ (c : Case) (from : ℕ) where
 
   -- ---- 3. Abandonment
 
-  abandonment_lower : (f : Film) (segment rung : ℕ) (p : Progress) (q : ℕ) → abandonment f segment rung p ≡ Some q → q < rung
+  pub abandonment_lower : (f : Film) (segment rung : ℕ) (p : Progress) (q : ℕ) → abandonment f segment rung p ≡ Some q → q < rung
   abandonment_lower f segment rung p q e =
       let parts = cond_some ((is_due p && is_late f segment rung p) && is_better f segment rung p) (target_of f p) q e in
       let better = and_parts (is_due p && is_late f segment rung p) (is_better f segment rung p) parts.0 in
@@ -119,7 +119,7 @@ module _ (c : Case) (from : ℕ) where
       let same = parts.1 in
       omega (arith, low, same)
 
-  gives_turns : (p : Player) (d : Download) (q : ℕ) → p.k < segments_of c.film → p.download ≡ Some d → q < d.rung → turns_left c from (gives_up c p d (Some q)) + 1 ≤ turns_left c from p
+  pub gives_turns : (p : Player) (d : Download) (q : ℕ) → p.k < segments_of c.film → p.download ≡ Some d → q < d.rung → turns_left c from (gives_up c p d (Some q)) + 1 ≤ turns_left c from p
   gives_turns p d q low some lower =
       let n = segments_of c.film in
       let before = ap (λ o. cond (ltb p.k n) (32 * (n - p.k - 1) + turns_here o p.forced) 0) some ∙ turns_now n p.k (2 * d.rung + 1) low in
@@ -228,7 +228,7 @@ module _ (c : Case) (is : IsCase c) where
       }
 
   -- the turns that a seek takes off: its own, and so many as bound what it wastes
-  seeks_turns : (p : Player) (s : Seek) (t : ℕ) → s.to < segments_of c.film → seeks_left c.seeks (t + 1) + 1 ≤ seeks_left c.seeks t → turns_left c (t + 1) (seeks_to c p (Some s)) + 2 + segments_of c.film ≤ turns_left c t p
+  pub seeks_turns : (p : Player) (s : Seek) (t : ℕ) → s.to < segments_of c.film → seeks_left c.seeks (t + 1) + 1 ≤ seeks_left c.seeks t → turns_left c (t + 1) (seeks_to c p (Some s)) + 2 + segments_of c.film ≤ turns_left c t p
   seeks_turns p s t low less =
       let n = segments_of c.film in
       let after = turns_now n s.to 32 low in
@@ -278,7 +278,7 @@ module _ (c : Case) (is : IsCase c) where
 
 -- ---- 5. Request
 
-none_is : (o : Option Download) → is_some o ≡ false → o ≡ None
+pub none_is : (o : Option Download) → is_some o ≡ false → o ≡ None
 none_is None e = refl
 none_is (Some d) e = absurd (true≢false e)
 
@@ -315,7 +315,7 @@ module _ (c : Case) (is : IsCase c) (from : ℕ) where
   pub rung_fits : (p : Player) → Sound c from p → p.k < segments_of c.film → rung_for c p < rungs_of c.film
   rung_fits p h low = forced_fits p.forced (choice c.rule c.film c.setup (context_of p) p.history) (rungs_of c.film) h.forced (choice_fits c.rule c.film c.setup (context_of p) p.history is.film is.rule low)
 
-  asks_turns : (p : Player) → Sound c from p → Asks c p → turns_left c from (asks c p (rung_for c p)) + 1 ≤ turns_left c from p
+  pub asks_turns : (p : Player) → Sound c from p → Asks c p → turns_left c from (asks c p (rung_for c p)) + 1 ≤ turns_left c from p
   asks_turns p h can =
       let n = segments_of c.film in
       let chosen = choice c.rule c.film c.setup (context_of p) p.history in
@@ -405,7 +405,7 @@ abbrev later : Case → Player → ℕ → ℕ → ℕ → ℕ → ℕ → Bool 
 later c p x startup_ms stall_ms seek_ms stalls stalling loaded played events =
     record p { t = p.t + 1; x = x; download = option_map (takes c p.t) p.download; startup_ms = startup_ms; stall_ms = stall_ms; seek_ms = seek_ms; stalls = stalls; stalling = stalling; loaded = loaded; played = played; events = events }
 
-taken_turns : (c : Case) (t : ℕ) (o : Option Download) (forced : Option ℕ) → turns_here (option_map (takes c t) o) forced ≡ turns_here o forced
+pub taken_turns : (c : Case) (t : ℕ) (o : Option Download) (forced : Option ℕ) → turns_here (option_map (takes c t) o) forced ≡ turns_here o forced
 taken_turns c t None forced = refl
 taken_turns c t (Some d) forced = refl
 
