@@ -155,7 +155,7 @@ pub player_next : (c : Case) (n : ℕ) → ends_at c n ≡ false → player_afte
 unfolding player_after
 player_next c n e = cond-false (is_ended (instant c (player_after c n)).mode) (instant c (player_after c n)) (pass_ms c (instant c (player_after c n))) e
 
-passed_sound : (c : Case) → IsCase c → (n : ℕ) (p : Player) → p.t ≡ n → Sound c n p → is_ended (instant c p).mode ≡ false → Sound c (suc n) (pass_ms c (instant c p))
+pub passed_sound : (c : Case) → IsCase c → (n : ℕ) (p : Player) → p.t ≡ n → Sound c n p → is_ended (instant c p).mode ≡ false → Sound c (suc n) (pass_ms c (instant c p))
 passed_sound c is n p e h goes =
     let both = instant_sound c is n p e h goes in
     subst (λ k. Sound c k (pass_ms c (instant c p))) (add-one n) (pass_sound c is (n + 1) (instant c p) both.0 both.1 goes)
