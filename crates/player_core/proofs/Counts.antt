@@ -1,7 +1,7 @@
 -- The counts by which a session is bounded: segments begun, seeks to come, turns to come, stalls to spare.
 use Rattle.std.proofs.Common.{◌≡◌, ℕ, zero, suc, ◌+◌, ◌-◌, ◌*◌, ◌/◌, ◌%◌, ◌<◌, ◌≤◌, Bool, true, false, not, ◌&&◌, cond, eqb, ltb, leb, List, [], ◌∷◌, length, Option, Some, None, IfSome, find, is_some, refl, sym, ◌∙◌, ap, subst, ⊎_elim, lt-ltb, le-ltb, arith}
 use Rattle.std.specs.List.{All, sum_by, count_by}
-use Rattle.std.proofs.lemmas.Bool.{cases_Bool, cases_lt, cond-true, cond-false, cond_both, false≢true, ltb-true, ltb-false, leb-true, le-leb, eqb-true}
+use Rattle.std.proofs.lemmas.Bool.{cases_Bool, cases_lt, cond-true, cond-false, cond_both, false≢true, ltb-true, and_left, and_right, and_from, ne_eqb, eq-eqb, eqb-true}
 use Rattle.std.proofs.lemmas.Bool.Decides.{nat_tests}
 use Rattle.std.proofs.lemmas.Option.{IfSome_then}
 use Rattle.std.proofs.lemmas.List.Elements.{All-head, All-tail}
@@ -105,3 +105,18 @@ spare_most p = cond_both (p.stalling && eqb p.x p.y && not (is_waiting p.mode)) 
 
 pub seeks_most : (seeks : List Seek) (t : ℕ) → seeks_left seeks t ≤ length seeks
 seeks_most seeks t = count_by-le-length (λ (s : Seek). leb t s.at_ms) seeks
+
+pub playing_still : (m : Mode) → m ≡ playing → is_waiting m ≡ true → ⊥
+playing_still m e waits = false≢true (sym (ap is_waiting e) ∙ waits)
+
+pub spare_calm : (p : Player) → p.stalling ≡ false → spare_stall p ≡ 1
+spare_calm p e = cond-false ((p.stalling && eqb p.x p.y) && not (is_waiting p.mode)) 0 1 (and_left (p.stalling && eqb p.x p.y) (not (is_waiting p.mode)) (and_left p.stalling (eqb p.x p.y) e))
+
+pub spare_waiting : (p : Player) → is_waiting p.mode ≡ true → spare_stall p ≡ 1
+spare_waiting p e = cond-false ((p.stalling && eqb p.x p.y) && not (is_waiting p.mode)) 0 1 (and_right (p.stalling && eqb p.x p.y) (not (is_waiting p.mode)) (ap not e))
+
+pub spare_inside : (p : Player) → p.x < p.y → spare_stall p ≡ 1
+spare_inside p low = cond-false ((p.stalling && eqb p.x p.y) && not (is_waiting p.mode)) 0 1 (and_left (p.stalling && eqb p.x p.y) (not (is_waiting p.mode)) (and_right p.stalling (eqb p.x p.y) (ne_eqb p.x p.y (λ e. absurd (omega (arith, e, low))))))
+
+pub spare_at_end : (p : Player) → p.mode ≡ playing → p.x ≡ p.y → ◌≡◌ {A = ℕ} (cond {A = ℕ} ((true && eqb p.x p.y) && not (is_waiting p.mode)) 0 1) 0
+spare_at_end p on e = cond-true (eqb p.x p.y && not (is_waiting p.mode)) 0 1 (and_from (eqb p.x p.y) (not (is_waiting p.mode)) (eq-eqb p.x p.y e) (ap (λ m. not (is_waiting m)) on))

@@ -14,19 +14,20 @@ use Rattle.lab_model.specs.Choice.{choice}
 use Rattle.lab_model.proofs.Choices.{choice_fits}
 use Rattle.abandonment.specs.declared.Progress.{Progress}
 use Rattle.abandonment.specs.Test.{abandonment, is_better, is_due, is_late, target_of, left_of}
+use Rattle.player_core.specs.declared.session.Event.{Event}
 use Rattle.player_core.specs.declared.session.Event.TheVariants as event
 use Rattle.player_core.specs.Available.{available_at}
 use Rattle.player_core.specs.State.{Case, Download, Mode, Player, first_player, starting, playing, seeking, ended}
 
 use Rattle.player_core.specs.Parts.{abandon, arrival, arrives, asks, begins, begun, can_ask, context_of, finish, gives_up, gives_up_any, got_of, is_ended, is_playing, loads, pass_ms, passes_in, plays, progress_of, request, rung_for, seek, seek_at, seeks_to, stalls_on, takes, wasted_by}
 use Rattle.player_core.specs.Sound.{IsCase, IsOf, Runs, Sound, all_turns, asked_size, begun_before, is_waiting, seeks_left, spare_stall, turns_here, turns_left, turns_to_end}
-use Rattle.player_core.proofs.Counts.{begun_grows, begun_most, begun_one, begun_waits, playing_waits, seek_fits, seeks_fewer, seeks_most, seeks_one, spare_most, turns_next, turns_now}
-use Rattle.player_core.proofs.Runs.{runs_next, runs_pace, runs_start, asked_within, size_within}
+use Rattle.player_core.proofs.Counts.{begun_grows, begun_most, begun_one, begun_waits, playing_still, playing_waits, seek_fits, seeks_fewer, seeks_most, seeks_one, spare_at_end, spare_calm, spare_inside, spare_most, spare_waiting, turns_next, turns_now}
+use Rattle.player_core.proofs.Runs.{runs_next, runs_pace, runs_start, asked_within, size_within, starts_full}
 
 -- ---- 1. Arrival
 
 module _ (c : Case) (from : ℕ) where
-  loads_turns : (p : Player) (d : Download) → p.k < segments_of c.film → p.download ≡ Some d → p.forced ≡ None → turns_left c from (loads c p d) + 2 * d.rung + 1 ≤ turns_left c from p
+  pub loads_turns : (p : Player) (d : Download) → p.k < segments_of c.film → p.download ≡ Some d → p.forced ≡ None → turns_left c from (loads c p d) + 2 * d.rung + 1 ≤ turns_left c from p
   loads_turns p d low some none =
       let n = segments_of c.film in
       let before = ap (λ o. cond (ltb p.k n) (32 * (n - p.k - 1) + turns_here o p.forced) 0) some ∙ turns_now n p.k (2 * d.rung + 1) low in
@@ -109,7 +110,7 @@ module _ (c : Case) (from : ℕ) where
 
   -- ---- 3. Abandonment
 
-  abandonment_lower : (f : Film) (segment rung : ℕ) (p : Progress) (q : ℕ) → abandonment f segment rung p ≡ Some q → q < rung
+  pub abandonment_lower : (f : Film) (segment rung : ℕ) (p : Progress) (q : ℕ) → abandonment f segment rung p ≡ Some q → q < rung
   abandonment_lower f segment rung p q e =
       let parts = cond_some ((is_due p && is_late f segment rung p) && is_better f segment rung p) (target_of f p) q e in
       let better = and_parts (is_due p && is_late f segment rung p) (is_better f segment rung p) parts.0 in
@@ -118,7 +119,7 @@ module _ (c : Case) (from : ℕ) where
       let same = parts.1 in
       omega (arith, low, same)
 
-  gives_turns : (p : Player) (d : Download) (q : ℕ) → p.k < segments_of c.film → p.download ≡ Some d → q < d.rung → turns_left c from (gives_up c p d (Some q)) + 1 ≤ turns_left c from p
+  pub gives_turns : (p : Player) (d : Download) (q : ℕ) → p.k < segments_of c.film → p.download ≡ Some d → q < d.rung → turns_left c from (gives_up c p d (Some q)) + 1 ≤ turns_left c from p
   gives_turns p d q low some lower =
       let n = segments_of c.film in
       let before = ap (λ o. cond (ltb p.k n) (32 * (n - p.k - 1) + turns_here o p.forced) 0) some ∙ turns_now n p.k (2 * d.rung + 1) low in
@@ -227,7 +228,7 @@ module _ (c : Case) (is : IsCase c) where
       }
 
   -- the turns that a seek takes off: its own, and so many as bound what it wastes
-  seeks_turns : (p : Player) (s : Seek) (t : ℕ) → s.to < segments_of c.film → seeks_left c.seeks (t + 1) + 1 ≤ seeks_left c.seeks t → turns_left c (t + 1) (seeks_to c p (Some s)) + 2 + segments_of c.film ≤ turns_left c t p
+  pub seeks_turns : (p : Player) (s : Seek) (t : ℕ) → s.to < segments_of c.film → seeks_left c.seeks (t + 1) + 1 ≤ seeks_left c.seeks t → turns_left c (t + 1) (seeks_to c p (Some s)) + 2 + segments_of c.film ≤ turns_left c t p
   seeks_turns p s t low less =
       let n = segments_of c.film in
       let after = turns_now n s.to 32 low in
@@ -277,7 +278,7 @@ module _ (c : Case) (is : IsCase c) where
 
 -- ---- 5. Request
 
-none_is : (o : Option Download) → is_some o ≡ false → o ≡ None
+pub none_is : (o : Option Download) → is_some o ≡ false → o ≡ None
 none_is None e = refl
 none_is (Some d) e = absurd (true≢false e)
 
@@ -314,7 +315,7 @@ module _ (c : Case) (is : IsCase c) (from : ℕ) where
   pub rung_fits : (p : Player) → Sound c from p → p.k < segments_of c.film → rung_for c p < rungs_of c.film
   rung_fits p h low = forced_fits p.forced (choice c.rule c.film c.setup (context_of p) p.history) (rungs_of c.film) h.forced (choice_fits c.rule c.film c.setup (context_of p) p.history is.film is.rule low)
 
-  asks_turns : (p : Player) → Sound c from p → Asks c p → turns_left c from (asks c p (rung_for c p)) + 1 ≤ turns_left c from p
+  pub asks_turns : (p : Player) → Sound c from p → Asks c p → turns_left c from (asks c p (rung_for c p)) + 1 ≤ turns_left c from p
   asks_turns p h can =
       let n = segments_of c.film in
       let chosen = choice c.rule c.film c.setup (context_of p) p.history in
@@ -355,3 +356,205 @@ module _ (c : Case) (is : IsCase c) (from : ℕ) where
 
   pub request_sound : (p : Player) → Sound c from p → Sound c from (request c p)
   request_sound p h = cond_both (can_ask c p) (asks c p (rung_for c p)) p (Sound c from) (λ e. asks_sound p h (can_ask_true c p e)) (λ e. h)
+
+-- ---- after the arrival something is left of a running download
+
+-- something is left of the download, if one runs
+abbrev pub IsOpen : Player → Type 0
+IsOpen p = IfSome p.download (λ d. eqb d.job.left 0 ≡ false)
+
+module _ (c : Case) where
+  arrives_open : (p : Player) (o : Option Download) → p.download ≡ o → IsOpen (arrives c p o)
+  arrives_open p None e = subst (λ o. IfSome o (λ d. eqb d.job.left 0 ≡ false)) (sym e) tt
+  arrives_open p (Some d) e = cond_both (eqb d.job.left 0) (loads c p d) p IsOpen (λ z. tt) (λ z. subst (λ o. IfSome o (λ d. eqb d.job.left 0 ≡ false)) (sym e) z)
+
+  pub arrival_open : (p : Player) → IsOpen (arrival c p)
+  arrival_open p = arrives_open p p.download refl
+
+  pub finish_open : (p : Player) → IsOpen p → IsOpen (finish c p)
+  finish_open p h = cond_both (is_playing p.mode && eqb p.x (segments_of c.film * c.film.seg_ms)) (record p { mode = ended; events = p.events ++ event.End p.t ∷ [] }) p IsOpen (λ e. h) (λ e. h)
+
+  gives_open : (p : Player) (d : Download) (o : Option ℕ) → IsOpen p → IsOpen (gives_up c p d o)
+  gives_open p d None h = h
+  gives_open p d (Some q) h = tt
+
+  gives_any_open : (p : Player) (o : Option Download) → IsOpen p → IsOpen (gives_up_any c p o)
+  gives_any_open p None h = h
+  gives_any_open p (Some d) h = gives_open p d (abandonment c.film d.segment d.rung (progress_of c.film p.t d)) h
+
+  pub abandon_open : (p : Player) → IsOpen p → IsOpen (abandon c p)
+  abandon_open p h = cond_both c.setup.abandon (gives_up_any c p p.download) p IsOpen (λ e. gives_any_open p p.download h) (λ e. h)
+
+  seeks_open : (p : Player) (o : Option Seek) → IsOpen p → IsOpen (seeks_to c p o)
+  seeks_open p None h = h
+  seeks_open p (Some s) h = tt
+
+  pub seek_open : (p : Player) → IsOpen p → IsOpen (seek c p)
+  seek_open p h = seeks_open p (seek_at c.seeks p.t) h
+
+module _ (c : Case) (is : IsCase c) (from : ℕ) where
+  pub request_open : (p : Player) → Sound c from p → IsOpen p → IsOpen (request c p)
+  request_open p h some =
+      cond_both (can_ask c p) (asks c p (rung_for c p)) p IsOpen
+      (λ e. let can = can_ask_true c p e in starts_full c is p.k (rung_for c p) can.next (rung_fits c is from p h can.next)) (λ e. some)
+
+-- ---- the millisecond passes
+
+-- the player a millisecond later, with what the mode changes
+abbrev later : Case → Player → ℕ → ℕ → ℕ → ℕ → ℕ → Bool → List Played → List Played → List Event → Player
+later c p x startup_ms stall_ms seek_ms stalls stalling loaded played events =
+    record p { t = p.t + 1; x = x; download = option_map (takes c p.t) p.download; startup_ms = startup_ms; stall_ms = stall_ms; seek_ms = seek_ms; stalls = stalls; stalling = stalling; loaded = loaded; played = played; events = events }
+
+pub taken_turns : (c : Case) (t : ℕ) (o : Option Download) (forced : Option ℕ) → turns_here (option_map (takes c t) o) forced ≡ turns_here o forced
+taken_turns c t None forced = refl
+taken_turns c t (Some d) forced = refl
+
+taken_some : (c : Case) (t : ℕ) (o : Option Download) → is_some (option_map (takes c t) o) ≡ is_some o
+taken_some c t None = refl
+taken_some c t (Some d) = refl
+
+taken_of : (c : Case) (t k : ℕ) (o : Option Download) → IfSome o (λ d. d.segment ≡ k) → IfSome (option_map (takes c t) o) (λ d. d.segment ≡ k)
+taken_of c t k None h = tt
+taken_of c t k (Some d) h = h
+
+taken_runs : (c : Case) → IsCase c → (t : ℕ) (o : Option Download) → IfSome o (Runs c t) → IfSome o (λ d. eqb d.job.left 0 ≡ false) → IfSome (option_map (takes c t) o) (Runs c (t + 1))
+taken_runs c is t None h some = tt
+taken_runs c is t (Some d) h some = runs_next c is t d h some
+
+-- what a mode's millisecond must keep
+record Keeps (c : Case) (from : ℕ) (p q : Player) : Type 0 where
+  position : q.x ≤ p.y
+  idle : is_waiting p.mode ≡ true → q.x ≡ p.y
+  loaded : All (IsOf c.film) q.loaded
+  room : length q.loaded ≤ p.k
+  played : All (IsOf c.film) q.played
+  times : q.startup_ms + q.stall_ms + q.seek_ms ≤ p.t + 1
+  begun : length q.played + seeks_left c.seeks from * segments_of c.film ≤ 16 * segments_of c.film + begun_before c.film q.x
+  stalls : q.stalls + spare_stall q ≤ p.stalls + spare_stall p
+
+module _ (c : Case) (is : IsCase c) (from : ℕ) (p : Player) (h : Sound c from p) (some : IsOpen p) where
+  later_turns : (x startup_ms stall_ms seek_ms stalls : ℕ) (stalling : Bool) (loaded played : List Played) (events : List Event)
+      → turns_left c from (later c p x startup_ms stall_ms seek_ms stalls stalling loaded played events) ≡ turns_left c from p
+  later_turns x startup_ms stall_ms seek_ms stalls stalling loaded played events =
+      ap (λ t. seeks_left c.seeks from * (34 * segments_of c.film + 2) + cond (ltb p.k (segments_of c.film)) (32 * (segments_of c.film - p.k - 1) + t) 0) (taken_turns c p.t p.download p.forced)
+
+  later_keeps : (x startup_ms stall_ms seek_ms stalls : ℕ) (stalling : Bool) (loaded played : List Played) (events : List Event)
+      → Keeps c from p (later c p x startup_ms stall_ms seek_ms stalls stalling loaded played events)
+      → Sound c from (later c p x startup_ms stall_ms seek_ms stalls stalling loaded played events)
+  later_keeps x startup_ms stall_ms seek_ms stalls stalling loaded played events k =
+      let same = later_turns x startup_ms stall_ms seek_ms stalls stalling loaded played events in
+      let wasted = h.wasted in
+      let stalled = h.stalls in
+      let spare = k.stalls in
+      record {
+        position = k.position;
+        loaded_end = h.loaded_end;
+        next = h.next;
+        idle = k.idle;
+        more = h.more;
+        running = taken_runs c is p.t p.download h.running some;
+        of_next = taken_of c p.t p.k p.download h.of_next;
+        free = λ runs. h.free (sym (taken_some c p.t p.download) ∙ runs);
+        forced = h.forced;
+        last = h.last;
+        loaded = k.loaded;
+        room = k.room;
+        played = k.played;
+        times = k.times;
+        begun = k.begun;
+        wasted = omega (arith, wasted, same);
+        stalls = omega (arith, stalled, same, spare);
+      }
+
+  same_keeps : (startup_ms stall_ms seek_ms : ℕ) → is_waiting p.mode ≡ true → startup_ms + stall_ms + seek_ms ≤ p.t + 1
+      → Sound c from (later c p p.x startup_ms stall_ms seek_ms p.stalls false p.loaded p.played p.events)
+  same_keeps startup_ms stall_ms seek_ms waits times =
+      let spare = spare_waiting p waits in
+      later_keeps p.x startup_ms stall_ms seek_ms p.stalls false p.loaded p.played p.events
+      (record { position = h.position; idle = h.idle; loaded = h.loaded; room = h.room; played = h.played; times = times; begun = h.begun; stalls = omega (arith, spare) })
+
+  -- a millisecond of play, within a segment and at the beginning of one
+  within_keeps : p.mode ≡ playing → p.x < p.y → Sound c from (later c p (p.x + 1) p.startup_ms p.stall_ms p.seek_ms p.stalls false p.loaded p.played p.events)
+  within_keeps on low =
+      let spare = spare_inside p low in
+      let times = h.times in
+      let begun = h.begun in
+      let grows = begun_grows c.film p.x is.film.seg_ms.0 in
+      later_keeps (p.x + 1) p.startup_ms p.stall_ms p.seek_ms p.stalls false p.loaded p.played p.events
+      (record { position = omega (arith, low); idle = λ waits. absurd (playing_still p.mode on waits); loaded = h.loaded; room = h.room; played = h.played; times = omega (arith, times); begun = omega (arith, begun, grows); stalls = omega (arith, spare) })
+
+  first_keeps : (q : Played) (qs : List Played) → p.loaded ≡ q ∷ qs → p.mode ≡ playing → p.x < p.y → p.x % c.film.seg_ms ≡ 0
+      → Sound c from (later c p (p.x + 1) p.startup_ms p.stall_ms p.seek_ms p.stalls false qs (p.played ++ q ∷ []) (p.events ++ event.Play p.t q.segment q.rung ∷ []))
+  first_keeps q qs is_first on low start =
+      let spare = spare_inside p low in
+      let times = h.times in
+      let begun = h.begun in
+      let room = h.room in
+      let all = subst (All (IsOf c.film)) is_first h.loaded in
+      let size = ap length is_first in
+      let more = length-append p.played (q ∷ []) in
+      let grows = begun_one c.film p.x is.film.seg_ms.0 start in
+      later_keeps (p.x + 1) p.startup_ms p.stall_ms p.seek_ms p.stalls false qs (p.played ++ q ∷ []) (p.events ++ event.Play p.t q.segment q.rung ∷ [])
+      (record {
+        position = omega (arith, low);
+        idle = λ waits. absurd (playing_still p.mode on waits);
+        loaded = All-tail (IsOf c.film) q qs all;
+        room = omega (arith, room, size);
+        played = All-push (IsOf c.film) p.played q h.played (All-head (IsOf c.film) q qs all);
+        times = omega (arith, times);
+        begun = omega (arith, begun, grows, more);
+        stalls = omega (arith, spare);
+      })
+
+  -- a millisecond of stall, of one that goes on and of a new one
+  goes_keeps : p.stalling ≡ true → p.mode ≡ playing → Sound c from (later c p p.x p.startup_ms (p.stall_ms + 1) p.seek_ms p.stalls p.stalling p.loaded p.played p.events)
+  goes_keeps stalled on =
+      let times = h.times in
+      later_keeps p.x p.startup_ms (p.stall_ms + 1) p.seek_ms p.stalls p.stalling p.loaded p.played p.events
+      (record { position = h.position; idle = h.idle; loaded = h.loaded; room = h.room; played = h.played; times = omega (arith, times); begun = h.begun; stalls = omega arith })
+
+  new_keeps : p.stalling ≡ false → p.mode ≡ playing → p.y ≤ p.x
+      → Sound c from (later c p p.x p.startup_ms (p.stall_ms + 1) p.seek_ms (p.stalls + 1) true p.loaded p.played (p.events ++ event.Stall p.t ∷ []))
+  new_keeps calm on late =
+      let times = h.times in
+      let position = h.position in
+      let spare = spare_calm p calm in
+      let none = spare_at_end p on (omega (arith, late, position)) in
+      later_keeps p.x p.startup_ms (p.stall_ms + 1) p.seek_ms (p.stalls + 1) true p.loaded p.played (p.events ++ event.Stall p.t ∷ [])
+      (record { position = h.position; idle = h.idle; loaded = h.loaded; room = h.room; played = h.played; times = omega (arith, times); begun = h.begun; stalls = omega (arith, spare, none) })
+
+-- the player with its download a millisecond further, before the mode's part
+abbrev taken : Case → Player → Player
+taken c p = record p { download = option_map (takes c p.t) p.download }
+
+-- the instant that follows
+abbrev ticked : Player → Player
+ticked r = record r { t = r.t + 1 }
+
+module _ (c : Case) (is : IsCase c) (from : ℕ) (p : Player) (h : Sound c from p) (some : IsOpen p) where
+  begins_sound : (qs : List Played) → p.loaded ≡ qs → p.mode ≡ playing → p.x < p.y → p.x % c.film.seg_ms ≡ 0
+      → Sound c from (ticked (record (begins (taken c p) qs) { x = (begins (taken c p) qs).x + 1; stalling = false }))
+  begins_sound [] e on low start = within_keeps c is from p h some on low
+  begins_sound (q ∷ qs) e on low start = first_keeps c is from p h some q qs e on low start
+
+  plays_sound : p.mode ≡ playing → p.x < p.y → Sound c from (ticked (plays c (taken c p)))
+  plays_sound on low =
+      cond_both (eqb (p.x % c.film.seg_ms) 0) (begins (taken c p) p.loaded) (taken c p) (λ r. Sound c from (ticked (record r { x = r.x + 1; stalling = false })))
+      (λ e. begins_sound p.loaded refl on low (eqb-true (p.x % c.film.seg_ms) 0 e)) (λ e. within_keeps c is from p h some on low)
+
+  stalls_sound : p.mode ≡ playing → p.y ≤ p.x → Sound c from (ticked (stalls_on (taken c p)))
+  stalls_sound on late =
+      cond_both p.stalling (record (taken c p) { stall_ms = p.stall_ms + 1 })
+      (record (taken c p) { stall_ms = p.stall_ms + 1; stalls = p.stalls + 1; stalling = true; events = p.events ++ event.Stall p.t ∷ [] }) (λ r. Sound c from (ticked r))
+      (λ e. goes_keeps c is from p h some e on) (λ e. new_keeps c is from p h some e on late)
+
+  passes_sound : (m : Mode) → p.mode ≡ m → is_ended m ≡ false → Sound c from (ticked (passes_in c (taken c p) m))
+  passes_sound starting e go = let times = h.times in same_keeps c is from p h some (p.startup_ms + 1) p.stall_ms p.seek_ms (ap is_waiting e) (omega (arith, times))
+  passes_sound seeking e go = let times = h.times in same_keeps c is from p h some p.startup_ms p.stall_ms (p.seek_ms + 1) (ap is_waiting e) (omega (arith, times))
+  passes_sound ended e go = absurd (true≢false go)
+  passes_sound playing e go =
+      cond_both (ltb p.x p.y) (plays c (taken c p)) (stalls_on (taken c p)) (λ r. Sound c from (ticked r))
+      (λ low. plays_sound e (ltb-true p.x p.y low)) (λ late. stalls_sound e (ltb-false p.x p.y late))
+
+  pub pass_sound : is_ended p.mode ≡ false → Sound c from (pass_ms c p)
+  pass_sound go = passes_sound p.mode refl go
