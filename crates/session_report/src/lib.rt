@@ -3,5 +3,7 @@
 
 mod event;
 mod session;
+#[cfg(test)]
+mod tests;
 
 pub use session::{compare_row, write_session};
