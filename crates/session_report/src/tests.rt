@@ -2,7 +2,7 @@
 ghost use Rattle.std.specs.Prelude.{◌≡◌, ◌∷◌, [], IfOk};
 ghost use Rattle.lab_model.specs.Weighing.{weighing};
 
-use crate::{compare_row, write_session};
+use crate::{Total, compare_row, regret_row, total_row, write_session};
 use lab_io::SureSink;
 use lab_model::{Played, Weights};
 use player_core::{Event, Session};
@@ -117,5 +117,22 @@ fn the_other_events(rt: HostRuntime) -> Result<(), Fail> {
     let text = "500 abandon 0 1 to 0 got 100000\n6500 stall\n7000 seek 2 wasted 200000\n\
         startup 5500\nstall 9000\nstalls 2\nseeking 70\nwasted 300000\nend 17500\nscore -905500\n";
     assert_eq!(rt; out.written(), text.as_bytes());
+    Ok(())
+}
+
+#[test]
+fn a_regret_table(rt: HostRuntime) -> Result<(), Fail> {
+    let mut out = SureSink::new(rt.alloc());
+    let mut total = Total::start();
+    regret_row("fixed:0", -500, 29000, &mut out)?;
+    total.add(-500, 29000);
+    regret_row("fixed:0", -202000, -194000, &mut out)?;
+    total.add(-202000, -194000);
+    total_row("fixed:0", &total, &mut out)?;
+    let text = "rule fixed:0 score -500 best 29000 regret 29500\n\
+        rule fixed:0 score -202000 best -194000 regret 8000\n\
+        total fixed:0 score -202500 best -165000 regret 37500 worst 29500\n";
+    assert_eq!(rt; out.written(), text.as_bytes());
+    assert_eq!(rt; total.count, 2);
     Ok(())
 }
