@@ -1,1 +1,2 @@
+pub mod Regret
 pub mod Session

@@ -1,0 +1,103 @@
+//! How far the sessions of a rule stay behind the best: rows, and totals over several traces.
+ghost use Rattle.std.specs.Prelude.{◌≡◌, ◌<◌, ◌∷◌, [], ◌++◌, List, pos};
+ghost use Rattle.lab_io.specs.Sink.{Puts};
+
+use lab_io::Piece::{Number, Word};
+use lab_io::{PutErr, Sink, put_fields};
+
+/// The total of a list of pairs of scores: the score of a session, and the best score on the same trace.
+/// All but the count are in thousandths of a point.
+#[derive(Clone, Copy, PartialEq, Eq, Debug)]
+pub struct Total {
+    /// The sum of the scores.
+    pub score: i128,
+    /// The sum of the best scores.
+    pub best: i128,
+    /// The sum of the differences.
+    pub regret: i128,
+    /// The greatest difference, 0 where there is no pair.
+    pub worst: i128,
+    /// The number of pairs, at most 64.
+    pub count: u8,
+}
+
+impl Total {
+    ghost use Rattle.session_report.specs.Regret.{AreScores, Scores, StandsFor};
+
+    /// The total of no pair: all is 0.
+    pub fn start() -> Total
+        ensures zero { result ≡ record { score = pos 0; best = pos 0; regret = pos 0; worst = pos 0; count = 0 } }
+        ensures stands { StandsFor [] result }
+    {
+        Total {
+            score: 0,
+            best: 0,
+            regret: 0,
+            worst: 0,
+            count: 0,
+        }
+    }
+
+    /// Appends a pair. Both are within 10^24 of 0, and the score is not above the best. The total is that of
+    /// a list, of fewer than 64 pairs.
+    pub fn add(&mut self, score: i128, best: i128)
+        requires pair { AreScores (score, best) }
+        requires room { self.old.count < 64 }
+        requires list { (ps : List Scores) × StandsFor ps self.old }
+        ensures { (ps : List Scores) → StandsFor ps self.old → StandsFor (ps ++ (score, best) ∷ []) self.new }
+    {
+        let regret = best - score;
+        self.score += score;
+        self.best += best;
+        self.regret += regret;
+        self.worst = self.worst.max(regret);
+        self.count += 1;
+    }
+}
+
+ghost use Rattle.session_report.specs.Regret.{IsNear, regret_line, total_line};
+
+/// Puts the row of a rule on one trace: `rule NAME`, its score, the best score and the difference of the two.
+/// Both are in thousandths of a point, within 10^24 of 0. After an `Err` a prefix of the row went out.
+/// It takes no memory of its own.
+pub fn regret_row<O: Sink>(name: &str, score: i128, best: i128, out: &mut O) -> Result<(), PutErr>
+    requires score { IsNear score }
+    requires best { IsNear best }
+    ensures { Puts (O.seen out.old) (regret_line name.now score best) (O.seen out.new) result }
+{
+    put_fields(
+        out,
+        &[
+            Word("rule"),
+            Word(name),
+            Word("score"),
+            Number(score),
+            Word("best"),
+            Number(best),
+            Word("regret"),
+            Number(best - score),
+        ],
+    )
+}
+
+/// Puts the row of a rule over all traces: `total NAME` and its sums, and the greatest difference.
+/// After an `Err` a prefix of the row went out. It takes no memory of its own.
+pub fn total_row<O: Sink>(name: &str, total: &Total, out: &mut O) -> Result<(), PutErr>
+    ensures { Puts (O.seen out.old) (total_line name.now total.now) (O.seen out.new) result }
+{
+    put_fields(
+        out,
+        &[
+            Word("total"),
+            Word(name),
+            Word("score"),
+            Number(total.score),
+            Word("best"),
+            Number(total.best),
+            Word("regret"),
+            Number(total.regret),
+            Word("worst"),
+            Number(total.worst),
+        ],
+    )
+}
