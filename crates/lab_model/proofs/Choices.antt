@@ -1,5 +1,5 @@
 -- Each rule chooses a rung of the film that it is asked about.
-use Rattle.std.proofs.Common.{◌≡◌, ℕ, zero, suc, ◌+◌, ◌-◌, ◌*◌, ◌<◌, ◌≤◌, List, [], ◌∷◌, ◌++◌, length, get_or, Bool, cond, Option, Some, None, ltb, sym, ◌∙◌, ap, add-one, length-append, arith}
+use Rattle.std.proofs.Common.{◌≡◌, ℕ, zero, suc, ◌-◌, ◌<◌, ◌≤◌, List, [], ◌∷◌, length, get_or, Bool, cond, Some, None, ltb, sym, ◌∙◌, ap, add-one, length-append, arith}
 use Rattle.std.specs.List.{All, fold, flat_map, position_or_len}
 use Rattle.std.specs.Option.{unwrap_or}
 use Rattle.std.specs.Prelude.{ℤ, int_lt, min, map, slice_index}
@@ -7,7 +7,7 @@ use Rattle.std.proofs.lemmas.Bool.{cond_both, ltb-true}
 use Rattle.std.proofs.lemmas.List.Elements.{All-nil, All-cons, All-head, All-tail, All-append, All-map}
 use Rattle.lab_model.specs.declared.setup.Setup.{Setup}
 use Rattle.lab_model.specs.declared.context.Context.{Context}
-use Rattle.lab_model.specs.Film.{Film, IsFilm, rungs_of, segments_of, bitrate_of}
+use Rattle.lab_model.specs.Film.{Film, IsFilm, rungs_of, segments_of}
 use Rattle.lab_model.specs.Rules.{RuleKind, KindFits, fixed, listed, throughput, bola, mpc}
 use Rattle.lab_model.specs.Rates.{robust_rate}
 use Rattle.lab_model.specs.Horizon.{horizon_score}

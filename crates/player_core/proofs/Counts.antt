@@ -1,17 +1,17 @@
 -- The counts by which a session is bounded: segments begun, seeks to come, turns to come, stalls to spare.
-use Rattle.std.proofs.Common.{◌≡◌, ℕ, zero, suc, ◌+◌, ◌-◌, ◌*◌, ◌/◌, ◌%◌, ◌<◌, ◌≤◌, Bool, true, false, not, ◌&&◌, cond, eqb, ltb, leb, List, [], ◌∷◌, length, Option, Some, None, IfSome, find, is_some, refl, sym, ◌∙◌, ap, subst, ⊎_elim, lt-ltb, le-ltb, arith}
-use Rattle.std.specs.List.{All, sum_by, count_by}
-use Rattle.std.proofs.lemmas.Bool.{cases_Bool, cases_lt, cond-true, cond-false, cond_both, false≢true, ltb-true, and_left, and_right, and_from, ne_eqb, eq-eqb, eqb-true}
+use Rattle.std.proofs.Common.{◌≡◌, ℕ, ◌+◌, ◌-◌, ◌*◌, ◌/◌, ◌%◌, ◌<◌, ◌≤◌, true, false, not, ◌&&◌, cond, eqb, ltb, leb, List, [], ◌∷◌, length, Some, IfSome, refl, sym, ◌∙◌, ap, lt-ltb, arith}
+use Rattle.std.specs.List.{All}
+use Rattle.std.proofs.lemmas.Bool.{cond-true, cond-false, cond_both, false≢true, ltb-true, and_left, and_right, and_from, ne_eqb, eq-eqb, eqb-true}
 use Rattle.std.proofs.lemmas.Bool.Decides.{nat_tests}
 use Rattle.std.proofs.lemmas.Option.{IfSome_then}
 use Rattle.std.proofs.lemmas.List.Elements.{All-head, All-tail}
 use Rattle.std.proofs.lemmas.List.Sums.{sum_by-cons, count_by-le-length}
-use Rattle.std.proofs.lemmas.Nat.{div_below, le-div, div-add-mod', row_fits}
+use Rattle.std.proofs.lemmas.Nat.{div_below, le-div, div-add-mod'}
 use Rattle.lab_model.specs.declared.context.Seek.{Seek}
-use Rattle.lab_model.specs.Film.{Film, segments_of}
+use Rattle.lab_model.specs.Film.{Film}
 use Rattle.player_core.specs.State.{Mode, Player, starting, playing, seeking, ended}
-use Rattle.player_core.specs.Parts.{begun, is_playing, is_ended, seek_at}
-use Rattle.player_core.specs.Sound.{begun_before, is_waiting, seeks_left, spare_stall, turns_to_end}
+use Rattle.player_core.specs.Parts.{begun, is_playing, seek_at}
+use Rattle.player_core.specs.Sound.{begun_before, is_waiting, seeks_left, spare_stall}
 
 -- ---- segments that begin before a position
 

@@ -1,15 +1,15 @@
 -- Sessions end.
-use Rattle.std.proofs.Common.{◌≡◌, ℕ, zero, suc, ◌+◌, ◌*◌, ◌<◌, ◌≤◌, ◌⊎◌, inl, inr, Bool, true, false, refl, sym, ◌∙◌, ap, subst, length, mul-le-mul_right, add-one, ⊎_elim, arith}
+use Rattle.std.proofs.Common.{◌≡◌, ℕ, zero, suc, ◌+◌, ◌*◌, ◌<◌, ◌≤◌, ◌⊎◌, inl, inr, Bool, true, false, sym, ◌∙◌, ap, length, mul-le-mul_right, add-one, ⊎_elim, arith}
 use Rattle.std.proofs.lemmas.Bool.{cases_Bool, cases_eq, false_from_ne_true, true≢false}
 use Rattle.lab_model.specs.Film.{segments_of}
 use Rattle.network_clock.proofs.Search.{least_before, least_found, least_is}
 use Rattle.player_core.specs.State.{Case, Player, first_player}
 use Rattle.player_core.specs.Parts.{instant, is_ended, pass_ms}
 use Rattle.player_core.specs.Session.{end_of, ends_at, last_player, latest_ms, player_after}
-use Rattle.player_core.specs.Sound.{IsCase, Sound, all_turns, turns_left}
+use Rattle.player_core.specs.Sound.{IsCase, Sound, turns_left}
 use Rattle.player_core.proofs.Counts.{begun_most}
 use Rattle.player_core.proofs.Soundness.{pass_sound}
-use Rattle.player_core.proofs.Players.{instant_any_sound, instant_sound, instant_t, passed_sound, player_next, player_sound, start_sound}
+use Rattle.player_core.proofs.Players.{instant_any_sound, instant_sound, instant_t, player_next, player_sound, start_sound}
 use Rattle.player_core.proofs.Moves.{Moved, instant_moves}
 use Rattle.player_core.proofs.Waits.{instant_still, pass_turns, waits_few, waits_less, waits_ms}
 

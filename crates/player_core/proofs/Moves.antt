@@ -1,16 +1,16 @@
 -- What an instant that does not end the session does: it takes a turn, or it leaves the player as it is.
-use Rattle.std.proofs.Common.{◌≡◌, ℕ, ◌+◌, ◌*◌, ◌<◌, ◌≤◌, ◌⊎◌, inl, inr, ⊎_elim, true, false, cond, ◌&&◌, eqb, leb, ltb, ◌++◌, ◌∷◌, [], Option, Some, None, IfSome, is_some, refl, sym, ◌∙◌, ap, subst, mul-le-mul_right, arith}
-use Rattle.std.proofs.lemmas.Bool.{cond_both, cond-true, cond-false, false≢true, true≢false}
+use Rattle.std.proofs.Common.{◌≡◌, ℕ, ◌+◌, ◌*◌, ◌<◌, ◌≤◌, ◌⊎◌, inl, inr, false, ◌&&◌, eqb, ◌++◌, ◌∷◌, [], Option, Some, None, IfSome, is_some, refl, sym, ◌∙◌, ap, subst, mul-le-mul_right, arith}
+use Rattle.std.proofs.lemmas.Bool.{cond_both, true≢false}
 use Rattle.lab_model.specs.declared.context.Seek.{Seek}
 use Rattle.lab_model.specs.Film.{segments_of}
 use Rattle.abandonment.specs.Test.{abandonment}
 use Rattle.player_core.specs.declared.session.Event.TheVariants as event
-use Rattle.player_core.specs.State.{Case, Download, Mode, Player, ended, playing, seeking, starting}
+use Rattle.player_core.specs.State.{Case, Download, Player, ended}
 use Rattle.player_core.specs.Parts.{abandon, arrival, arrives, asks, can_ask, finish, gives_up, gives_up_any, instant, is_ended, is_playing, loads, progress_of, request, rung_for, seek, seek_at, seeks_to}
-use Rattle.player_core.specs.Sound.{IsCase, Runs, Sound, seeks_left, turns_left, turns_to_end}
+use Rattle.player_core.specs.Sound.{IsCase, Runs, Sound, seeks_left, turns_left}
 use Rattle.player_core.proofs.Counts.{seek_fits, seeks_fewer, seeks_one}
-use Rattle.player_core.proofs.Soundness.{abandon_sound, abandonment_lower, arrival_sound, asks_turns, can_ask_true, gives_turns, loads_turns, seeks_turns}
-use Rattle.player_core.proofs.Players.{abandon_t, gone_on, gone_on_t, sought_sound, stopped, stopped_sound, stopped_t}
+use Rattle.player_core.proofs.Soundness.{abandon_sound, abandonment_lower, asks_turns, can_ask_true, gives_turns, loads_turns, seeks_turns}
+use Rattle.player_core.proofs.Players.{abandon_t, gone_on, sought_sound, stopped, stopped_sound, stopped_t}
 
 -- a turn fewer is left, or the player is the same, and no more turns are left
 abbrev pub Moved : Case → ℕ → Player → ℕ → Player → Type 0

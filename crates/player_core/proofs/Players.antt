@@ -1,6 +1,5 @@
 -- The player of a session within the limits is sound at each instant until it ends.
-use Rattle.std.proofs.Common.{◌≡◌, ℕ, zero, suc, ◌+◌, ◌*◌, ◌<◌, ◌≤◌, true, false, cond, ◌&&◌, eqb, ltb, Option, Some, None, refl, sym, ◌∙◌, ap, subst, add-one, le_trans, List, [], ◌∷◌, ◌++◌, option_map, ◌%◌, mul-le-mul_right, arith}
-use Rattle.std.specs.List.{All}
+use Rattle.std.proofs.Common.{◌≡◌, ℕ, zero, suc, ◌+◌, ◌*◌, ◌<◌, true, false, ◌&&◌, eqb, ltb, Option, Some, None, refl, sym, ◌∙◌, ap, subst, add-one, le_trans, List, [], ◌∷◌, ◌++◌, option_map, ◌%◌, mul-le-mul_right, arith}
 use Rattle.std.proofs.lemmas.Bool.{cond_both, cond-true, cond-false, false≢true, true≢false}
 use Rattle.std.proofs.lemmas.List.Elements.{All-nil}
 use Rattle.lab_model.specs.declared.context.Seek.{Seek}
@@ -9,7 +8,7 @@ use Rattle.lab_model.specs.Film.{segments_of}
 use Rattle.abandonment.specs.Test.{abandonment}
 use Rattle.player_core.specs.declared.session.Event.TheVariants as event
 use Rattle.player_core.specs.State.{Case, Download, Mode, Player, first_player, starting, playing, seeking, ended}
-use Rattle.player_core.specs.Parts.{abandon, arrival, arrives, asks, begins, can_ask, finish, gives_up, gives_up_any, instant, is_ended, is_playing, loads, pass_ms, passes_in, player_ms, plays, progress_of, request, rung_for, seek, seek_at, seeks_to, stalls_on, takes}
+use Rattle.player_core.specs.Parts.{abandon, arrival, arrives, asks, begins, can_ask, finish, gives_up, gives_up_any, instant, is_ended, is_playing, loads, pass_ms, passes_in, plays, progress_of, request, rung_for, seek, seek_at, seeks_to, stalls_on, takes}
 use Rattle.player_core.specs.Session.{ends_at, player_after}
 use Rattle.player_core.specs.Sound.{IsCase, IsOf, Sound}
 use Rattle.player_core.proofs.Counts.{seeks_most, turns_now}
@@ -167,6 +166,7 @@ player_sound c is (suc n) goes =
     let before = player_sound c is n (λ k low. goes k (omega arith)) in
     let on = goes n (omega arith) in
     let next = player_next c n on in
-    let sound = passed_sound c is n (player_after c n) before.1 before.0 on in
-    (subst (Sound c (suc n)) (sym next) sound,
-     ap (λ (p : Player). p.t) next ∙ pass_t c (instant c (player_after c n)) ∙ ap (λ k. k + 1) (instant_t c (player_after c n) ∙ before.1) ∙ add-one n)
+    let sound = passed_sound c is n (player_after c n) before.1 before.0 on in (
+      subst (Sound c (suc n)) (sym next) sound,
+      ap (λ (p : Player). p.t) next ∙ pass_t c (instant c (player_after c n)) ∙ ap (λ k. k + 1) (instant_t c (player_after c n) ∙ before.1) ∙ add-one n,
+    )

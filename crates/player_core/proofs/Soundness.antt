@@ -1,11 +1,11 @@
 -- What is sound stays sound, part by part.
-use Rattle.std.proofs.Common.{◌≡◌, ℕ, zero, suc, ◌+◌, ◌-◌, ◌*◌, ◌/◌, ◌%◌, ◌<◌, ◌≤◌, Bool, true, false, not, ◌&&◌, cond, eqb, ltb, leb, List, [], ◌∷◌, ◌++◌, length, Option, Some, None, IfSome, is_some, unwrap_or, option_map, refl, sym, ◌∙◌, ap, subst, ⊎_elim, lt-ltb, le-ltb, length-append, mul-le-mul_right, arith}
+use Rattle.std.proofs.Common.{◌≡◌, ℕ, ◌+◌, ◌-◌, ◌*◌, ◌%◌, ◌<◌, ◌≤◌, Bool, true, false, not, ◌&&◌, cond, eqb, ltb, leb, List, [], ◌∷◌, ◌++◌, length, Option, Some, None, IfSome, is_some, unwrap_or, option_map, refl, sym, ◌∙◌, ap, subst, length-append, mul-le-mul_right, arith}
 use Rattle.std.specs.List.{All, sum_by}
 use Rattle.std.specs.Option.{option_map_or}
-use Rattle.std.proofs.lemmas.Bool.{and_parts, cases_Bool, cases_lt, cond-true, cond-false, cond_both, false≢true, true≢false, ltb-true, ltb-false, leb-true, eqb-true, eqb-false, not-true}
+use Rattle.std.proofs.lemmas.Bool.{and_parts, cond_both, false≢true, true≢false, ltb-true, ltb-false, leb-true, eqb-true, not-true}
 use Rattle.std.proofs.lemmas.Option.{cond_some}
 use Rattle.std.proofs.lemmas.Nat.{row_fits}
-use Rattle.std.proofs.lemmas.List.Elements.{All-nil, All-cons, All-head, All-tail, All-push}
+use Rattle.std.proofs.lemmas.List.Elements.{All-nil, All-head, All-tail, All-push}
 use Rattle.std.proofs.lemmas.List.Sums.{sum_by-cons}
 use Rattle.lab_model.specs.declared.context.Seek.{Seek}
 use Rattle.lab_model.specs.declared.context.Played.{Played}
@@ -17,11 +17,10 @@ use Rattle.abandonment.specs.Test.{abandonment, is_better, is_due, is_late, targ
 use Rattle.player_core.specs.declared.session.Event.{Event}
 use Rattle.player_core.specs.declared.session.Event.TheVariants as event
 use Rattle.player_core.specs.Available.{available_at}
-use Rattle.player_core.specs.State.{Case, Download, Mode, Player, first_player, starting, playing, seeking, ended}
-
-use Rattle.player_core.specs.Parts.{abandon, arrival, arrives, asks, begins, begun, can_ask, context_of, finish, gives_up, gives_up_any, got_of, is_ended, is_playing, loads, pass_ms, passes_in, plays, progress_of, request, rung_for, seek, seek_at, seeks_to, stalls_on, takes, wasted_by}
-use Rattle.player_core.specs.Sound.{IsCase, IsOf, Runs, Sound, all_turns, asked_size, begun_before, is_waiting, seeks_left, spare_stall, turns_here, turns_left, turns_to_end}
-use Rattle.player_core.proofs.Counts.{begun_grows, begun_most, begun_one, begun_waits, playing_still, playing_waits, seek_fits, seeks_fewer, seeks_most, seeks_one, spare_at_end, spare_calm, spare_inside, spare_most, spare_waiting, turns_next, turns_now}
+use Rattle.player_core.specs.State.{Case, Download, Mode, Player, starting, playing, seeking, ended}
+use Rattle.player_core.specs.Parts.{abandon, arrival, arrives, asks, begins, can_ask, context_of, finish, gives_up, gives_up_any, got_of, is_ended, is_playing, loads, pass_ms, passes_in, plays, progress_of, request, rung_for, seek, seek_at, seeks_to, stalls_on, takes, wasted_by}
+use Rattle.player_core.specs.Sound.{IsCase, IsOf, Runs, Sound, begun_before, is_waiting, seeks_left, spare_stall, turns_here, turns_left}
+use Rattle.player_core.proofs.Counts.{begun_grows, begun_most, begun_one, begun_waits, playing_still, playing_waits, seek_fits, seeks_fewer, seeks_one, spare_at_end, spare_calm, spare_inside, spare_most, spare_waiting, turns_next, turns_now}
 use Rattle.player_core.proofs.Runs.{runs_next, runs_pace, runs_start, asked_within, size_within, starts_full}
 
 -- ---- 1. Arrival

@@ -1,6 +1,6 @@
 -- The milliseconds that a player can wait before its next turn, and that each millisecond takes one of them.
-use Rattle.std.proofs.Common.{◌≡◌, ℕ, ◌+◌, ◌-◌, ◌*◌, ◌%◌, ◌<◌, ◌≤◌, ⊎_elim, true, false, cond, not, ◌&&◌, eqb, leb, ltb, List, [], ◌∷◌, ◌++◌, Option, Some, None, IfSome, is_some, option_map, refl, sym, ◌∙◌, ap, subst, mul-le-mul, mul-le-mul_right, arith}
-use Rattle.std.proofs.lemmas.Bool.{and_from, and_left, cases_Bool, cases_lt, cond_both, cond-true, cond-false, eq-eqb, false_from_ne_true, false≢true, le-leb, lt-ltb, le-ltb, ltb-true, true≢false}
+use Rattle.std.proofs.Common.{◌≡◌, ℕ, ◌+◌, ◌-◌, ◌*◌, ◌%◌, ◌<◌, ◌≤◌, ⊎_elim, true, false, cond, not, ◌&&◌, eqb, leb, ltb, List, [], ◌∷◌, ◌++◌, Option, Some, None, IfSome, is_some, option_map, refl, sym, ◌∙◌, ap, subst, mul-le-mul, arith}
+use Rattle.std.proofs.lemmas.Bool.{and_from, cases_lt, cond_both, cond-true, cond-false, eq-eqb, false_from_ne_true, false≢true, le-leb, lt-ltb, le-ltb, ltb-true, true≢false}
 use Rattle.lab_model.specs.declared.context.Seek.{Seek}
 use Rattle.lab_model.specs.declared.context.Played.{Played}
 use Rattle.lab_model.specs.Film.{segments_of}
@@ -124,7 +124,7 @@ module _ (c : Case) where
       cond_both (ltb p.x p.y) (plays c p) (stalls_on p) (λ q. Passed c p q)
       (λ e. cond_both (eqb (p.x % c.film.seg_ms) 0) (begins p p.loaded) p (λ q. Passed c p (record q { x = q.x + 1; stalling = false })) (λ z. begins_passed p p.loaded) (λ z. begins_passed p []))
       (λ e. cond_both p.stalling (record p { stall_ms = p.stall_ms + 1 }) (record p { stall_ms = p.stall_ms + 1; stalls = p.stalls + 1; stalling = true; events = p.events ++ event.Stall p.t ∷ [] }) (λ q. Passed c p q)
-        (λ z. record { k = refl; y = refl; x = omega arith; download = refl; forced = refl }) (λ z. record { k = refl; y = refl; x = omega arith; download = refl; forced = refl }))
+      (λ z. record { k = refl; y = refl; x = omega arith; download = refl; forced = refl }) (λ z. record { k = refl; y = refl; x = omega arith; download = refl; forced = refl }))
 
   begins_x : (p : Player) (qs : List Played) → (begins p qs).x ≡ p.x
   begins_x p [] = refl
@@ -191,7 +191,7 @@ module _ (c : Case) (is : IsCase c) (from : ℕ) (p : Player) (h : Sound c from 
       let buffer = is.setup.buffer.0 in
       ⊎_elim (λ inside. let x = goes_x inside go in omega (arith, before, after, x, inside))
       (λ full. ⊎_elim (λ early. omega (arith, before, after, up, early))
-        (λ late. absurd (true≢false (sym (asks_true c p none low (omega (arith, full, buffer)) late) ∙ still.waits none))) (cases_lt p.t there)) (cases_lt p.x p.y)
+      (λ late. absurd (true≢false (sym (asks_true c p none low (omega (arith, full, buffer)) late) ∙ still.waits none))) (cases_lt p.t there)) (cases_lt p.x p.y)
 
   rest_end : IsStill c p → is_ended p.mode ≡ false → segments_of c.film ≤ p.k → rest_ms c p + 1 ≤ waits_for c p None
   rest_end still go all =
@@ -201,13 +201,13 @@ module _ (c : Case) (is : IsCase c) (from : ℕ) (p : Player) (h : Sound c from 
       let after = cond-false (ltb p.k n) (there - (p.t + 1)) 0 (le-ltb p.k n all) in
       ⊎_elim (λ inside. let x = goes_x inside go in omega (arith, before, after, x, inside))
       (λ full.
-        let next = h.next in
-        let position = h.position in
-        let end = h.loaded_end in
-        let whole = ap (λ k. k * c.film.seg_ms) (let same : p.k ≡ n = omega (arith, next, all) in same) in
-        let on = moves_on p.mode go (false_from_ne_true (is_waiting p.mode) (λ waits. let more = h.more waits in absurd (omega (arith, more, all)))) in
-        let plays = and_from (is_playing p.mode) (eqb p.x (n * c.film.seg_ms)) (ap is_playing on) (eq-eqb p.x (n * c.film.seg_ms) (omega (arith, full, position, end, whole))) in
-        absurd (true≢false (sym plays ∙ still.inside))) (cases_lt p.x p.y)
+      let next = h.next in
+      let position = h.position in
+      let end = h.loaded_end in
+      let whole = ap (λ k. k * c.film.seg_ms) (let same : p.k ≡ n = omega (arith, next, all) in same) in
+      let on = moves_on p.mode go (false_from_ne_true (is_waiting p.mode) (λ waits. let more = h.more waits in absurd (omega (arith, more, all)))) in
+      let plays = and_from (is_playing p.mode) (eqb p.x (n * c.film.seg_ms)) (ap is_playing on) (eq-eqb p.x (n * c.film.seg_ms) (omega (arith, full, position, end, whole))) in
+      absurd (true≢false (sym plays ∙ still.inside))) (cases_lt p.x p.y)
 
   rest_is : waits_for c (pass_ms c p) None ≡ rest_ms c p
   rest_is =
