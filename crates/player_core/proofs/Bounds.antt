@@ -1,0 +1,48 @@
+-- The numbers of a sound player are small, and what its end shows.
+use Rattle.std.proofs.Common.{ℕ, ◌*◌, ◌+◌, ◌<◌, ◌≤◌, length, mul-le-mul, subst, arith}
+use Rattle.std.specs.List.{All}
+use Rattle.lab_model.specs.declared.context.Played.{Played}
+use Rattle.lab_model.specs.Film.{rungs_of, segments_of}
+use Rattle.player_core.specs.State.{Case, Player}
+use Rattle.player_core.specs.Session.{end_of, last_player}
+use Rattle.player_core.specs.Sound.{IsCase, IsOf, Sound, all_turns}
+use Rattle.player_core.proofs.Ends.{last_sound, last_t, played_bound}
+
+pub turns_most : (c : Case) → IsCase c → all_turns c ≤ 1152032
+turns_most c is = let count = is.film.segments.1 in omega (arith, count)
+
+module _ (c : Case) (is : IsCase c) (from : ℕ) (p : Player) (h : Sound c from p) where
+  pub end_most : p.y ≤ 120000000
+  end_most =
+      let end = h.loaded_end in
+      let next = h.next in
+      let count = is.film.segments.1 in
+      let most = mul-le-mul (let low : p.k ≤ 2000 = omega (arith, next, count) in low) is.film.seg_ms.1 in
+      omega (arith, end, most)
+
+  pub position_most : p.x ≤ 120000000
+  position_most = let most = end_most in let position = h.position in omega (arith, most, position)
+
+  pub next_most : p.k ≤ 2000
+  next_most = let next = h.next in let count = is.film.segments.1 in omega (arith, next, count)
+
+  pub loaded_most : length p.loaded ≤ 2000
+  loaded_most = let room = h.room in let next = next_most in omega (arith, room, next)
+
+  pub stalls_most : p.stalls ≤ 1152033
+  stalls_most = let stalls = h.stalls in let turns = turns_most c is in omega (arith, stalls, turns)
+
+  pub wasted_small : p.wasted ≤ 230406400000000
+  wasted_small = let wasted = h.wasted in let turns = turns_most c is in omega (arith, wasted, turns)
+
+-- ---- the player at the end
+
+module _ (c : Case) (is : IsCase c) where
+  pub last_rungs : All (λ q. (q.rung < rungs_of c.film) × (q.segment < segments_of c.film)) (last_player c).played
+  last_rungs k d low = let of = (last_sound c is).1.played k d low in (of.of_rungs, of.of_segments)
+
+  pub last_count : length (last_player c).played ≤ 34000
+  last_count = let sound = last_sound c is in played_bound c is sound.0 (last_player c) sound.1
+
+  pub last_times : (last_player c).startup_ms + (last_player c).stall_ms + (last_player c).seek_ms ≤ end_of c
+  last_times = let times = (last_sound c is).1.times in let at = last_t c is in omega (arith, times, at)
