@@ -1,11 +1,11 @@
 -- The text of a session, and its row in a comparison.
-use Rattle.std.specs.Prelude.{List, [], ◌∷◌, ◌++◌, codes, ℤ, pos}
+use Rattle.std.specs.Prelude.{◌≤◌, List, [], ◌∷◌, ◌++◌, codes, ℤ, pos}
 use Rattle.std.specs.List.{flat_map}
 use Rattle.std.specs.Fmt.{decimal, signed_decimal}
 use Rattle.lab_io.specs.Sink.{Text}
 use Rattle.lab_io.specs.Piece.{fields_line}
 use Rattle.lab_model.specs.Weighing.{Weighing}
-use Rattle.quality_score.specs.Score.{score_of}
+use Rattle.quality_score.specs.Score.{CanScore, score_of}
 use Rattle.player_core.specs.Session.{Shown}
 use Rattle.player_core.specs.declared.session.Event.{Event}
 use Rattle.player_core.specs.declared.session.Event.TheVariants as event
@@ -23,6 +23,12 @@ event_fields (event.End at) = decimal at ∷ codes "end" ∷ []
 -- the score of a session
 abbrev pub session_score : Shown → Weighing → ℤ
 session_score s w = score_of w s.played s.stall_ms s.startup_ms
+
+-- the session can be scored: each played segment has a utility, there are at most 40000, and no time is above 10^15
+pub record CanReport (s : Shown) (w : Weighing) : Type 0 where
+  pub played : CanScore w s.played
+  pub stall : s.stall_ms ≤ 1000000000000000
+  pub startup : s.startup_ms ≤ 1000000000000000
 
 -- the seven counters of a session, each with its word
 abbrev pub counters : Shown → ℤ → List (Text × ℤ)

@@ -1,11 +1,10 @@
 //! The text of a session: a line for each event, then one for each of its seven counters.
-ghost use Rattle.std.specs.Prelude.{◌≤◌, ◌∷◌, [], map};
+ghost use Rattle.std.specs.Prelude.{◌≡◌, ◌∷◌, [], map};
 ghost use Rattle.std.specs.List.{flat_map};
 ghost use Rattle.lab_io.specs.Piece.{fields_line, piece_text};
 ghost use Rattle.lab_io.specs.Sink.{Puts};
 ghost use Rattle.player_core.specs.Session.{shown};
-ghost use Rattle.quality_score.specs.Score.{CanScore};
-ghost use Rattle.session_report.specs.Session.{comparison_row, counter_lines, event_fields, session_score, session_text};
+ghost use Rattle.session_report.specs.Session.{CanReport, comparison_row, counter_lines, event_fields, session_score, session_text};
 
 use crate::event::put_event;
 use lab_io::Piece::{Number, Word};
@@ -33,10 +32,16 @@ fn put_counters<O: Sink>(out: &mut O, counters: &[[Piece<'_>; 2]]) -> Result<(),
     Ok(())
 }
 
+// In thousandths of a point.
+fn score_of(s: &Session, w: &Weights) -> i128
+    requires { CanReport (shown s.now) w.now }
+    ensures { result ≡ session_score (shown s.now) w.now }
+{
+    score(&s.played, s.stall_ms, s.startup_ms, w)
+}
+
 fn put_summary<O: Sink>(out: &mut O, s: &Session, w: &Weights) -> Result<(), PutErr>
-    requires played { CanScore w.now s.now.played.items }
-    requires stall { s.now.stall_ms ≤ 1000000000000000 }
-    requires startup { s.now.startup_ms ≤ 1000000000000000 }
+    requires { CanReport (shown s.now) w.now }
     ensures { Puts (O.seen out.old) (counter_lines (shown s.now) (session_score (shown s.now) w.now)) (O.seen out.new) result }
 {
     put_counters(
@@ -48,10 +53,7 @@ fn put_summary<O: Sink>(out: &mut O, s: &Session, w: &Weights) -> Result<(), Put
             [Word("seeking"), Number(s.seek_ms as i128)],
             [Word("wasted"), Number(s.wasted_bits as i128)],
             [Word("end"), Number(s.end as i128)],
-            [
-                Word("score"),
-                Number(score(&s.played, s.stall_ms, s.startup_ms, w)),
-            ],
+            [Word("score"), Number(score_of(s, w))],
         ],
     )
 }
@@ -63,9 +65,7 @@ fn put_summary<O: Sink>(out: &mut O, s: &Session, w: &Weights) -> Result<(), Put
 /// Each played segment has a utility, there are at most 40000, and the times of startup and stall are at most 10^15.
 /// After an `Err` a prefix of the text went out. It takes no memory of its own.
 pub fn write_session<O: Sink>(s: &Session, w: &Weights, out: &mut O) -> Result<(), PutErr>
-    requires played { CanScore w.now s.now.played.items }
-    requires stall { s.now.stall_ms ≤ 1000000000000000 }
-    requires startup { s.now.startup_ms ≤ 1000000000000000 }
+    requires { CanReport (shown s.now) w.now }
     ensures { Puts (O.seen out.old) (session_text (shown s.now) w.now) (O.seen out.new) result }
 {
     put_events(out, &s.events)?;
@@ -76,9 +76,7 @@ pub fn write_session<O: Sink>(s: &Session, w: &Weights, out: &mut O) -> Result<(
 ///
 /// The conditions are those of `write_session`. After an `Err` a prefix of the row went out. It takes no memory of its own.
 pub fn compare_row<O: Sink>(name: &str, s: &Session, w: &Weights, out: &mut O) -> Result<(), PutErr>
-    requires played { CanScore w.now s.now.played.items }
-    requires stall { s.now.stall_ms ≤ 1000000000000000 }
-    requires startup { s.now.startup_ms ≤ 1000000000000000 }
+    requires { CanReport (shown s.now) w.now }
     ensures { Puts (O.seen out.old) (comparison_row name.now (shown s.now) w.now) (O.seen out.new) result }
 {
     put_fields(
@@ -99,7 +97,7 @@ pub fn compare_row<O: Sink>(name: &str, s: &Session, w: &Weights, out: &mut O) -
             Word("end"),
             Number(s.end as i128),
             Word("score"),
-            Number(score(&s.played, s.stall_ms, s.startup_ms, w)),
+            Number(score_of(s, w)),
         ],
     )
 }
