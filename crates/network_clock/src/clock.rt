@@ -58,6 +58,14 @@ impl Clock {
         }
     }
 
+    /// The periods of the trace that the clock stands for.
+    pub fn periods(&self) -> &[Period]
+        ensures value { result.now ≡ self.now }
+        ensures trace { IsTrace self.now }
+    {
+        &self.periods
+    }
+
     /// The job after the milliseconds `from` to `to - 1`.
     pub fn advance(&self, job: Job, from: u64, to: u64) -> Job
         requires order { from ≤ to }

@@ -1,6 +1,5 @@
 -- The first seek at an instant, from a place of the script on.
 use Rattle.std.proofs.Common.{◌≡◌, ℕ, ◌+◌, ◌<◌, ◌≤◌, ◌==◌, List, length, get_or, drop, drop-cons, add-one, true, false, Some, None, refl}
-use Rattle.std.specs.List.{find}
 use Rattle.std.proofs.lemmas.List.{drop_all}
 use Rattle.lab_model.specs.declared.context.Seek.{Seek}
 use Rattle.player_core.specs.Parts.{seek_at}

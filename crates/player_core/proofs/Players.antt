@@ -48,11 +48,11 @@ start_sound c is =
 -- ---- the instant stays the same in its parts
 
 module _ (c : Case) where
-  arrives_t : (p : Player) (o : Option Download) → (arrives c p o).t ≡ p.t
+  pub arrives_t : (p : Player) (o : Option Download) → (arrives c p o).t ≡ p.t
   arrives_t p None = refl
   arrives_t p (Some d) = cond_both (eqb d.job.left 0) (loads c p d) p (λ q. q.t ≡ p.t) (λ e. refl) (λ e. refl)
 
-  finish_t : (p : Player) → (finish c p).t ≡ p.t
+  pub finish_t : (p : Player) → (finish c p).t ≡ p.t
   finish_t p = cond_both (is_playing p.mode && eqb p.x (segments_of c.film * c.film.seg_ms)) (record p { mode = ended; events = p.events ++ event.End p.t ∷ [] }) p (λ q. q.t ≡ p.t) (λ e. refl) (λ e. refl)
 
   gives_t : (p : Player) (d : Download) (o : Option ℕ) → (gives_up c p d o).t ≡ p.t
@@ -66,11 +66,11 @@ module _ (c : Case) where
   pub abandon_t : (p : Player) → (abandon c p).t ≡ p.t
   abandon_t p = cond_both c.setup.abandon (gives_up_any c p p.download) p (λ q. q.t ≡ p.t) (λ e. gives_any_t p p.download) (λ e. refl)
 
-  seeks_t : (p : Player) (o : Option Seek) → (seeks_to c p o).t ≡ p.t
+  pub seeks_t : (p : Player) (o : Option Seek) → (seeks_to c p o).t ≡ p.t
   seeks_t p None = refl
   seeks_t p (Some s) = refl
 
-  request_t : (p : Player) → (request c p).t ≡ p.t
+  pub request_t : (p : Player) → (request c p).t ≡ p.t
   request_t p = cond_both (can_ask c p) (asks c p (rung_for c p)) p (λ q. q.t ≡ p.t) (λ e. refl) (λ e. refl)
 
   begins_t : (p : Player) (qs : List Played) → (begins p qs).t ≡ p.t

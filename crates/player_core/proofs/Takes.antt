@@ -1,5 +1,5 @@
 -- A running download takes its network millisecond.
-use Rattle.std.proofs.Common.{◌≡◌, ◌∙◌, ℕ, ◌+◌, ◌-◌, ◌==◌, List, Bool, true, false, Option, Some, None, refl, sym, ap, arith}
+use Rattle.std.proofs.Common.{◌≡◌, ◌∙◌, ℕ, ◌+◌, ◌-◌, ◌==◌, List, Bool, Option, Some, None, refl, ap, arith}
 use Rattle.std.specs.Option.{is_some}
 use Rattle.std.specs.Bool.{if◌then◌else◌}
 use Rattle.lab_model.specs.declared.trace.Period.{Period}
@@ -26,4 +26,4 @@ pub takes_is : (c : Case) (ps : List Period) (t : ℕ) (d : Download) (begins : 
     → first ≡ (if is_some d.first then d.first else (if t == begins then Some t else None)) → record d { job = j; first = first } ≡ takes c t d
 takes_is c ps t d begins j first e h u v =
     rw e (ap (λ (x : Job). record d { job = x; first = first }) (u ∙ job_one ps t d.job)
-        ∙ ap (λ (x : Option ℕ). record d { job = network_ms ps t d.job; first = x }) (v ∙ first_is d.first (is_spent ps t d.job) (t == begins) t h))
+    ∙ ap (λ (x : Option ℕ). record d { job = network_ms ps t d.job; first = x }) (v ∙ first_is d.first (is_spent ps t d.job) (t == begins) t h))

@@ -1,5 +1,5 @@
 -- What the parts of a player millisecond need of the player.
-use Rattle.std.specs.Prelude.{ℕ, ◌+◌, ◌-◌, ◌*◌, ◌≤◌, ◌<◌, IfSome}
+use Rattle.std.specs.Prelude.{◌+◌, ◌-◌, ◌*◌, ◌≤◌, ◌<◌, IfSome}
 use Rattle.lab_model.specs.Film.{Film, rungs_of, segments_of}
 use Rattle.lab_model.specs.declared.setup.Setup.{Setup}
 use Rattle.lab_model.specs.Fit.{SetupFits}

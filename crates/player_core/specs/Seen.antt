@@ -24,10 +24,25 @@ mode_of phase.Ended = ended
 -- the player that a body stands for, with its history
 abbrev pub seen : Body → List ℕ → Player
 seen b history = record {
-    t = b.t; x = b.x; y = b.y; k = b.k; download = option_map download_of b.download; forced = b.forced; last = b.last; mode = mode_of b.phase;
-    loaded = b.loaded.items; stalling = b.stalling; history = history; startup_ms = b.startup_ms; stall_ms = b.stall_ms; seek_ms = b.seek_ms;
-    stalls = b.stalls; wasted = b.wasted; events = b.events.items; played = b.played.items
-  }
+  t = b.t;
+  x = b.x;
+  y = b.y;
+  k = b.k;
+  download = option_map download_of b.download;
+  forced = b.forced;
+  last = b.last;
+  mode = mode_of b.phase;
+  loaded = b.loaded.items;
+  stalling = b.stalling;
+  history = history;
+  startup_ms = b.startup_ms;
+  stall_ms = b.stall_ms;
+  seek_ms = b.seek_ms;
+  stalls = b.stalls;
+  wasted = b.wasted;
+  events = b.events.items;
+  played = b.played.items;
+}
 
 -- the body before and after stand for players of which the second is this part of the first, whatever the history
 abbrev pub Follows : (Player → Player) → Body → Body → Type 0

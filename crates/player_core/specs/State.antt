@@ -18,6 +18,10 @@ pub record Case : Type 0 where
   pub ahead : ℕ
   pub rule : RuleKind
 
+-- the case of these parts
+abbrev pub case_of : Film → List Period → Setup → List Seek → ℕ → RuleKind → Case
+case_of f periods set seeks ahead kind = record { film = f; periods = periods; setup = set; seeks = seeks; ahead = ahead; rule = kind }
+
 -- before the first segment, playing, after a seek, and at the end
 pub data Mode : Type 0 where
   starting : Mode

@@ -6,13 +6,13 @@ use Rattle.lab_model.specs.Film.{Film}
 use Rattle.lab_model.specs.Rules.{listed}
 use Rattle.quality_score.specs.Score.{score_of}
 use Rattle.player_core.specs.Available.{all_ahead}
-use Rattle.player_core.specs.State.{Case}
+use Rattle.player_core.specs.State.{Case, case_of}
 use Rattle.player_core.specs.Session.{session_of}
 
 -- a rung list is played without abandonment and seeks
 abbrev pub list_case : Film → List Period → Setup → ℕ → List ℕ → Case
 list_case f periods set ahead rungs =
-    record { film = f; periods = periods; setup = record set { abandon = false }; seeks = []; ahead = ahead; rule = listed rungs }
+    case_of f periods (record set { abandon = false }) [] ahead (listed rungs)
 
 -- the value of a rung list in a live session with so much media ahead
 abbrev pub live_value_of : Film → List Period → Setup → ℕ → List ℕ → ℤ

@@ -8,9 +8,9 @@ ghost use Rattle.player_core.specs.Parts.{arrival, finish, got_of, sample_of, wa
 ghost use Rattle.player_core.specs.Sound.{IsCase, Runs};
 ghost use Rattle.player_core.specs.Seen.{Follows, IsTimed, download_of, mode_of, seen};
 
+use crate::player::available;
 use crate::session::{Event, Session};
 use abandonment::{Progress, abandon_to};
-use crate::player::available;
 use lab_model::{Context, Manifest, NoMemory, Played, Rule, Sample, Seek, Setup};
 use network_clock::{Clock, Job};
 use std::alloc::Global;
@@ -110,7 +110,7 @@ impl Phase {
         matches!(self, Phase::Playing)
     }
 
-    fn is_ended(self) -> bool
+    pub fn is_ended(self) -> bool
         ensures { result ≡ is_ended (mode_of self) }
     {
         matches!(self, Phase::Ended)
@@ -118,7 +118,6 @@ impl Phase {
 }
 
 ghost use Rattle.player_core.specs.Parts.{is_ended};
-
 ghost use Rattle.player_core.specs.Parts.{begun, loads};
 
 impl Body {
@@ -177,7 +176,7 @@ impl Body {
     }
 
     /// 1. Arrival: a download of which nothing is left.
-    fn arrive<T: Rule>(&mut self, m: &Manifest, rule: &mut T) -> Result<(), NoMemory>
+    pub fn arrive<T: Rule>(&mut self, m: &Manifest, rule: &mut T) -> Result<(), NoMemory>
         requires ready { IfSome self.old.download (λ d. d.job.left ≡ 0 → CanLoad m.now (seen self.old []) (download_of d)) }
         ensures kind { T.kind rule.new ≡ T.kind rule.old }
         ensures arrives { IfOk result (λ _. (c : Case) → c.film ≡ m.now → Follows (arrival c) self.old self.new) }
@@ -191,7 +190,7 @@ impl Body {
     }
 
     /// 2. End: all is played.
-    fn finish(&mut self, m: &Manifest) -> Result<(), NoMemory>
+    pub fn finish(&mut self, m: &Manifest) -> Result<(), NoMemory>
         ensures follows { IfOk result (λ _. (c : Case) → c.film ≡ m.now → Follows (finish c) self.old self.new) }
         ensures timed { IfOk result (λ _. (f : Film) (ps : List Period) → IsTimed f ps self.old.download → IsTimed f ps self.new.download) }
     {
@@ -204,7 +203,13 @@ impl Body {
     }
 
     /// A download is given up for a rung.
-    fn give_up<T: Rule>(&mut self, m: &Manifest, d: &Running, to: u8, rule: &mut T) -> Result<(), NoMemory>
+    fn give_up<T: Rule>(
+        &mut self,
+        m: &Manifest,
+        d: &Running,
+        to: u8,
+        rule: &mut T,
+    ) -> Result<(), NoMemory>
         requires judge { CanJudge m.now (seen self.old []) (download_of d.now) }
         requires first { 1 ≤ bit_ms_of self.old.t (download_of d.now) }
         requires wasted { self.old.wasted ≤ 1000000000000000 }
@@ -243,7 +248,12 @@ impl Body {
     }
 
     /// 3. Abandonment: where the setup allows it, by the abandonment test.
-    fn abandon<T: Rule>(&mut self, m: &Manifest, set: &Setup, rule: &mut T) -> Result<(), NoMemory>
+    pub fn abandon<T: Rule>(
+        &mut self,
+        m: &Manifest,
+        set: &Setup,
+        rule: &mut T,
+    ) -> Result<(), NoMemory>
         requires judge { IfSome self.old.download (λ d. CanJudge m.now (seen self.old []) (download_of d)) }
         requires wasted { self.old.wasted ≤ 1000000000000000 }
         ensures kind { T.kind rule.new ≡ T.kind rule.old }
@@ -279,7 +289,7 @@ impl Body {
     }
 
     /// 4. Seek.
-    fn seek(&mut self, m: &Manifest, seeks: &[Seek]) -> Result<(), NoMemory>
+    pub fn seek(&mut self, m: &Manifest, seeks: &[Seek]) -> Result<(), NoMemory>
         requires running { IfSome self.old.download (λ d. (d.segment < segments_of m.now) × (d.rung < rungs_of m.now)) }
         requires loaded { All (IsOf m.now) self.old.loaded.items }
         requires room { length self.old.loaded.items ≤ 2000 }
@@ -396,7 +406,14 @@ impl Body {
     }
 
     /// 5. Request.
-    fn request<T: Rule>(&mut self, m: &Manifest, clock: &Clock, set: &Setup, ahead: u32, rule: &T) -> Result<(), NoMemory>
+    pub fn request<T: Rule>(
+        &mut self,
+        m: &Manifest,
+        clock: &Clock,
+        set: &Setup,
+        ahead: u32,
+        rule: &T,
+    ) -> Result<(), NoMemory>
         requires ready { CanRequest m.now set.now (T.kind rule.now) (seen self.old []) }
         ensures requests { IfOk result (λ _. (c : Case) (history : List ℕ) → c.film ≡ m.now → c.setup ≡ set.now → c.ahead ≡ ahead → c.rule ≡ T.kind rule.now → T.stands_for rule.now history → seen self.new history ≡ request c (seen self.old history)) }
         ensures timed { IfOk result (λ _. IsTimed m.now clock.now self.old.download → IsTimed m.now clock.now self.new.download) }

@@ -6,10 +6,11 @@ ghost use Rattle.lab_model.specs.Film.{rungs_of, segments_of};
 ghost use Rattle.lab_model.specs.Fit.{SetupFits};
 ghost use Rattle.lab_model.specs.Rules.{KindFits};
 ghost use Rattle.player_core.specs.Available.{all_ahead, available_at};
-ghost use Rattle.player_core.specs.State.{Case};
+ghost use Rattle.player_core.specs.State.{case_of};
 ghost use Rattle.player_core.specs.Session.{session_of, shown};
 ghost use Rattle.player_core.specs.Seeks.{AreRising, SeeksFit};
 
+use crate::body::Body;
 use crate::session::Session;
 use lab_model::{Manifest, NoMemory, Rule, Seek, Setup};
 use network_clock::Clock;
@@ -45,6 +46,9 @@ pub fn seeks_fit(seeks: &[Seek], m: &Manifest) -> bool
         && seeks.iter().all(|s| s.to < segments)
 }
 
+/// An instant, in milliseconds, before which every session within the limits ends.
+const LATEST_MS: u64 = 1_000_000_000_000_000;
+
 /// The session of a film of which `ahead` milliseconds of media are there at instant 0.
 pub fn play_from<T: Rule + Drop>(
     alloc: Global,
@@ -60,20 +64,28 @@ pub fn play_from<T: Rule + Drop>(
     requires seeks { SeeksFit seeks.now m.now }
     requires ahead { ahead ≤ 120000000 }
     requires told { T.stands_for rule [] }
-    ensures session { IfOk result (λ s. shown s ≡ session_of (record { film = m.now; periods = clock.now; setup = set.now; seeks = seeks.now; ahead = ahead; rule = T.kind rule })) }
+    ensures session { IfOk result (λ s. shown s ≡ session_of (case_of m.now clock.now set.now seeks.now ahead (T.kind rule))) }
     ensures rungs { IfOk result (λ s. All (λ p. (p.rung < rungs_of m.now) × (p.segment < segments_of m.now)) s.played.items) }
     ensures count { IfOk result (λ s. length s.played.items ≤ 34000) }
     ensures ends { IfOk result (λ s. s.end < 1000000000000000) }
     ensures times { IfOk result (λ s. s.startup_ms + s.stall_ms + s.seek_ms ≤ s.end) }
 {
-    let _ = alloc;
-    let _ = m;
-    let _ = clock;
-    let _ = set;
-    let _ = seeks;
-    let _ = ahead;
-    let _ = rule;
-    Err(NoMemory)
+    prove!(m.segments() > 0);
+    prove!(!clock.periods().is_empty());
+    let mut body = Body::new(alloc);
+    let mut rule = rule;
+    for _t in 0..LATEST_MS {
+        body.arrive(m, &mut rule)?;
+        body.finish(m)?;
+        if body.phase.is_ended() {
+            return Ok(body.into_session());
+        }
+        body.abandon(m, set, &mut rule)?;
+        body.seek(m, seeks)?;
+        body.request(m, clock, set, ahead, &rule)?;
+        body.pass(m, clock)?;
+    }
+    unreachable!()
 }
 
 /// The session of a film on demand.
@@ -89,7 +101,7 @@ pub fn play<T: Rule + Drop>(
     requires rule { KindFits (T.kind rule) m.now }
     requires seeks { SeeksFit seeks.now m.now }
     requires told { T.stands_for rule [] }
-    ensures session { IfOk result (λ s. shown s ≡ session_of (record { film = m.now; periods = clock.now; setup = set.now; seeks = seeks.now; ahead = all_ahead; rule = T.kind rule })) }
+    ensures session { IfOk result (λ s. shown s ≡ session_of (case_of m.now clock.now set.now seeks.now all_ahead (T.kind rule))) }
     ensures rungs { IfOk result (λ s. All (λ p. (p.rung < rungs_of m.now) × (p.segment < segments_of m.now)) s.played.items) }
     ensures count { IfOk result (λ s. length s.played.items ≤ 34000) }
     ensures ends { IfOk result (λ s. s.end < 1000000000000000) }

@@ -1,0 +1,209 @@
+-- The body stands for the model's player, part by part, and what is true of the player serves the body.
+use Rattle.std.proofs.Common.{◌≡◌, ◌∙◌, ℕ, zero, suc, ◌+◌, ◌-◌, ◌<◌, ◌≤◌, List, [], length, true, Option, Some, None, sym, ap, subst, ⊎_elim, arith, eqb}
+use Rattle.std.specs.Option.{IfSome, option_map}
+use Rattle.std.proofs.lemmas.Bool.{cases_lt, ne_eqb, false_from_ne_true, eq-eqb}
+use Rattle.lab_model.specs.declared.trace.Period.{Period}
+use Rattle.lab_model.specs.Film.{Film, rungs_of, segments_of}
+use Rattle.network_clock.specs.declared.job.Job.{Job}
+use Rattle.network_clock.specs.Network.{first_at, is_spent, job_after, pass, period_at, start_job}
+use Rattle.network_clock.proofs.Downloads.{first_found, first_not_before}
+use Rattle.network_clock.proofs.Laws.{job_next, job_start, left_falls}
+use Rattle.player_core.specs.declared.body.Body.{Body}
+use Rattle.player_core.specs.declared.body.Running.{Running}
+use Rattle.player_core.specs.State.{Case, Download, Player}
+use Rattle.player_core.specs.Sound.{IsCase, Runs, Sound, asked_size}
+use Rattle.player_core.specs.Seen.{CanTake, Follows, IsTimed, download_of, seen}
+use Rattle.player_core.specs.Ready.{CanJudge, CanLoad, CanPass, CanRequest}
+use Rattle.player_core.proofs.Bounds.{end_most, loaded_most, stalls_most, wasted_small}
+use Rattle.player_core.proofs.Runs.{asked_within, bit_ms_is, bit_ms_short, first_cases, runs_begun, runs_pace, runs_short}
+
+-- ---- a part of a millisecond
+
+-- the body went through a part of a millisecond, and a running download still knows when its bits begin
+pub record Step (part : Player → Player) (old new : Body) : Type 0 where
+  pub follows : Follows part old new
+  pub timed : (f : Film) (ps : List Period) → IsTimed f ps old.download → IsTimed f ps new.download
+
+-- at an instant the body stands for a sound player
+pub record Now (c : Case) (n from : ℕ) (p : Player) (b : Body) : Type 0 where
+  pub sound : Sound c from p
+  pub instant : p.t ≡ n
+  pub same : seen b p.history ≡ p
+  pub timed : IsTimed c.film c.periods b.download
+
+pub now_step : (c : Case) (n from to : ℕ) (part : Player → Player) (p : Player) (old new : Body)
+    → Now c n from p old → Step part old new → Sound c to (part p) → (part p).t ≡ n → Now c n to (part p) new
+now_step c n from to part p old new now step sound instant = record {
+  sound = sound;
+  instant = instant;
+  same = subst (λ (q : Player). seen new (part q).history ≡ part q) now.same (step.follows p.history);
+  timed = step.timed c.film c.periods now.timed;
+}
+
+-- the history has no part in being sound
+forget : (c : Case) (from : ℕ) (b : Body) (h : List ℕ) → Sound c from (seen b h) → Sound c from (seen b [])
+forget c from b h s = record {
+  position = s.position;
+  loaded_end = s.loaded_end;
+  next = s.next;
+  idle = s.idle;
+  more = s.more;
+  running = s.running;
+  of_next = s.of_next;
+  free = s.free;
+  forced = s.forced;
+  last = s.last;
+  loaded = s.loaded;
+  room = s.room;
+  played = s.played;
+  times = s.times;
+  begun = s.begun;
+  wasted = s.wasted;
+  stalls = s.stalls;
+}
+
+-- the body itself is sound
+pub body_sound : (c : Case) (n from : ℕ) (p : Player) (b : Body) → Now c n from p b → Sound c from (seen b [])
+body_sound c n from p b now = forget c from b p.history (subst (Sound c from) (sym now.same) now.sound)
+
+pub body_instant : (c : Case) (n from : ℕ) (p : Player) (b : Body) → Now c n from p b → b.t ≡ n
+body_instant c n from p b now = ap (λ (q : Player). q.t) now.same ∙ now.instant
+
+-- ---- what the parts of a millisecond need
+
+load_of : (c : Case) → IsCase c → (p : Player) → p.y ≤ 120000000 → (o : Option Running)
+    → IfSome (option_map download_of o) (Runs c p.t) → IfSome (option_map download_of o) (λ d. d.segment ≡ p.k)
+    → IfSome o (λ r. r.job.left ≡ 0 → CanLoad c.film p (download_of r))
+load_of c is p end None runs next = tt
+load_of c is p end (Some r) runs next = λ none.
+    let d = download_of r in
+    let begun = runs_begun c is p.t d runs none in
+    let early = begun.0 in
+    let ms = bit_ms_is c is p.t d runs in
+    let there = runs.segment in
+    let count = is.film.segments.1 in
+    record {
+      segment = runs.segment;
+      rung = runs.rung;
+      waited = omega (arith, early, ms);
+      pace = (runs_pace c is p.t d runs).1;
+      end = end;
+      next = omega (arith, next, there, count);
+    }
+
+pub load_ready : (c : Case) → IsCase c → (from : ℕ) (b : Body) → Sound c from (seen b [])
+    → IfSome b.download (λ r. r.job.left ≡ 0 → CanLoad c.film (seen b []) (download_of r))
+load_ready c is from b s = load_of c is (seen b []) (end_most c is from (seen b []) s) b.download s.running s.of_next
+
+judge_of : (c : Case) → IsCase c → (p : Player) (o : Option Running) → IfSome (option_map download_of o) (Runs c p.t)
+    → IfSome o (λ r. CanJudge c.film p (download_of r))
+judge_of c is p None runs = tt
+judge_of c is p (Some r) runs =
+    let d = download_of r in
+    let short = runs_short c is p.t d runs in
+    record {
+      segment = runs.segment;
+      rung = runs.rung;
+      asked = runs.asked;
+      elapsed = omega (arith, short);
+      bits = bit_ms_short c is p.t d runs;
+      pace = (runs_pace c is p.t d runs).1;
+    }
+
+pub judge_ready : (c : Case) → IsCase c → (from : ℕ) (b : Body) → Sound c from (seen b []) → IfSome b.download (λ r. CanJudge c.film (seen b []) (download_of r))
+judge_ready c is from b s = judge_of c is (seen b []) b.download s.running
+
+pub wasted_ready : (c : Case) → IsCase c → (from : ℕ) (b : Body) → Sound c from (seen b []) → b.wasted ≤ 1000000000000000
+wasted_ready c is from b s = let small = wasted_small c is from (seen b []) s in omega (arith, small)
+
+range_of : (c : Case) (t : ℕ) (o : Option Running) → IfSome (option_map download_of o) (Runs c t)
+    → IfSome o (λ r. (r.segment < segments_of c.film) × (r.rung < rungs_of c.film))
+range_of c t None runs = tt
+range_of c t (Some r) runs = (runs.segment, runs.rung)
+
+pub range_ready : (c : Case) (from : ℕ) (b : Body) → Sound c from (seen b []) → IfSome b.download (λ r. (r.segment < segments_of c.film) × (r.rung < rungs_of c.film))
+range_ready c from b s = range_of c b.t b.download s.running
+
+pub room_ready : (c : Case) → IsCase c → (from : ℕ) (b : Body) → Sound c from (seen b []) → length b.loaded.items ≤ 2000
+room_ready c is from b s = loaded_most c is from (seen b []) s
+
+pub request_ready : (c : Case) → IsCase c → (n from : ℕ) (p : Player) (b : Body) → n < 1000000000000000 → Now c n from p b → CanRequest c.film c.setup c.rule (seen b [])
+request_ready c is n from p b low now =
+    let s = body_sound c n from p b now in
+    let here = body_instant c n from p b now in
+    record {
+      setup_fits = is.setup;
+      kind_fits = is.rule;
+      position = s.position;
+      end = end_most c is from (seen b []) s;
+      instant = omega (arith, here, low);
+      last = s.last;
+      forced = s.forced;
+    }
+
+pub pass_ready : (c : Case) → IsCase c → (n from : ℕ) (p : Player) (b : Body) → n < 1000000000000000 → Now c n from p b → CanPass (seen b [])
+pass_ready c is n from p b low now =
+    let s = body_sound c n from p b now in
+    let here = body_instant c n from p b now in
+    record {
+      position = s.position;
+      end = end_most c is from (seen b []) s;
+      instant = omega (arith, here, low);
+      times = s.times;
+      stalls = let few = stalls_most c is from (seen b []) s in omega (arith, few);
+    }
+
+-- ---- a network millisecond of the download
+
+credit_falls : (ps : List Period) (from n : ℕ) (j : Job) → (job_after ps from n j).credit ≤ j.credit
+credit_falls ps from zero j = let e = ap (λ (x : Job). x.credit) (job_start ps from j) in omega (arith, e)
+credit_falls ps from (suc n) j =
+    let e = ap (λ (x : Job). x.credit) (job_next ps from n j) in
+    let before = credit_falls ps from n j in
+    let fell = pass_falls (period_at ps (from + n)) (job_after ps from n j) in
+    omega (arith, e, before, fell)
+  where
+    pass_falls : (p : Period) (k : Job) → (pass p k).credit ≤ k.credit
+    pass_falls p k = grind arith
+
+-- the millisecond of an instant is spent on bits for the first time exactly where they begin
+spent_when : (c : Case) → IsCase c → (t : ℕ) (d : Download) → Runs c t d → d.first ≡ None → is_spent c.periods t d.job ≡ eqb t (first_at c.periods d.asked (asked_size c d))
+spent_when c is t d h none =
+    let ps = c.periods in
+    let bits = asked_size c d in
+    let first = first_at ps d.asked bits in
+    let asked = h.asked in
+    let here : d.asked + (t - d.asked) ≡ t = omega (arith, asked) in
+    let ahead : t ≤ first = ⊎_elim (λ (past : (first < t) × (d.first ≡ Some first)). absurd (some_none first (sym past.1 ∙ none))) (λ (later : (t ≤ first) × (d.first ≡ None)). later.0) (first_cases c is t d h) in
+    ⊎_elim
+    (λ (later : t < first).
+    false_from_ne_true (is_spent ps t d.job) (λ e. first_not_before ps d.asked bits (t - d.asked) (omega (arith, here, later))
+    (ap (λ m. is_spent ps m (job_after ps d.asked (t - d.asked) (start_job bits))) here ∙ ap (λ j. is_spent ps t j) (sym h.job) ∙ e))
+    ∙ sym (ne_eqb t first (λ e. absurd (omega (arith, e, later)))))
+    (λ (now : first ≤ t).
+    let same : first ≡ t = omega (arith, now, ahead) in
+    let spent = subst (λ m. is_spent ps m (job_after ps d.asked (m - d.asked) (start_job bits)) ≡ true) same (first_found ps is.trace d.asked bits).1 in
+    ap (λ j. is_spent ps t j) h.job ∙ spent ∙ sym (eq-eqb t first (sym same)))
+    (cases_lt t first)
+  where
+    some_none : (x : ℕ) → Some x ≡ None → ⊥
+    some_none x e = cc
+
+take_of : (c : Case) → IsCase c → (t : ℕ) (o : Option Running) → IfSome (option_map download_of o) (Runs c t) → IsTimed c.film c.periods o → IfSome o (CanTake c.periods t)
+take_of c is t None runs timed = tt
+take_of c is t (Some r) runs timed =
+    let d = download_of r in
+    let size = (asked_within c is t d runs).1 in
+    let job = runs.job in
+    let credit = credit_falls c.periods d.asked (t - d.asked) (start_job (asked_size c d)) in
+    let left = left_falls c.periods d.asked (t - d.asked) (start_job (asked_size c d)) in
+    let credit_is = ap (λ (j : Job). j.credit) job in
+    let left_is = ap (λ (j : Job). j.left) job in
+    record {
+      credit = omega (arith, credit, credit_is);
+      left = omega (arith, left, left_is, size);
+      begins = λ none. spent_when c is t d runs none ∙ ap (λ (m : ℕ). eqb t m) (sym timed);
+    }
+
+pub take_ready : (c : Case) → IsCase c → (n from : ℕ) (p : Player) (b : Body) → Now c n from p b → IfSome b.download (CanTake c.periods b.t)
+take_ready c is n from p b now = take_of c is b.t b.download (body_sound c n from p b now).running now.timed
