@@ -1,11 +1,10 @@
 -- The numbers of a sound player are small, and what its end shows.
-use Rattle.std.proofs.Common.{ℕ, ◌*◌, ◌+◌, ◌<◌, ◌≤◌, length, mul-le-mul, subst, arith}
+use Rattle.std.proofs.Common.{ℕ, ◌+◌, ◌<◌, ◌≤◌, length, mul-le-mul, arith}
 use Rattle.std.specs.List.{All}
-use Rattle.lab_model.specs.declared.context.Played.{Played}
 use Rattle.lab_model.specs.Film.{rungs_of, segments_of}
 use Rattle.player_core.specs.State.{Case, Player}
 use Rattle.player_core.specs.Session.{end_of, last_player}
-use Rattle.player_core.specs.Sound.{IsCase, IsOf, Sound, all_turns}
+use Rattle.player_core.specs.Sound.{IsCase, Sound, all_turns}
 use Rattle.player_core.proofs.Ends.{last_sound, last_t, played_bound}
 
 pub turns_most : (c : Case) → IsCase c → all_turns c ≤ 1152032
