@@ -8,3 +8,6 @@ mod plain;
 
 pub use clock::Clock;
 pub use job::{Job, Landing};
+
+#[cfg(test)]
+mod tests;
