@@ -10,16 +10,9 @@ use Rattle.lab_model.specs.Cycle.{IsTrace, cycle_ms}
 use Rattle.network_clock.specs.declared.job.Job.{Job}
 use Rattle.network_clock.specs.Network.{pass, spends, is_spent, job_after, period_at, start_job}
 use Rattle.network_clock.proofs.Periods.{latency_at, cycle_positive}
-use Rattle.network_clock.proofs.Sums.{sum_below, sum_below_grows, sum_below_at_least}
-use Rattle.network_clock.proofs.Turns.{flow, flow_turns}
-
--- the credit that a millisecond takes off a job: all of it where there is no latency
-abbrev pub used_in : Period → ℕ
-used_in p = cond (eqb p.latency 0) 100000000 (div_ceil 100000000 p.latency)
-
--- the bits that a millisecond can carry, in thousandths
-abbrev pub carried_in : Period → ℕ
-carried_in p = p.bandwidth
+use Rattle.network_clock.proofs.Sums.{sum_below_grows, sum_below_at_least}
+use Rattle.network_clock.proofs.Turns.{flow_turns}
+use Rattle.network_clock.specs.Flow.{carried_in, flow, sum_below, used_in}
 
 pub pass_credit : (p : Period) (j : Job) → j.credit ≤ 100000000 → (pass p j).credit ≡ j.credit - used_in p
 pass_credit p j h = grind (arith, nat_tests)

@@ -1,10 +1,6 @@
 -- Sums over the numbers below one.
 use Rattle.std.proofs.Common.{◌≡◌, ℕ, zero, suc, ◌+◌, ◌-◌, ◌*◌, ◌<◌, ◌≤◌, add-one, add-zero, add-suc, ap, refl, arith}
-
--- the sum of what a function gives at the numbers below one
-unfoldable pub sum_below : (ℕ → ℕ) → ℕ → ℕ
-sum_below f zero = 0
-sum_below f (suc n) = sum_below f n + f n
+use Rattle.network_clock.specs.Flow.{sum_below}
 
 pub sum_below_more : (f : ℕ → ℕ) (n : ℕ) → sum_below f (n + 1) ≡ sum_below f n + f n
 unfolding sum_below

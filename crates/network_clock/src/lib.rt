@@ -4,6 +4,7 @@
 
 mod clock;
 mod job;
+mod meter;
 mod plain;
 
 pub use clock::Clock;
