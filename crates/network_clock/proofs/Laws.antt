@@ -71,24 +71,27 @@ credit_after ps from (suc n) j h =
 pub free_spends : (p : Period) (j : Job) → j.credit ≡ 0 → spends p j ≡ true
 free_spends p j h = grind (arith, nat_tests)
 
-pub left_after : (ps : List Period) (from n : ℕ) (j : Job) → j.credit ≡ 0 → ((job_after ps from n j).credit ≡ 0) × ((job_after ps from n j).left ≡ (j.left + flow carried_in ps from) - flow carried_in ps (from + n))
+pub no_latency_spends : (p : Period) (j : Job) → p.latency ≡ 0 → spends p j ≡ true
+no_latency_spends p j h = grind (arith, nat_tests)
+
+-- once a millisecond is spent on bits, each later one is, and what is left falls by what they carry
+pub left_after : (ps : List Period) (from n : ℕ) (j : Job) → is_spent ps from j ≡ true
+    → (is_spent ps (from + n) (job_after ps from n j) ≡ true) × ((job_after ps from n j).left ≡ (j.left + flow carried_in ps from) - flow carried_in ps (from + n))
 left_after ps from zero j h =
     let start = job_start ps from j in
-    let credit = ap (λ (i : Job). i.credit) start in
     let left = ap (λ (i : Job). i.left) start in
-    (omega (arith, credit), rw add-zero (omega (arith, left)))
+    (rw (add-zero, start) h, rw add-zero (omega (arith, left)))
 left_after ps from (suc n) j h =
     let before = left_after ps from n j h in
     let p = period_at ps (from + n) in
-    let spent = free_spends p (job_after ps from n j) before.0 in
     let next = job_next ps from n j in
     let credit = ap (λ (i : Job). i.credit) next in
     let left = ap (λ (i : Job). i.left) next in
-    let free = pass_free p (job_after ps from n j) spent in
-    let one = pass_left p (job_after ps from n j) spent in
+    let free = pass_free p (job_after ps from n j) before.0 in
+    let one = pass_left p (job_after ps from n j) before.0 in
     let more = flow_next carried_in ps (from + n) in
     let was = before.1 in
-    (omega (arith, credit, free), rw add-suc (omega (arith, left, one, more, was)))
+    (free_spends (period_at ps (from + suc n)) (job_after ps from (suc n) j) (omega (arith, credit, free)), rw add-suc (omega (arith, left, one, more, was)))
 
 -- what is left never grows
 pub left_falls : (ps : List Period) (from n : ℕ) (j : Job) → (job_after ps from n j).left ≤ j.left
@@ -125,7 +128,7 @@ enough cycle = 200000000 / cycle + 1
 enough_ms : (cycle : ℕ) → 1 ≤ cycle → cycle ≤ 100000000 → (enough cycle * cycle ≤ 300000000) × (200000000 ≤ enough cycle * cycle)
 enough_ms cycle some few = (omega (arith, div-add-mod' 200000000 cycle, mod_below 200000000 cycle some), omega (arith, div-add-mod' 200000000 cycle, mod_below 200000000 cycle some))
 
-carries_enough : (ps : List Period) → IsTrace ps → (t n : ℕ) → 300000000 ≤ n → 200000000000 + flow carried_in ps t ≤ flow carried_in ps (t + n)
+pub carries_enough : (ps : List Period) → IsTrace ps → (t n : ℕ) → 300000000 ≤ n → 200000000000 + flow carried_in ps t ≤ flow carried_in ps (t + n)
 carries_enough ps h t n late =
     let q = enough (cycle_ms ps) in
     let ms = enough_ms (cycle_ms ps) (cycle_positive ps h) h.cycle in
@@ -144,7 +147,7 @@ jobs_end ps h from n j small few late =
     let i = job_after ps from 10000 j in
     let free = credit_ends ps h from 10000 j small (omega arith) in
     let falls = left_falls ps from 10000 j in
-    let after = (left_after ps (from + 10000) rest i free).1 in
+    let after = (left_after ps (from + 10000) rest i (free_spends (period_at ps (from + 10000)) i free)).1 in
     let enough = carries_enough ps h (from + 10000) rest (omega arith) in
     let whole = ap (λ (k : Job). k.left) (ap (λ m. job_after ps from m j) parts ∙ job_apart ps from 10000 rest j) in
     omega (arith, whole, after, enough, falls)

@@ -7,3 +7,4 @@ pub mod Defaults
 pub mod Laws
 pub mod Downloads
 pub mod Pace
+pub mod Openings

@@ -155,7 +155,8 @@ impl Meter {
 
     /// What is carried before an instant, in thousandths of a bit.
     pub fn carried_before(&self, instant: u64) -> u128
-        ensures { result ≡ flow carried_in self.now instant }
+        ensures value { result ≡ flow carried_in self.now instant }
+        ensures fits { result ≤ 10000000000 * instant }
     {
         let cycle = self.cycle();
         let whole = (instant / cycle) as u128 * self.total() as u128;

@@ -36,5 +36,5 @@ returns c =
     let total = c.total-total.ensures.value in
     let along = ap (λ n. ((c.args.target - 1) / c.total-total.result) * n) total in
     rw c.cycle.ensures.value
-        (reached_later c.args.self.now ((c.args.target - 1) / c.total-total.result) ((c.args.target - 1) % c.total-total.result + 1) c.args.target c.reach_in.result (omega (arith, parts, along))
-        c.reach_in.ensures.within.0 c.reach_in.ensures.within.1 c.reach_in.ensures.before c.reach_in.ensures.there)
+    (reached_later c.args.self.now ((c.args.target - 1) / c.total-total.result) ((c.args.target - 1) % c.total-total.result + 1) c.args.target c.reach_in.result (omega (arith, parts, along))
+    c.reach_in.ensures.within.0 c.reach_in.ensures.within.1 c.reach_in.ensures.before c.reach_in.ensures.there)
