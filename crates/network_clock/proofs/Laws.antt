@@ -1,5 +1,5 @@
 -- Laws of the network: what is left of a job after any number of milliseconds, and that a download ends.
-use Rattle.std.proofs.Common.{◌≡◌, ℕ, zero, suc, ◌+◌, ◌-◌, ◌*◌, ◌/◌, ◌<◌, ◌≤◌, true, false, cond, eqb, List, refl, sym, ◌∙◌, ap, ap₂, mul-le-mul_left, div-add-mod', add-one, add-zero, add-suc, ⊎_elim, arith}
+use Rattle.std.proofs.Common.{◌≡◌, ℕ, zero, suc, ◌+◌, ◌-◌, ◌*◌, ◌/◌, ◌<◌, ◌≤◌, true, false, List, refl, sym, ◌∙◌, ap, ap₂, mul-le-mul_left, div-add-mod', add-one, add-zero, add-suc, ⊎_elim, arith}
 use Rattle.std.specs.Int.{div_ceil}
 use Rattle.std.proofs.lemmas.Bool.{cases_Bool, cases_eq, eq-eqb, ne_eqb}
 use Rattle.std.proofs.lemmas.Bool.Decides.{nat_tests}

@@ -8,3 +8,4 @@ pub mod Laws
 pub mod Downloads
 pub mod Pace
 pub mod Openings
+pub mod Order

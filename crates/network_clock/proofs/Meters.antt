@@ -1,5 +1,5 @@
 -- The sums of a meter say what is carried up to any instant of the first cycle.
-use Rattle.std.proofs.Common.{◌≡◌, ℕ, zero, suc, ◌+◌, ◌-◌, ◌*◌, ◌/◌, ◌%◌, ◌<◌, ◌≤◌, min, List, [], ◌∷◌, ◌++◌, length, get_or, take, refl, sym, ◌∙◌, ap, subst, sum_by, add-one, ⊎_elim, mul-le-mul_left, lt_of_mul-lt-mul_right, div-mul-le_self, le-mul_of_pos_right, arith}
+use Rattle.std.proofs.Common.{◌≡◌, ℕ, zero, suc, ◌+◌, ◌-◌, ◌*◌, ◌/◌, ◌%◌, ◌<◌, ◌≤◌, List, [], ◌∷◌, ◌++◌, length, get_or, take, refl, sym, ◌∙◌, ap, sum_by, add-one, ⊎_elim, mul-le-mul_left, lt_of_mul-lt-mul_right, div-mul-le_self, le-mul_of_pos_right, arith}
 use Rattle.std.specs.List.{All}
 use Rattle.std.specs.Int.{div_ceil}
 use Rattle.std.proofs.lemmas.Bool.{cases_lt}
@@ -11,7 +11,7 @@ use Rattle.std.proofs.lemmas.Nat.{mod_below}
 use Rattle.std.proofs.Math.Seq.{get_or-append_seam, take-length}
 use Rattle.lab_model.specs.declared.trace.Period.{Period}
 use Rattle.lab_model.specs.Cycle.{IsPeriod, IsTrace, cycle_bits, cycle_ms}
-use Rattle.network_clock.specs.Network.{no_period, period_in}
+use Rattle.network_clock.specs.Network.{period_in}
 use Rattle.network_clock.specs.Flow.{AreSums, IsMeter, carried_in, flow, flow_in}
 use Rattle.network_clock.proofs.Periods.{cycle_positive, period_here, period_later}
 use Rattle.network_clock.proofs.Sums.{sum_below_grows}

@@ -1,9 +1,8 @@
 -- When the delay of a job is over, by the credit that the milliseconds use.
-use Rattle.std.proofs.Common.{◌≡◌, ℕ, zero, suc, ◌+◌, ◌-◌, ◌*◌, ◌/◌, ◌%◌, ◌<◌, ◌≤◌, ◌⊎◌, Bool, true, false, cond, eqb, List, [], ◌∷◌, length, map, get_or, refl, sym, ◌∙◌, ap, ap₂, subst, sum_by, ⊎_elim, eqb-true, eq-eqb, inl, inr, le-mul_of_pos_right, mul-le-mul_right, add-zero, add-one, mul-le-mul_left, mul_comm, arith}
+use Rattle.std.proofs.Common.{◌≡◌, ℕ, suc, ◌+◌, ◌-◌, ◌*◌, ◌%◌, ◌<◌, ◌≤◌, ◌⊎◌, true, eqb, List, [], ◌∷◌, get_or, refl, sym, ◌∙◌, ap, ap₂, ⊎_elim, eqb-true, eq-eqb, inl, inr, le-mul_of_pos_right, mul-le-mul_right, mul-le-mul_left, arith}
 use Rattle.std.specs.List.{All}
 use Rattle.std.specs.Int.{div_ceil}
-use Rattle.std.proofs.lemmas.Bool.{cases_Bool, cases_eq, cases_lt, or_cases, ne_eqb}
-use Rattle.std.proofs.lemmas.Bool.Decides.{nat_tests}
+use Rattle.std.proofs.lemmas.Bool.{cases_eq, cases_lt, or_cases, ne_eqb}
 use Rattle.std.proofs.lemmas.Grind.{div_ceil_times}
 use Rattle.std.proofs.lemmas.List.{length-map}
 use Rattle.std.proofs.lemmas.List.Elements.{All-head, All-map, All-tail}
@@ -12,7 +11,7 @@ use Rattle.std.proofs.lemmas.Nat.{mod_below}
 use Rattle.lab_model.specs.declared.trace.Period.{Period}
 use Rattle.lab_model.specs.Cycle.{IsPeriod, IsTrace, cycle_bits, cycle_ms}
 use Rattle.network_clock.specs.declared.job.Job.{Job}
-use Rattle.network_clock.specs.Network.{done_at, first_at, is_spent, job_after, longest_ms, period_at, period_in, spends, start_job}
+use Rattle.network_clock.specs.Network.{done_at, first_at, is_spent, job_after, period_at, period_in, spends, start_job}
 use Rattle.network_clock.specs.Flow.{Opens, Reaches, carried_in, delay_in, delay_of, flow, used_in}
 use Rattle.network_clock.proofs.Sums.{sum_below_at_least, sum_below_grows, sum_below_same}
 use Rattle.network_clock.proofs.Periods.{cycle_positive, latency_at, period_here, period_later}
@@ -95,7 +94,7 @@ uses_enough ps from h =
     let uses = sum_below_at_least (λ i. used_in (period_at ps i)) 10000 from 10000 (λ i. used_least (period_at ps i) (latency_at ps i h.periods)) in
     omega (arith, uses)
 
-spent_means : (p : Period) (j : Job) → spends p j ≡ true → (j.credit ≡ 0) ⊎ (p.latency ≡ 0)
+pub spent_means : (p : Period) (j : Job) → spends p j ≡ true → (j.credit ≡ 0) ⊎ (p.latency ≡ 0)
 spent_means p j h = ⊎_elim (λ free. inl (eqb-true j.credit 0 free)) (λ none. inr (eqb-true p.latency 0 none)) (or_cases (eqb j.credit 0) (eqb p.latency 0) h)
 
 no_latency_uses : (p : Period) → p.latency ≡ 0 → used_in p ≡ 100000000

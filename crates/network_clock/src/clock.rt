@@ -67,6 +67,7 @@ impl Clock {
         Self::of_periods(alloc, trace.periods()).map_err(|_| NoMemory)
     }
 
+    /// The clock of these periods.
     fn of_periods(alloc: Global, periods: &[Period]) -> Result<Clock, AllocError>
         requires { IsTrace periods.now }
         ensures { IfOk result (λ c. c ≡ periods.now) }
@@ -88,15 +89,14 @@ impl Clock {
         let used = self.delay.carried_before(from) + credit as u128;
         let end = self.delay.reach(used);
         let last = end - 1;
+        let latency = self.bits.period_at(last).latency;
         // a millisecond without latency uses up the credit, and is spent on bits itself
-        if self.bits.period_at(last).latency == 0 {
-            last
-        } else {
-            end
-        }
+        if latency == 0 { last } else { end }
     }
 
-    /// When a download of `bits` begins to take bits, and when it is done, if it is requested at `start`.
+    /// When a download of `bits`, 1 to 200000000, begins to take bits, and when it is done, if it is asked
+    /// for at `start`, at most 2 * 10^15. No download that is asked for later, and is no smaller, is done
+    /// earlier.
     pub fn finish(&self, start: u64, bits: u32) -> Landing
         requires start { start ≤ 2000000000000000 }
         requires bits { (1 ≤ bits) × (bits ≤ 200000000) }
@@ -105,6 +105,11 @@ impl Clock {
         ensures delays { (start ≤ result.first) × (result.first ≤ start + 10000) }
         ensures carries { result.first < result.done }
         ensures ends { result.done < start + 410000000 }
+        ensures ordered { (later more : ℕ)
+            → start ≤ later
+            → bits ≤ more
+            → more ≤ 200000000
+            → result.done ≤ done_at self.now later more }
         ensures trace { IsTrace self.now }
     {
         let first = self.first_from(start, 100_000_000);
@@ -113,7 +118,7 @@ impl Clock {
         Landing { first, done }
     }
 
-    /// The job after the milliseconds `from` to `to - 1`.
+    /// The job after the milliseconds `from` to `to - 1`, at most 2 * 10^15.
     pub fn advance(&self, job: Job, from: u64, to: u64) -> Job
         requires order { from ≤ to }
         requires instants { to ≤ 2000000000000000 }

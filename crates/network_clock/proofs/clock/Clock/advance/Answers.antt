@@ -1,4 +1,4 @@
-use Rattle.std.proofs.Common.{◌≡◌, ℕ, ◌-◌, ◌∙◌, ap, sym, arith}
+use Rattle.std.proofs.Common.{◌≡◌, ◌-◌, ◌∙◌, ap, sym, arith}
 use Rattle.network_clock.specs.declared.job.Job.{Job}
 use Rattle.network_clock.specs.Flow.{Opens, carried_in, flow, used_in}
 use Rattle.network_clock.specs.Network.{job_after, period_at}

@@ -1,10 +1,11 @@
-use Rattle.std.proofs.Common.{◌≡◌, ◌+◌, ◌*◌, ◌≤◌, ◌∙◌, ap, arith}
+use Rattle.std.proofs.Common.{◌≡◌, ◌+◌, ◌*◌, arith}
 use Rattle.lab_model.specs.Cycle.{IsTrace}
-use Rattle.network_clock.specs.Flow.{Opens, Reaches, carried_in, flow}
+use Rattle.network_clock.specs.Flow.{Reaches, carried_in, flow}
 use Rattle.network_clock.specs.Network.{done_at, first_at, period_at}
 use Rattle.network_clock.proofs.Downloads.{done_found, first_before_done}
 use Rattle.network_clock.proofs.Laws.{carries_enough}
 use Rattle.network_clock.proofs.Openings.{done_reached, first_opens}
+use Rattle.network_clock.proofs.Order.{first_in_first_out}
 use Rattle.network_clock.proofs.Sums.{sum_below_grows}
 use Rattle.network_clock.proofs.clock.Clock.finish.Goals as goal
 use Rattle.network_clock.proofs.clock.Clock.finish.Goals.{After-reach-done}
@@ -47,3 +48,9 @@ returns-clause-ends c =
     let found = (done_found c.args.self.now (trace c) c.args.start c.args.bits c.requires.bits.1).0 in
     let end = done c in
     omega (arith, found, end)
+
+pub returns-clause-ordered : goal.returns-clause-ordered
+returns-clause-ordered c = λ later more before fewer few.
+    let ordered = first_in_first_out c.args.self.now (trace c) c.args.start later c.args.bits more before fewer few in
+    let end = done c in
+    omega (arith, ordered, end)

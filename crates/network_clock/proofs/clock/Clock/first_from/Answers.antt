@@ -1,6 +1,6 @@
-use Rattle.std.proofs.Common.{◌≡◌, ℕ, ◌+◌, ◌-◌, ◌<◌, ◌≤◌, ◌∙◌, ap, sym, arith}
+use Rattle.std.proofs.Common.{◌≡◌, ℕ, ◌+◌, ◌∙◌, ap, sym, arith}
 use Rattle.lab_model.specs.declared.trace.Period.{Period}
-use Rattle.network_clock.specs.Flow.{Opens, carried_in, flow, used_in}
+use Rattle.network_clock.specs.Flow.{carried_in, flow, used_in}
 use Rattle.network_clock.specs.Network.{period_at}
 use Rattle.network_clock.proofs.Sums.{sum_below_grows}
 use Rattle.network_clock.proofs.Openings.{delay_flow_of, opens_at_end, opens_before_end, opens_now, used_up, uses_enough}
@@ -22,17 +22,17 @@ reach-end-requires-clause-soon c =
     let late = used c 3000000000000000 in
     omega (arith, enough, grows, here, late, c.carried_before.ensures.value)
 
-pub returns-then-period_at-eq0 : goal.returns-then-period_at-eq0
-returns-then-period_at-eq0 c =
+pub returns-then-latency-eq0 : goal.returns-then-latency-eq0
+returns-then-latency-eq0 c =
     let ps = c.self.inside.bits in
     let up = used_up c.self.inside.delay ps c.args.from c.args.credit c.carried_before.result c.reach-end.result c.self.invariant.0 c.self.invariant.1 c.carried_before.ensures.value c.reach-end.ensures in
-    let latency = sym (ap (λ (p : Period). p.latency) c.period_at.ensures) ∙ c.if-period_at-eq0.true in
+    let latency = sym (ap (λ (p : Period). p.latency) c.period_at-latency.ensures) ∙ c.if-latency-eq0.true in
     rw (← c.self.view_is) (opens_before_end ps c.self.invariant.0 c.args.from c.args.credit c.reach-end.result (omega (arith, c.if-credit-eq0.false)) c.requires.credit up.0 up.1 latency)
 
-pub returns-else-period_at-eq0 : goal.returns-else-period_at-eq0
-returns-else-period_at-eq0 c =
+pub returns-else-latency-eq0 : goal.returns-else-latency-eq0
+returns-else-latency-eq0 c =
     let ps = c.self.inside.bits in
     let up = used_up c.self.inside.delay ps c.args.from c.args.credit c.carried_before.result c.reach-end.result c.self.invariant.0 c.self.invariant.1 c.carried_before.ensures.value c.reach-end.ensures in
     rw (← c.self.view_is)
     (opens_at_end ps c.self.invariant.0 c.args.from c.args.credit c.reach-end.result (omega (arith, c.if-credit-eq0.false)) c.requires.credit up.0 up.1
-    (λ none. c.if-period_at-eq0.false (ap (λ (p : Period). p.latency) c.period_at.ensures ∙ none)))
+    (λ none. c.if-latency-eq0.false (ap (λ (p : Period). p.latency) c.period_at-latency.ensures ∙ none)))

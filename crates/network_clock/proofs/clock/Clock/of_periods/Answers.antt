@@ -1,4 +1,3 @@
-use Rattle.std.proofs.Common.{arith}
 use Rattle.network_clock.proofs.Openings.{delay_trace}
 use Rattle.network_clock.proofs.clock.Clock.of_periods.Goals as goal
 

@@ -1,6 +1,6 @@
 use Rattle.std.proofs.Common.{◌≡◌, ◌+◌, ◌*◌, ◌/◌, ◌%◌, ◌∙◌, ap, ap₂, sym, arith}
 use Rattle.std.proofs.lemmas.Nat.{mod_below}
-use Rattle.lab_model.specs.Cycle.{cycle_bits, cycle_ms}
+use Rattle.lab_model.specs.Cycle.{cycle_ms}
 use Rattle.network_clock.specs.Flow.{carried_in, flow, flow_in}
 use Rattle.network_clock.proofs.Turns.{flow_divided}
 use Rattle.network_clock.specs.Network.{period_at}

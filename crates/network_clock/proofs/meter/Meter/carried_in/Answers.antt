@@ -1,5 +1,4 @@
 use Rattle.std.proofs.Common.{◌≡◌, ◌+◌, ◌-◌, ◌*◌, ◌∙◌, ap, arith}
-use Rattle.lab_model.specs.Cycle.{cycle_bits, cycle_ms}
 use Rattle.network_clock.specs.Flow.{carried_in, flow_in}
 use Rattle.network_clock.proofs.Meters.{bits_fit, carried_at, flow_in_fits, stands}
 use Rattle.network_clock.proofs.meter.Meter.carried_in.Goals as goal

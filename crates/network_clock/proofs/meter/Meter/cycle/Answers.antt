@@ -1,4 +1,4 @@
-use Rattle.std.proofs.Common.{◌∙◌, sym, arith}
+use Rattle.std.proofs.Common.{arith}
 use Rattle.lab_model.specs.declared.trace.Period.{Period}
 use Rattle.network_clock.proofs.Meters.{sums_last}
 use Rattle.network_clock.proofs.Periods.{cycle_positive}

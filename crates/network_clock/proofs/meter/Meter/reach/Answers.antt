@@ -1,5 +1,5 @@
-use Rattle.std.proofs.Common.{◌≡◌, ◌+◌, ◌-◌, ◌*◌, ◌/◌, ◌%◌, ◌≤◌, ap, ap₂, arith}
-use Rattle.lab_model.specs.Cycle.{cycle_bits, cycle_ms}
+use Rattle.std.proofs.Common.{◌+◌, ◌-◌, ◌*◌, ◌/◌, ◌%◌, ◌≤◌, ap, arith}
+use Rattle.lab_model.specs.Cycle.{cycle_ms}
 use Rattle.network_clock.proofs.Meters.{turns_soon}
 use Rattle.network_clock.proofs.Turns.{reach_turns, reached_later}
 use Rattle.network_clock.proofs.meter.Meter.reach.Goals as goal

@@ -1,4 +1,4 @@
-use Rattle.std.proofs.Common.{◌≡◌, ◌+◌, ◌-◌, ◌∙◌, ap, subst, arith}
+use Rattle.std.proofs.Common.{◌+◌, arith}
 use Rattle.network_clock.proofs.Meters.{ReachesIn, reached_at, stands}
 use Rattle.network_clock.proofs.meter.Meter.reach_in.Goals as goal
 use Rattle.network_clock.proofs.meter.Meter.reach_in.Goals.{After-div_ceil}
