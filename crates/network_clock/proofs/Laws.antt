@@ -1,5 +1,5 @@
 -- Laws of the network: what is left of a job after any number of milliseconds, and that a download ends.
-use Rattle.std.proofs.Common.{◌≡◌, ℕ, zero, suc, ◌+◌, ◌-◌, ◌*◌, ◌/◌, ◌<◌, ◌≤◌, true, false, cond, eqb, List, refl, sym, ◌∙◌, ap, ap₂, mul-le-mul_left, div-add-mod', add-one, add-zero, add-suc, ⊎_elim, arith}
+use Rattle.std.proofs.Common.{◌≡◌, ℕ, zero, suc, ◌+◌, ◌-◌, ◌*◌, ◌/◌, ◌<◌, ◌≤◌, true, false, List, refl, sym, ◌∙◌, ap, ap₂, mul-le-mul_left, div-add-mod', add-one, add-zero, add-suc, ⊎_elim, arith}
 use Rattle.std.specs.Int.{div_ceil}
 use Rattle.std.proofs.lemmas.Bool.{cases_Bool, cases_eq, eq-eqb, ne_eqb}
 use Rattle.std.proofs.lemmas.Bool.Decides.{nat_tests}
@@ -10,16 +10,9 @@ use Rattle.lab_model.specs.Cycle.{IsTrace, cycle_ms}
 use Rattle.network_clock.specs.declared.job.Job.{Job}
 use Rattle.network_clock.specs.Network.{pass, spends, is_spent, job_after, period_at, start_job}
 use Rattle.network_clock.proofs.Periods.{latency_at, cycle_positive}
-use Rattle.network_clock.proofs.Sums.{sum_below, sum_below_grows, sum_below_at_least}
-use Rattle.network_clock.proofs.Turns.{flow, flow_turns}
-
--- the credit that a millisecond takes off a job: all of it where there is no latency
-abbrev pub used_in : Period → ℕ
-used_in p = cond (eqb p.latency 0) 100000000 (div_ceil 100000000 p.latency)
-
--- the bits that a millisecond can carry, in thousandths
-abbrev pub carried_in : Period → ℕ
-carried_in p = p.bandwidth
+use Rattle.network_clock.proofs.Sums.{sum_below_grows, sum_below_at_least}
+use Rattle.network_clock.proofs.Turns.{flow_turns}
+use Rattle.network_clock.specs.Flow.{carried_in, flow, sum_below, used_in}
 
 pub pass_credit : (p : Period) (j : Job) → j.credit ≤ 100000000 → (pass p j).credit ≡ j.credit - used_in p
 pass_credit p j h = grind (arith, nat_tests)
@@ -78,24 +71,27 @@ credit_after ps from (suc n) j h =
 pub free_spends : (p : Period) (j : Job) → j.credit ≡ 0 → spends p j ≡ true
 free_spends p j h = grind (arith, nat_tests)
 
-pub left_after : (ps : List Period) (from n : ℕ) (j : Job) → j.credit ≡ 0 → ((job_after ps from n j).credit ≡ 0) × ((job_after ps from n j).left ≡ (j.left + flow carried_in ps from) - flow carried_in ps (from + n))
+pub no_latency_spends : (p : Period) (j : Job) → p.latency ≡ 0 → spends p j ≡ true
+no_latency_spends p j h = grind (arith, nat_tests)
+
+-- once a millisecond is spent on bits, each later one is, and what is left falls by what they carry
+pub left_after : (ps : List Period) (from n : ℕ) (j : Job) → is_spent ps from j ≡ true
+    → (is_spent ps (from + n) (job_after ps from n j) ≡ true) × ((job_after ps from n j).left ≡ (j.left + flow carried_in ps from) - flow carried_in ps (from + n))
 left_after ps from zero j h =
     let start = job_start ps from j in
-    let credit = ap (λ (i : Job). i.credit) start in
     let left = ap (λ (i : Job). i.left) start in
-    (omega (arith, credit), rw add-zero (omega (arith, left)))
+    (rw (add-zero, start) h, rw add-zero (omega (arith, left)))
 left_after ps from (suc n) j h =
     let before = left_after ps from n j h in
     let p = period_at ps (from + n) in
-    let spent = free_spends p (job_after ps from n j) before.0 in
     let next = job_next ps from n j in
     let credit = ap (λ (i : Job). i.credit) next in
     let left = ap (λ (i : Job). i.left) next in
-    let free = pass_free p (job_after ps from n j) spent in
-    let one = pass_left p (job_after ps from n j) spent in
+    let free = pass_free p (job_after ps from n j) before.0 in
+    let one = pass_left p (job_after ps from n j) before.0 in
     let more = flow_next carried_in ps (from + n) in
     let was = before.1 in
-    (omega (arith, credit, free), rw add-suc (omega (arith, left, one, more, was)))
+    (free_spends (period_at ps (from + suc n)) (job_after ps from (suc n) j) (omega (arith, credit, free)), rw add-suc (omega (arith, left, one, more, was)))
 
 -- what is left never grows
 pub left_falls : (ps : List Period) (from n : ℕ) (j : Job) → (job_after ps from n j).left ≤ j.left
@@ -132,7 +128,7 @@ enough cycle = 200000000 / cycle + 1
 enough_ms : (cycle : ℕ) → 1 ≤ cycle → cycle ≤ 100000000 → (enough cycle * cycle ≤ 300000000) × (200000000 ≤ enough cycle * cycle)
 enough_ms cycle some few = (omega (arith, div-add-mod' 200000000 cycle, mod_below 200000000 cycle some), omega (arith, div-add-mod' 200000000 cycle, mod_below 200000000 cycle some))
 
-carries_enough : (ps : List Period) → IsTrace ps → (t n : ℕ) → 300000000 ≤ n → 200000000000 + flow carried_in ps t ≤ flow carried_in ps (t + n)
+pub carries_enough : (ps : List Period) → IsTrace ps → (t n : ℕ) → 300000000 ≤ n → 200000000000 + flow carried_in ps t ≤ flow carried_in ps (t + n)
 carries_enough ps h t n late =
     let q = enough (cycle_ms ps) in
     let ms = enough_ms (cycle_ms ps) (cycle_positive ps h) h.cycle in
@@ -151,7 +147,7 @@ jobs_end ps h from n j small few late =
     let i = job_after ps from 10000 j in
     let free = credit_ends ps h from 10000 j small (omega arith) in
     let falls = left_falls ps from 10000 j in
-    let after = (left_after ps (from + 10000) rest i free).1 in
+    let after = (left_after ps (from + 10000) rest i (free_spends (period_at ps (from + 10000)) i free)).1 in
     let enough = carries_enough ps h (from + 10000) rest (omega arith) in
     let whole = ap (λ (k : Job). k.left) (ap (λ m. job_after ps from m j) parts ∙ job_apart ps from 10000 rest j) in
     omega (arith, whole, after, enough, falls)

@@ -1,26 +1,12 @@
 -- How fast a download can run: no millisecond of a trace carries more than ten million bits.
-use Rattle.std.proofs.Common.{◌≡◌, ℕ, zero, suc, ◌+◌, ◌-◌, ◌*◌, ◌≤◌, true, false, List, [], ◌∷◌, ap, ⊎_elim, ◌%◌, arith}
-use Rattle.std.specs.List.{All}
-use Rattle.std.proofs.lemmas.Bool.{cases_Bool, cases_lt}
-use Rattle.std.proofs.lemmas.List.Elements.{All-head, All-tail}
+use Rattle.std.proofs.Common.{◌≡◌, ℕ, zero, suc, ◌+◌, ◌*◌, ◌≤◌, true, false, List, ap, ⊎_elim, arith}
+use Rattle.std.proofs.lemmas.Bool.{cases_Bool}
 use Rattle.lab_model.specs.declared.trace.Period.{Period}
-use Rattle.lab_model.specs.Cycle.{IsPeriod, IsTrace, cycle_ms}
+use Rattle.lab_model.specs.Cycle.{IsTrace}
 use Rattle.network_clock.specs.declared.job.Job.{Job}
-use Rattle.network_clock.specs.Network.{job_after, period_at, period_in, spends}
-use Rattle.network_clock.proofs.Periods.{period_here, period_later, period_nowhere}
+use Rattle.network_clock.specs.Network.{job_after, period_at, spends}
+use Rattle.network_clock.proofs.Periods.{bandwidth_at}
 use Rattle.network_clock.proofs.Laws.{job_start, job_next, pass_left, pass_delay}
-
-bandwidth_in : (ps : List Period) (t : ℕ) → All IsPeriod ps → (period_in ps t).bandwidth ≤ 10000000000
-bandwidth_in [] t h = rw (period_nowhere t) (omega arith)
-bandwidth_in (p ∷ ps) t h =
-    let first = All-head IsPeriod p ps h in
-    let b = first.bandwidth in
-    let rest = bandwidth_in ps (t - p.duration_ms) (All-tail IsPeriod p ps h) in
-    ⊎_elim (λ inside. rw (period_here p ps t inside) b) (λ outside. rw (period_later p ps t outside) rest) (cases_lt t p.duration_ms)
-
-pub bandwidth_at : (ps : List Period) (t : ℕ) → IsTrace ps → (period_at ps t).bandwidth ≤ 10000000000
-unfolding period_at
-bandwidth_at ps t h = bandwidth_in ps (t % cycle_ms ps) h.periods
 
 -- what is left of a job falls by at most that much each millisecond
 pub left_slow : (ps : List Period) → IsTrace ps → (from n : ℕ) (j : Job) → j.left ≤ (job_after ps from n j).left + n * 10000000000
@@ -28,7 +14,7 @@ left_slow ps h from zero j = let left = ap (λ (i : Job). i.left) (job_start ps 
 left_slow ps h from (suc n) j =
     let before = left_slow ps h from n j in
     let p = period_at ps (from + n) in
-    let most = bandwidth_at ps (from + n) h in
+    let most = bandwidth_at ps (from + n) h.periods in
     let left = ap (λ (i : Job). i.left) (job_next ps from n j) in
     ⊎_elim (λ (spent : spends p (job_after ps from n j) ≡ true). let one = pass_left p (job_after ps from n j) spent in omega (arith, left, one, before, most))
     (λ (delay : spends p (job_after ps from n j) ≡ false). let one = pass_delay p (job_after ps from n j) delay in omega (arith, left, one, before)) (cases_Bool (spends p (job_after ps from n j)))

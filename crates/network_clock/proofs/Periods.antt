@@ -40,6 +40,18 @@ latency_in (p ∷ ps) t h =
     let rest = latency_in ps (t - p.duration_ms) (All-tail IsPeriod p ps h) in
     ⊎_elim (λ inside. rw (period_here p ps t inside) l) (λ outside. rw (period_later p ps t outside) rest) (cases_lt t p.duration_ms)
 
+pub bandwidth_in : (ps : List Period) (t : ℕ) → All IsPeriod ps → (period_in ps t).bandwidth ≤ 10000000000
+bandwidth_in [] t h = rw (period_nowhere t) (omega arith)
+bandwidth_in (p ∷ ps) t h =
+    let first = All-head IsPeriod p ps h in
+    let l = first.bandwidth in
+    let rest = bandwidth_in ps (t - p.duration_ms) (All-tail IsPeriod p ps h) in
+    ⊎_elim (λ inside. rw (period_here p ps t inside) l) (λ outside. rw (period_later p ps t outside) rest) (cases_lt t p.duration_ms)
+
+pub bandwidth_at : (ps : List Period) (t : ℕ) → All IsPeriod ps → (period_at ps t).bandwidth ≤ 10000000000
+unfolding period_at
+bandwidth_at ps t h = bandwidth_in ps (t % cycle_ms ps) h
+
 pub latency_at : (ps : List Period) (t : ℕ) → All IsPeriod ps → (period_at ps t).latency ≤ 10000
 unfolding period_at
 latency_at ps t h = latency_in ps (t % cycle_ms ps) h

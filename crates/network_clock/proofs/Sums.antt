@@ -1,10 +1,6 @@
 -- Sums over the numbers below one.
 use Rattle.std.proofs.Common.{◌≡◌, ℕ, zero, suc, ◌+◌, ◌-◌, ◌*◌, ◌<◌, ◌≤◌, add-one, add-zero, add-suc, ap, refl, arith}
-
--- the sum of what a function gives at the numbers below one
-unfoldable pub sum_below : (ℕ → ℕ) → ℕ → ℕ
-sum_below f zero = 0
-sum_below f (suc n) = sum_below f n + f n
+use Rattle.network_clock.specs.Flow.{sum_below}
 
 pub sum_below_more : (f : ℕ → ℕ) (n : ℕ) → sum_below f (n + 1) ≡ sum_below f n + f n
 unfolding sum_below
@@ -33,3 +29,9 @@ sum_below_at_least f c a (suc n) h = let e = sum_below_at_least f c a n h in let
 
 pub sum_below_grows : (f : ℕ → ℕ) (a b : ℕ) → a ≤ b → sum_below f a ≤ sum_below f b
 sum_below_grows f a b h = let e = sum_below_add f a (b - a) in let q : a + (b - a) ≡ b = omega arith in let w = ap (sum_below f) q in omega (arith, e, w)
+
+-- at most so much each
+pub sum_below_at_most : (f : ℕ → ℕ) (c n : ℕ) → ((i : ℕ) → f i ≤ c) → sum_below f n ≤ n * c
+unfolding sum_below
+sum_below_at_most f c zero h = omega arith
+sum_below_at_most f c (suc n) h = let e = sum_below_at_most f c n h in let l = h n in omega (arith, e, l)

@@ -1,20 +1,14 @@
 -- What the milliseconds up to an instant bring: whole cycles, and a part of one.
-use Rattle.std.proofs.Common.{◌≡◌, ℕ, zero, suc, ◌+◌, ◌-◌, ◌*◌, ◌<◌, ◌≤◌, List, [], ◌∷◌, refl, ◌∙◌, ap, sum_by, zero-mul, zero-add, mod-eq_of_lt, arith}
+use Rattle.std.proofs.Common.{◌≡◌, ℕ, zero, suc, ◌+◌, ◌-◌, ◌*◌, ◌/◌, ◌%◌, ◌<◌, ◌≤◌, List, [], ◌∷◌, refl, sym, ◌∙◌, ap, sum_by, mul-le-mul_right, lt_of_mul-lt-mul_right, zero-mul, zero-add, mod-eq_of_lt, div-add-mod', arith}
 use Rattle.std.proofs.Math.Nat.{add-mod_left}
 use Rattle.std.proofs.lemmas.List.Sums.{sum_by-cons}
+use Rattle.std.proofs.lemmas.Nat.{mod_below}
 use Rattle.lab_model.specs.declared.trace.Period.{Period}
-use Rattle.lab_model.specs.Cycle.{cycle_ms}
+use Rattle.lab_model.specs.Cycle.{cycle_bits, cycle_ms}
 use Rattle.network_clock.specs.Network.{period_at, period_in}
 use Rattle.network_clock.proofs.Periods.{period_here, period_later}
-use Rattle.network_clock.proofs.Sums.{sum_below, sum_below_same, sum_below_constant, sum_below_add}
-
--- what the milliseconds below an instant of the first cycle bring, each at its period's rate
-abbrev pub flow_in : (Period → ℕ) → List Period → ℕ → ℕ
-flow_in rate ps t = sum_below (λ i. rate (period_in ps i)) t
-
--- what the milliseconds below an instant bring
-abbrev pub flow : (Period → ℕ) → List Period → ℕ → ℕ
-flow rate ps t = sum_below (λ i. rate (period_at ps i)) t
+use Rattle.network_clock.proofs.Sums.{sum_below_same, sum_below_constant, sum_below_add}
+use Rattle.network_clock.specs.Flow.{Reaches, carried_in, flow, flow_in, sum_below}
 
 -- what a cycle brings
 abbrev pub cycle_flow : (Period → ℕ) → List Period → ℕ
@@ -62,3 +56,42 @@ flow_turns rate ps (suc turns) t =
     let one = flow_turn rate ps (turns * cycle_ms ps + t) in
     let more = flow_turns rate ps turns t in
     ap (flow rate ps) along ∙ omega (arith, one, more)
+
+-- whole cycles by division, and the rest
+pub flow_divided : (rate : Period → ℕ) (ps : List Period) (t : ℕ) → 1 ≤ cycle_ms ps → flow rate ps t ≡ (t / cycle_ms ps) * cycle_flow rate ps + flow_in rate ps (t % cycle_ms ps)
+flow_divided rate ps t some =
+    let parts = div-add-mod' t (cycle_ms ps) in
+    let below = mod_below t (cycle_ms ps) some in
+    let turns = flow_turns rate ps (t / cycle_ms ps) (t % cycle_ms ps) in
+    let rest = flow_start rate ps (t % cycle_ms ps) (omega arith) in
+    ap (flow rate ps) (sym parts) ∙ omega (arith, turns, rest)
+
+-- so many cycles by division of what is to be carried, and the rest of it
+pub reach_turns : (target total : ℕ) → 1 ≤ target → 1 ≤ total → (((target - 1) / total) * total + ((target - 1) % total + 1) ≡ target) × ((target - 1) % total + 1 ≤ total)
+reach_turns target total some all =
+    let parts = div-add-mod' (target - 1) total in
+    let below = mod_below (target - 1) total all in
+    (omega (arith, parts), omega (arith, below))
+
+-- before an instant there are only so many cycles
+pub turns_few : (ps : List Period) (turns t : ℕ) → 1 ≤ cycle_ms ps → flow_in carried_in ps (t % cycle_ms ps) ≤ cycle_bits ps → turns * cycle_bits ps < flow carried_in ps t → turns * cycle_ms ps ≤ t
+turns_few ps turns t some part below =
+    let divided = flow_divided carried_in ps t some in
+    let few : turns < t / cycle_ms ps + 1 = lt_of_mul-lt-mul_right (cycle_bits ps) (omega (arith, divided, part, below)) in
+    let product : turns * cycle_ms ps ≤ (t / cycle_ms ps) * cycle_ms ps = mul-le-mul_right (cycle_ms ps) (omega (arith, few)) in
+    let parts = div-add-mod' t (cycle_ms ps) in
+    omega (arith, product, parts)
+
+-- what is reached in the first cycle, so many cycles later
+pub reached_later : (ps : List Period) (turns rest target within : ℕ) → turns * cycle_bits ps + rest ≡ target → 1 ≤ within → within ≤ cycle_ms ps → flow_in carried_in ps (within - 1) < rest → rest ≤ flow_in carried_in ps within → Reaches ps target (turns * cycle_ms ps + within)
+reached_later ps turns rest target within parts some all before there =
+    let at = flow_turns carried_in ps turns within in
+    let at_before = flow_turns carried_in ps turns (within - 1) in
+    let first = flow_start carried_in ps within all in
+    let first_before = flow_start carried_in ps (within - 1) (omega arith) in
+    let back : (turns * cycle_ms ps + within) - 1 ≡ turns * cycle_ms ps + (within - 1) = omega arith in
+    let moved = ap (flow carried_in ps) back in
+    record {
+      before = omega (arith, moved, at_before, first_before, before, parts);
+      there = omega (arith, at, first, there, parts);
+    }

@@ -1,2 +1,3 @@
+pub mod Flow
 pub mod Network
 pub mod Search

@@ -2,45 +2,101 @@
 
 ghost use Rattle.std.specs.Prelude.{◌≡◌, ℕ, ◌+◌, ◌-◌, ◌*◌, ◌<◌, ◌≤◌, IfOk};
 ghost use Rattle.lab_model.specs.Cycle.{IsTrace};
+ghost use Rattle.network_clock.specs.Flow.{Opens, delay_in, delay_of, used_in};
 ghost use Rattle.network_clock.specs.Network.{done_at, first_at, job_after};
 
 use crate::job::{Job, Landing};
-use crate::plain;
+use crate::meter::Meter;
 use lab_model::{NoMemory, Period, Trace};
-use std::alloc::Global;
+use std::alloc::{AllocError, Global};
 use std::marker::Model;
+
+/// The credit that a millisecond in this period uses: all of it where there is no latency.
+fn used_in(period: Period) -> u64
+    ensures { result ≡ used_in period }
+{
+    if period.latency == 0 {
+        return 100_000_000;
+    }
+    100_000_000u64.div_ceil(period.latency as u64)
+}
+
+/// The period's delay as a period: what a millisecond carries is the credit that it uses.
+fn delay_in(period: Period) -> Period
+    ensures { result ≡ delay_in period }
+{
+    Period {
+        bandwidth: used_in(period),
+        ..period
+    }
+}
+
+/// The delay of a trace as a trace.
+fn delay_of(alloc: Global, periods: &[Period]) -> Result<Vec<Period>, AllocError>
+    ensures { IfOk result (λ v. v.items ≡ delay_of periods.now) }
+{
+    periods.iter().map(|p| delay_in(*p)).collect(alloc)
+}
 
 /// The clock of a trace: it answers for any instant.
 #[derive(Drop)]
 pub struct Clock {
-    periods: Vec<Period>,
+    delay: Meter,
+    bits: Meter,
 }
 
 impl Model for Clock {
-    ghost use Rattle.std.specs.Prelude.{List};
+    ghost use Rattle.std.specs.Prelude.{◌≡◌, List};
     ghost use Rattle.lab_model.specs.declared.trace.Period.{Period};
     ghost use Rattle.lab_model.specs.Cycle.{IsTrace};
+    ghost use Rattle.network_clock.specs.Flow.{delay_of};
 
     ghost Value = { List Period };
 
-    ghost view = { λ c. c.periods.items };
+    ghost view = { λ c. c.bits };
 
-    ghost invariant = { λ c. IsTrace c.periods.items };
+    ghost invariant = { λ c. IsTrace c.bits × (c.delay ≡ delay_of c.bits) };
 }
 
 impl Clock {
-    /// The clock of this trace. It keeps a copy of the periods.
+    /// The clock of this trace. It keeps the running sums of the trace.
     pub fn new(alloc: Global, trace: &Trace) -> Result<Clock, NoMemory>
         ensures clock { IfOk result (λ c. c ≡ trace.now) }
         ensures trace { IsTrace trace.now }
     {
-        match Vec::from_slice(alloc, trace.periods()) {
-            Ok(periods) => Ok(Clock { periods }),
-            Err(_) => Err(NoMemory),
-        }
+        Self::of_periods(alloc, trace.periods()).map_err(|_| NoMemory)
     }
 
-    /// When a download of `bits` begins to take bits, and when it is done, if it is requested at `start`.
+    /// The clock of these periods.
+    fn of_periods(alloc: Global, periods: &[Period]) -> Result<Clock, AllocError>
+        requires { IsTrace periods.now }
+        ensures { IfOk result (λ c. c ≡ periods.now) }
+    {
+        let bits = Meter::new(alloc, Vec::from_slice(alloc, periods)?)?;
+        let delay = Meter::new(alloc, delay_of(alloc, periods)?)?;
+        Ok(Clock { delay, bits })
+    }
+
+    /// The least instant from `from` on whose millisecond is spent on the bits of a job with this credit.
+    fn first_from(&self, from: u64, credit: u32) -> u64
+        requires from { from ≤ 2000000000000000 }
+        requires credit { credit ≤ 100000000 }
+        ensures { Opens self.now from credit result }
+    {
+        if credit == 0 {
+            return from;
+        }
+        let used = self.delay.carried_before(from) + credit as u128;
+        let end = self.delay.reach(used);
+        let last = end - 1;
+        let latency = self.bits.period_at(last).latency;
+        // a millisecond without latency uses up the credit, and is spent on bits itself
+        if latency == 0 { last } else { end }
+    }
+
+    /// When a download of `bits`, 1 to 200000000, begins to take bits, and when it is done, if it is asked
+    /// for at `start`, at most 2 * 10^15. No download that is asked for later, and is no smaller, is done
+    /// earlier.
     pub fn finish(&self, start: u64, bits: u32) -> Landing
         requires start { start ≤ 2000000000000000 }
         requires bits { (1 ≤ bits) × (bits ≤ 200000000) }
@@ -49,13 +105,17 @@ impl Clock {
         ensures delays { (start ≤ result.first) × (result.first ≤ start + 10000) }
         ensures carries { result.first < result.done }
         ensures ends { result.done < start + 410000000 }
+        ensures ordered { (later more : ℕ)
+            → start ≤ later
+            → bits ≤ more
+            → more ≤ 200000000
+            → result.done ≤ done_at self.now later more }
         ensures trace { IsTrace self.now }
     {
-        let periods = self.periods.as_slice();
-        Landing {
-            first: plain::first_at(periods, start, bits),
-            done: plain::done_at(periods, start, bits),
-        }
+        let first = self.first_from(start, 100_000_000);
+        let carried = self.bits.carried_before(first) + 1000 * bits as u128;
+        let done = self.bits.reach(carried);
+        Landing { first, done }
     }
 
     /// The periods of the trace that the clock stands for.
@@ -63,10 +123,10 @@ impl Clock {
         ensures value { result.now ≡ self.now }
         ensures trace { IsTrace self.now }
     {
-        &self.periods
+        self.bits.periods()
     }
 
-    /// The job after the milliseconds `from` to `to - 1`.
+    /// The job after the milliseconds `from` to `to - 1`, at most 2 * 10^15.
     pub fn advance(&self, job: Job, from: u64, to: u64) -> Job
         requires order { from ≤ to }
         requires instants { to ≤ 2000000000000000 }
@@ -75,6 +135,18 @@ impl Clock {
         ensures after { result ≡ job_after self.now from (to - from) job }
         ensures trace { IsTrace self.now }
     {
-        plain::advance(&self.periods, job, from, to)
+        let first = self.first_from(from, job.credit);
+        if to <= first {
+            let used = self.delay.carried_before(to) - self.delay.carried_before(from);
+            return Job {
+                credit: (job.credit as u128).saturating_sub(used) as u32,
+                left: job.left,
+            };
+        }
+        let carried = self.bits.carried_before(to) - self.bits.carried_before(first);
+        Job {
+            credit: 0,
+            left: (job.left as u128).saturating_sub(carried) as u64,
+        }
     }
 }

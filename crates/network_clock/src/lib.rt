@@ -4,7 +4,11 @@
 
 mod clock;
 mod job;
+mod meter;
 mod plain;
 
 pub use clock::Clock;
 pub use job::{Job, Landing};
+
+#[cfg(test)]
+mod tests;

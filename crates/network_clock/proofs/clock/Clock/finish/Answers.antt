@@ -1,25 +1,56 @@
-use Rattle.std.proofs.Common.{arith}
+use Rattle.std.proofs.Common.{◌≡◌, ◌+◌, ◌*◌, arith}
 use Rattle.lab_model.specs.Cycle.{IsTrace}
-use Rattle.network_clock.proofs.Downloads.{done_found, first_before_done, first_found, first_from}
+use Rattle.network_clock.specs.Flow.{Reaches, carried_in, flow}
+use Rattle.network_clock.specs.Network.{done_at, first_at, period_at}
+use Rattle.network_clock.proofs.Downloads.{done_found, first_before_done}
+use Rattle.network_clock.proofs.Laws.{carries_enough}
+use Rattle.network_clock.proofs.Openings.{done_reached, first_opens}
+use Rattle.network_clock.proofs.Order.{first_in_first_out}
+use Rattle.network_clock.proofs.Sums.{sum_below_grows}
 use Rattle.network_clock.proofs.clock.Clock.finish.Goals as goal
-use Rattle.network_clock.proofs.clock.Clock.finish.Goals.{After-done_at}
+use Rattle.network_clock.proofs.clock.Clock.finish.Goals.{After-reach-done}
 
-trace : (c : After-done_at) → IsTrace c.as_slice-periods.result.now
-trace c = rw c.as_slice-periods.ensures.value c.self.invariant
+pub reach-done-requires-clause-soon : goal.reach-done-requires-clause-soon
+reach-done-requires-clause-soon c =
+    let ps = c.self.inside.bits in
+    let first = c.first_from-first.result in
+    let soon = c.first_from-first.ensures.soon in
+    let enough = carries_enough ps c.self.invariant.0 first 300000000 (omega arith) in
+    let grows = sum_below_grows (λ i. carried_in (period_at ps i)) (first + 300000000) 3000000000000000 (omega (arith, soon)) in
+    omega (arith, enough, grows, c.carried_before.ensures.value)
 
-pub returns-clause-delays : goal.returns-clause-delays
-returns-clause-delays c =
-    let ps = c.as_slice-periods.result.now in
-    let from = first_from ps c.args.start c.args.bits in
-    let found = (first_found ps (trace c) c.args.start c.args.bits).0 in
-    (omega (arith, from, c.first_at.ensures), omega (arith, found, c.first_at.ensures))
+trace : (c : After-reach-done) → IsTrace c.args.self.now
+trace c = rw (← c.self.view_is) c.self.invariant.0
+
+first : (c : After-reach-done) → c.first_from-first.result ≡ first_at c.args.self.now c.args.start c.args.bits
+first c = first_opens c.args.self.now c.args.start c.args.bits c.first_from-first.result c.first_from-first.ensures
+
+done : (c : After-reach-done) → c.reach-done.result ≡ done_at c.args.self.now c.args.start c.args.bits
+done c =
+    let r : Reaches c.args.self.now (flow carried_in c.args.self.now c.first_from-first.result + 1000 * c.args.bits) c.reach-done.result = rw (← c.self.view_is, ← c.carried_before.ensures.value) c.reach-done.ensures in
+    done_reached c.args.self.now (trace c) c.args.start c.args.bits c.first_from-first.result c.reach-done.result c.requires.bits.0 c.requires.bits.1 c.first_from-first.ensures r
+
+pub returns-clause-first : goal.returns-clause-first
+returns-clause-first c = first c
+
+pub returns-clause-done : goal.returns-clause-done
+returns-clause-done c = done c
 
 pub returns-clause-carries : goal.returns-clause-carries
 returns-clause-carries c =
-    let before = first_before_done c.as_slice-periods.result.now (trace c) c.args.start c.args.bits c.requires.bits.0 c.requires.bits.1 in
-    omega (arith, before, c.first_at.ensures, c.done_at.ensures)
+    let before = first_before_done c.args.self.now (trace c) c.args.start c.args.bits c.requires.bits.0 c.requires.bits.1 in
+    let from = first c in
+    let end = done c in
+    omega (arith, before, from, end)
 
 pub returns-clause-ends : goal.returns-clause-ends
 returns-clause-ends c =
-    let found = (done_found c.as_slice-periods.result.now (trace c) c.args.start c.args.bits c.requires.bits.1).0 in
-    omega (arith, found, c.done_at.ensures)
+    let found = (done_found c.args.self.now (trace c) c.args.start c.args.bits c.requires.bits.1).0 in
+    let end = done c in
+    omega (arith, found, end)
+
+pub returns-clause-ordered : goal.returns-clause-ordered
+returns-clause-ordered c = λ later more before fewer few.
+    let ordered = first_in_first_out c.args.self.now (trace c) c.args.start later c.args.bits more before fewer few in
+    let end = done c in
+    omega (arith, ordered, end)

@@ -1,0 +1,60 @@
+-- What the milliseconds before an instant bring, and the sums by which it is found without going through them.
+use Rattle.std.specs.Prelude.{◌≡◌, ℕ, zero, suc, ◌+◌, ◌-◌, ◌*◌, ◌<◌, ◌≤◌, ◌==◌, if◌then◌else◌, true, List, length, map, take, slice_index}
+use Rattle.std.specs.List.{sum_by}
+use Rattle.std.specs.Int.{div_ceil}
+use Rattle.lab_model.specs.declared.trace.Period.{Period}
+use Rattle.lab_model.specs.Cycle.{IsTrace}
+use Rattle.network_clock.specs.Network.{is_spent, job_after, period_at, period_in}
+
+-- the sum of what a function gives at the numbers below one
+unfoldable pub sum_below : (ℕ → ℕ) → ℕ → ℕ
+sum_below f zero = 0
+sum_below f (suc n) = sum_below f n + f n
+
+-- what the milliseconds before an instant bring, each at its period's rate
+abbrev pub flow : (Period → ℕ) → List Period → ℕ → ℕ
+flow rate ps t = sum_below (λ i. rate (period_at ps i)) t
+
+-- the same within the first cycle
+abbrev pub flow_in : (Period → ℕ) → List Period → ℕ → ℕ
+flow_in rate ps t = sum_below (λ i. rate (period_in ps i)) t
+
+-- the bits that a millisecond can carry, in thousandths
+abbrev pub carried_in : Period → ℕ
+carried_in p = p.bandwidth
+
+-- the credit that a millisecond takes off a job: all of it where there is no latency
+abbrev pub used_in : Period → ℕ
+used_in p = if p.latency == 0 then 100000000 else div_ceil 100000000 p.latency
+
+-- a period's delay as a period: what a millisecond carries is the credit that it uses
+abbrev pub delay_in : Period → Period
+delay_in p = record p { bandwidth = used_in p }
+
+-- the delay of a trace as a trace
+abbrev pub delay_of : List Period → List Period
+delay_of ps = map delay_in ps
+
+-- the sums over the first 0, 1 and so on up to n periods
+pub record AreSums (size : Period → ℕ) (ps : List Period) (n : ℕ) (sums : List ℕ) : Type 0 where
+  pub count : length sums ≡ n + 1
+  pub each : (k : ℕ) → k ≤ n → slice_index sums k ≡ sum_by size (take k ps)
+
+-- the sums that a meter keeps: of the milliseconds, and of what they carry
+pub record IsMeter (ps : List Period) (start_sums carried_sums : List ℕ) : Type 0 where
+  pub trace : IsTrace ps
+  pub starts : AreSums (λ p. p.duration_ms) ps (length ps) start_sums
+  pub sums : AreSums (λ p. p.duration_ms * p.bandwidth) ps (length ps) carried_sums
+
+-- an instant is the first before which so much is carried
+pub record Reaches (ps : List Period) (target instant : ℕ) : Type 0 where
+  pub before : flow carried_in ps (instant - 1) < target
+  pub there : target ≤ flow carried_in ps instant
+
+-- an instant is the first whose millisecond is spent on a job with this credit
+pub record Opens (ps : List Period) (from credit instant : ℕ) : Type 0 where
+  pub from_on : from ≤ instant
+  pub soon : instant ≤ from + 10000
+  pub waits : (left k : ℕ) → from + k < instant → is_spent ps (from + k) (job_after ps from k (record { credit = credit; left = left })) ≡ true → ⊥
+  pub spends : (left : ℕ) → is_spent ps instant (job_after ps from (instant - from) (record { credit = credit; left = left })) ≡ true
+  pub uses : flow used_in ps from + credit ≤ flow used_in ps (instant + 1)
