@@ -19,3 +19,6 @@ pub use sample::Sample;
 pub use setup::Setup;
 pub use trace::{Period, Trace};
 pub use weights::Weights;
+
+#[cfg(test)]
+mod tests;
