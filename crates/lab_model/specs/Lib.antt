@@ -7,3 +7,4 @@ pub mod Rules
 pub mod Horizon
 pub mod Choice
 pub mod Row
+pub mod Reading
