@@ -6,12 +6,12 @@
 //! keys are passed over. The keys are tested in this order, and each list from its first member on.
 #![tactic(auto)]
 
-ghost use Rattle.std.specs.Prelude.{◌≡◌, ◌∷◌, ◌++◌, [], ◌≤◌, ◌<◌, IfOk, IfErr, OnOk, None, length};
+ghost use Rattle.std.specs.Prelude.{◌≡◌, ◌∷◌, ◌++◌, [], ◌≤◌, IfOk, IfErr, OnOk, None, length};
 ghost use Rattle.serde_json.specs.View.{view, items_view};
 ghost use Rattle.std.specs.List.{concat};
 ghost use Rattle.json_fields.specs.Fields.{map_ok};
 ghost use Rattle.json_fields.specs.Each.{each_after, each_of};
-ghost use Rattle.manifest_reader.specs.Faults.{kind_of, placed, Gives};
+ghost use Rattle.manifest_reader.specs.Faults.{kind_of, placed, refusal, Gives};
 ghost use Rattle.manifest_reader.specs.Manifest.{bitrate_in, bitrates_of, counted, counted_list, film_of, manifest_of, row_in, row_members, seg_ms_of, shaped, size_in, sizes_of, whole_of};
 
 use json_fields::{Fault, ReadErr};
@@ -24,6 +24,7 @@ const MOST_BITRATES: usize = 16;
 /// The most segments of a manifest.
 const MOST_SEGMENTS: usize = 2000;
 
+/// What a fault of a value is called.
 fn kind_of(fault: Fault) -> Kind
     ensures { result ≡ kind_of fault }
 {
@@ -38,7 +39,7 @@ fn kind_of(fault: Fault) -> Kind
 
 /// A refusal at a key, a row and a column.
 fn refused(kind: Kind, key: Key, row: u32, column: u32) -> InputFault
-    ensures { result ≡ InputFault.Refused (record { kind = kind; key = key; row = row; column = column }) }
+    ensures { result ≡ InputFault.Refused (refusal kind key row column) }
 {
     InputFault::Refused(Refusal {
         kind,
@@ -120,7 +121,8 @@ fn counted_list<'a>(
     key: Key,
     most: usize,
 ) -> Result<&'a [Value], InputFault>
-    ensures list { Gives (λ v. items_view v.now) result (counted_list key name.now most (view object.now)) }
+    ensures list { Gives (λ v. items_view v.now) result
+        (counted_list key name.now most (view object.now)) }
     ensures most { IfOk result (λ v. length v.now ≤ most) }
 {
     let values = placed(json_fields::list_under(object, name), key, 0, 0)?;
@@ -226,7 +228,8 @@ fn push_row(sizes: &mut Vec<u32>, value: &Value, rungs: usize, row: u32) -> Resu
 fn all_sizes(alloc: Global, values: &[Value], rungs: usize) -> Result<Vec<u32>, InputFault>
     requires count { length values.now ≤ 2000 }
     requires rungs { rungs ≤ 16 }
-    ensures { Gives (λ v. v.items) result (map_ok concat (each_of (row_in rungs) (items_view values.now))) }
+    ensures { Gives (λ v. v.items) result
+        (map_ok concat (each_of (row_in rungs) (items_view values.now))) }
 {
     let mut sizes = Vec::new(alloc);
     for (i, value) in values.iter().enumerate() {
