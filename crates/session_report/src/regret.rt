@@ -1,6 +1,7 @@
 //! How far the sessions of a rule stay behind the best: rows, and totals over several traces.
 ghost use Rattle.std.specs.Prelude.{◌≡◌, ◌<◌, ◌∷◌, [], ◌++◌, List, pos};
 ghost use Rattle.lab_io.specs.Sink.{Puts};
+ghost use Rattle.session_report.specs.Regret.{AreScores, IsNear, Scores, StandsFor, regret_line, total_line};
 
 use lab_io::Piece::{Number, Word};
 use lab_io::{PutErr, Sink, put_fields};
@@ -22,8 +23,6 @@ pub struct Total {
 }
 
 impl Total {
-    ghost use Rattle.session_report.specs.Regret.{AreScores, Scores, StandsFor};
-
     /// The total of no pair: all is 0.
     pub fn start() -> Total
         ensures zero { result ≡ record { score = pos 0; best = pos 0; regret = pos 0; worst = pos 0; count = 0 } }
@@ -54,8 +53,6 @@ impl Total {
         self.count += 1;
     }
 }
-
-ghost use Rattle.session_report.specs.Regret.{IsNear, regret_line, total_line};
 
 /// Puts the row of a rule on one trace: `rule NAME`, its score, the best score and the difference of the two.
 /// Both are in thousandths of a point, within 10^24 of 0. After an `Err` a prefix of the row went out.
