@@ -38,11 +38,12 @@ unfolding each_after
 one_stops f k y before row d ds e = rw e refl
 
 -- one more record was read
-pub each_went : {A B E : Type 0} (f : Option A → ℕ → Fields → Result A E) (k later : List A → B) (vs : List ByteRecord) (i : ℕ) (d v : ByteRecord) (before : Option A) (row : ℕ) (x : A)
-    → i < length vs → v ≡ get_or vs i d → f before row (fields_of v) ≡ Ok x → ((xs : List A) → later xs ≡ k (x ∷ xs))
-    → map_ok later (each_after f (Some x) (row + 1) (map fields_of (drop (i + 1) vs))) ≡ map_ok k (each_after f before row (map fields_of (drop i vs)))
-each_went f k later vs i d v before row x lt e h same =
-    one_then f k later x _ before row (fields_of (get_or vs i d)) (map fields_of (drop (i + 1) vs)) (rw e at h) refl same
+pub each_went : {A B E : Type 0} (f : Option A → ℕ → Fields → Result A E) (k later : List A → B) (vs : List ByteRecord) (i : ℕ) (d v : ByteRecord) (before : Option A) (row next : ℕ) (x : A)
+    → i < length vs → v ≡ get_or vs i d → next ≡ row + 1 → f before row (fields_of v) ≡ Ok x → ((xs : List A) → later xs ≡ k (x ∷ xs))
+    → map_ok later (each_after f (Some x) next (map fields_of (drop (i + 1) vs))) ≡ map_ok k (each_after f before row (map fields_of (drop i vs)))
+each_went f k later vs i d v before row next x lt e n h same =
+    ap (λ (p : ℕ). map_ok later (each_after f (Some x) p (map fields_of (drop (i + 1) vs)))) n
+    ∙ one_then f k later x _ before row (fields_of (get_or vs i d)) (map fields_of (drop (i + 1) vs)) (rw e at h) refl same
     ∙ sym (ap (λ (ds : List Fields). map_ok k (each_after f before row ds)) (fields_from vs i d lt))
 
 -- the next record is refused
@@ -67,12 +68,12 @@ each_any f before after row [] = refl
 each_any f before after row (d ∷ ds) = refl
 
 -- one more record was read by a read that doesn't look at the one before
-pub each_next : {A B E : Type 0} (f : ℕ → Fields → Result A E) (k later : List A → B) (vs : List ByteRecord) (i : ℕ) (d v : ByteRecord) (row : ℕ) (x : A)
-    → i < length vs → v ≡ get_or vs i d → f row (fields_of v) ≡ Ok x → ((xs : List A) → later xs ≡ k (x ∷ xs))
-    → map_ok later (each_after (λ (_ : Option A). f) None (row + 1) (map fields_of (drop (i + 1) vs))) ≡ map_ok k (each_after (λ (_ : Option A). f) None row (map fields_of (drop i vs)))
-each_next {A = A} f k later vs i d v row x lt e h same =
-    ap (map_ok later) (each_any f None (Some x) (row + 1) (map fields_of (drop (i + 1) vs)))
-    ∙ each_went (λ (_ : Option A). f) k later vs i d v None row x lt e h same
+pub each_next : {A B E : Type 0} (f : ℕ → Fields → Result A E) (k later : List A → B) (vs : List ByteRecord) (i : ℕ) (d v : ByteRecord) (row next : ℕ) (x : A)
+    → i < length vs → v ≡ get_or vs i d → next ≡ row + 1 → f row (fields_of v) ≡ Ok x → ((xs : List A) → later xs ≡ k (x ∷ xs))
+    → map_ok later (each_after (λ (_ : Option A). f) None next (map fields_of (drop (i + 1) vs))) ≡ map_ok k (each_after (λ (_ : Option A). f) None row (map fields_of (drop i vs)))
+each_next {A = A} f k later vs i d v row next x lt e n h same =
+    ap (map_ok later) (each_any f None (Some x) next (map fields_of (drop (i + 1) vs)))
+    ∙ each_went (λ (_ : Option A). f) k later vs i d v None row next x lt e n h same
 
 -- where each record's answer has a property, all of them do
 pub each_all : {A E : Type 0} (P : A → Type 0) (f : Option A → ℕ → Fields → Result A E) (before : Option A) (row : ℕ) (ds : List Fields) (xs : List A)
