@@ -1,3 +1,4 @@
 pub mod Faults
 pub mod Cycle
 pub mod Trace
+pub mod TraceCsv

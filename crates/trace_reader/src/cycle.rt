@@ -1,6 +1,6 @@
-//! The tests on the cycle of a trace, the same for each format.
+//! The periods of a trace and the tests on its cycle, the same for each format.
 
-ghost use Rattle.std.specs.Prelude.{◌≡◌, ◌≤◌, length};
+ghost use Rattle.std.specs.Prelude.{◌≡◌, ◌≤◌, ◌∷◌, ◌++◌, [], IfErr, OnOk, length};
 ghost use Rattle.std.specs.List.{All};
 ghost use Rattle.lab_model.specs.Cycle.{IsPeriod, cycle_bits, cycle_ms};
 ghost use Rattle.lab_model.specs.Film.{IsWithin};
@@ -12,6 +12,17 @@ use lab_model::{InputFault, Key, Kind, Period, Trace};
 
 /// The longest cycle, in milliseconds.
 const MOST_CYCLE_MS: u64 = 100_000_000;
+
+/// Appends a period, if memory allows it.
+pub(crate) fn push(periods: &mut Vec<Period>, period: Period) -> Result<(), InputFault>
+    ensures ok { OnOk result (periods.new.items ≡ periods.old.items ++ period ∷ []) }
+    ensures err { IfErr result (λ e. e ≡ InputFault.Memory) }
+{
+    match periods.push(period) {
+        Ok(()) => Ok(()),
+        Err(_) => Err(InputFault::Memory),
+    }
+}
 
 /// The milliseconds of a cycle.
 fn cycle_ms(periods: &[Period]) -> u64

@@ -4,14 +4,14 @@
 //! Sparacio (MMSys 2018): `duration_ms`, `bandwidth_kbps` and `latency_ms`, each a number. Other keys
 //! are passed over. Each period is tested before the next, and the cycle after all of them.
 
-ghost use Rattle.std.specs.Prelude.{◌≡◌, ◌∷◌, ◌++◌, [], ◌≤◌, IfOk, IfErr, OnOk, length};
+ghost use Rattle.std.specs.Prelude.{◌≡◌, ◌≤◌, IfOk, length};
 ghost use Rattle.serde_json.specs.View.{view, items_view};
 ghost use Rattle.json_fields.specs.Fields.{value_of};
 ghost use Rattle.json_fields.specs.Each.{each_of};
 ghost use Rattle.trace_reader.specs.Faults.{placed, Gives};
 ghost use Rattle.trace_reader.specs.Trace.{counted, field_of, fields_of, members_of, period_in, periods_of, trace_json, trace_of};
 
-use crate::cycle::whole_trace;
+use crate::cycle::{push, whole_trace};
 use crate::fault::{kind_of, placed, refused};
 use json_fields::ReadErr;
 use lab_model::{InputFault, Key, Kind, Period, Trace};
@@ -94,17 +94,6 @@ fn period_in(value: &Value, row: u32) -> Result<Period, InputFault>
 {
     let object = placed(json_fields::object_from(value), Key::Period, row, 0)?;
     fields_of(object, row)
-}
-
-/// Appends a period, if memory allows it.
-fn push(periods: &mut Vec<Period>, period: Period) -> Result<(), InputFault>
-    ensures ok { OnOk result (periods.new.items ≡ periods.old.items ++ period ∷ []) }
-    ensures err { IfErr result (λ e. e ≡ InputFault.Memory) }
-{
-    match periods.push(period) {
-        Ok(()) => Ok(()),
-        Err(_) => Err(InputFault::Memory),
-    }
 }
 
 /// The periods that the members of a list are.

@@ -1,10 +1,12 @@
 //! The readers of traces: recorded networks, period by period.
 #![tactic(auto)]
 
+mod csv_trace;
 mod cycle;
 mod fault;
 mod json;
 #[cfg(test)]
 mod tests;
 
+pub use csv_trace::read_trace_csv;
 pub use json::read_trace_json;

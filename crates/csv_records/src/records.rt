@@ -1,0 +1,103 @@
+//! The records of a text, and their fields.
+
+ghost use Rattle.std.specs.Prelude.{◌≡◌, ◌+◌, IfOk, IfSome, length};
+ghost use Rattle.csv.specs.Records.{fields_of};
+ghost use Rattle.csv_records.specs.Field.{field_in, is_blank, is_named, trimmed, unindented, unpadded};
+ghost use Rattle.csv_records.specs.Table.{is_uneven, table_in, table_of};
+
+use csv::{ByteRecord, Error, ErrorKind, ReaderBuilder};
+use std::alloc::{AllocError, Global};
+
+/// The records of a text that come before the first uneven one.
+#[derive(Drop)]
+pub struct Records {
+    /// The records, each with as many fields as the first.
+    pub rows: Vec<ByteRecord>,
+    /// The number of the record behind them, counted from 1, that has another number of fields, if there
+    /// is one.
+    pub uneven: Option<u64>,
+}
+
+fn is_uneven(error: &Error) -> bool
+    ensures { result ≡ is_uneven error.now.kind }
+{
+    matches!(error.kind(), ErrorKind::UnequalLengths { .. })
+}
+
+/// The records of the bytes, up to the first whose number of fields isn't the first record's. Any other
+/// refusal of `csv` is answered as want of memory.
+pub fn records_of(alloc: Global, bytes: &[u8]) -> Result<Records, AllocError>
+    ensures records { IfOk result (λ t. table_in t ≡ table_of bytes.now) }
+    ensures place { IfOk result (λ t. IfSome t.uneven (λ k. k ≡ length t.rows.items + 1)) }
+{
+    let rdr = ReaderBuilder::new()
+        .has_headers(false)
+        .from_reader(alloc, bytes);
+    let mut rows = Vec::new(alloc);
+    for row in rdr.into_byte_records() {
+        match row {
+            Ok(fields) => rows.push(fields)?,
+            Err(error) => {
+                if !is_uneven(&error) {
+                    return Err(AllocError);
+                }
+                let uneven = rows.len() as u64 + 1;
+                return Ok(Records {
+                    rows,
+                    uneven: Some(uneven),
+                });
+            }
+        }
+    }
+    Ok(Records { rows, uneven: None })
+}
+
+fn is_blank(byte: u8) -> bool
+    ensures { result ≡ is_blank byte }
+{
+    byte == b' ' || byte == b'\t'
+}
+
+fn unindented(field: &[u8]) -> &[u8]
+    ensures { result.now ≡ unindented field.now }
+{
+    let mut rest = field;
+    while let [first, tail @ ..] = rest {
+        if !is_blank(*first) {
+            return rest;
+        }
+        rest = tail;
+    }
+    rest
+}
+
+fn unpadded(field: &[u8]) -> &[u8]
+    ensures { result.now ≡ unpadded field.now }
+{
+    let mut rest = field;
+    while let [front @ .., last] = rest {
+        if !is_blank(*last) {
+            return rest;
+        }
+        rest = front;
+    }
+    rest
+}
+
+/// The field of a record in a column, counted from 0, without the spaces and tabs at its ends; nothing
+/// where the record has no such column.
+pub fn field_in(row: &ByteRecord, column: usize) -> &[u8]
+    ensures { result.now ≡ field_in column (fields_of row.now) }
+{
+    match row.get(column) {
+        Some(field) => unpadded(unindented(field)),
+        None => &[],
+    }
+}
+
+/// Whether the field in a column, without the spaces and tabs at its ends, is this name.
+pub fn is_named(row: &ByteRecord, column: usize, name: &str) -> bool
+    ensures { result ≡ is_named column name.now (fields_of row.now) }
+{
+    field_in(row, column) == name.as_bytes()
+}

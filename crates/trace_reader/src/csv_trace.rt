@@ -1,0 +1,183 @@
+//! The reader of CSV traces.
+//!
+//! The first record is the header `duration_ms`, `bandwidth_kbps`, `latency_ms`, and each later one a
+//! period. Spaces and tabs at the ends of a field don't count. A bandwidth may have up to three digits
+//! behind a point. Records are tested one after the other, each whole before the next is read, and the
+//! cycle after all of them.
+
+ghost use Rattle.std.specs.Prelude.{◌≡◌, ◌+◌, ◌^◌, ◌≤◌, ◌<◌, IfOk, IfSome, OnOk, length, map};
+ghost use Rattle.csv.specs.Records.{fields_of};
+ghost use Rattle.csv_records.specs.Each.{each_from};
+ghost use Rattle.csv_records.specs.Table.{table_in, table_of};
+ghost use Rattle.trace_reader.specs.Faults.{Gives};
+ghost use Rattle.trace_reader.specs.TraceCsv.{bandwidth_in, behind_header, counted_row, duration_in, ended, field_kind, is_header, latency_in, period_in_row, placed_field, table_periods, table_trace, trace_csv_of};
+
+use crate::cycle::{push, whole_trace};
+use crate::fault::refused;
+use csv::ByteRecord;
+use csv_records::{Fault, Records, field_in, is_named, records_of, thousandths, whole_number};
+use lab_model::{InputFault, Key, Kind, Period, Trace};
+use std::alloc::Global;
+
+/// The row of the last record of the longest trace: the header and 100000 periods.
+const LAST_ROW: u32 = 100_001;
+
+/// The longest period, in milliseconds.
+const MOST_DURATION_MS: u32 = 10_000_000;
+
+/// The greatest bandwidth, in kbps.
+const MOST_BANDWIDTH_KBPS: u32 = 10_000_000;
+
+/// The greatest latency, in milliseconds.
+const MOST_LATENCY_MS: u32 = 10_000;
+
+/// What a fault of a field is called.
+fn field_kind(fault: Fault) -> Kind
+    ensures { result ≡ field_kind fault }
+{
+    match fault {
+        Fault::NotWhole => Kind::NotWhole,
+        Fault::WrongKind => Kind::WrongKind,
+        Fault::OutOfRange => Kind::OutOfRange,
+    }
+}
+
+fn is_header(fields: &ByteRecord) -> bool
+    ensures { result ≡ is_header (fields_of fields.now) }
+{
+    fields.len() == 3
+        && is_named(fields, 0, "duration_ms")
+        && is_named(fields, 1, "bandwidth_kbps")
+        && is_named(fields, 2, "latency_ms")
+}
+
+/// The records behind the header.
+fn behind_header(rows: &[ByteRecord]) -> Result<&[ByteRecord], InputFault>
+    ensures rows { Gives (λ v. map fields_of v.now) result (behind_header (map fields_of rows.now)) }
+    ensures count { IfOk result (λ v. length rows.now ≡ length v.now + 1) }
+{
+    match rows {
+        [] => Err(refused(Kind::Empty, Key::Whole, 0, 0)),
+        [header, later @ ..] => if is_header(header) {
+            Ok(later)
+        } else {
+            Err(refused(Kind::Shape, Key::Header, 1, 0))
+        },
+    }
+}
+
+/// A row, if it is one of the 100000 behind the header.
+fn counted_row(row: u32) -> Result<u32, InputFault>
+    ensures row { Gives (λ n. n) result (counted_row row) }
+    ensures few { OnOk result (row ≤ 100001) }
+{
+    if row > LAST_ROW {
+        return Err(refused(Kind::OutOfRange, Key::Whole, row, 0));
+    }
+    Ok(row)
+}
+
+/// The duration of a period, in milliseconds.
+fn duration_in(fields: &ByteRecord, row: u32) -> Result<u32, InputFault>
+    ensures { Gives (λ n. n) result (duration_in row (fields_of fields.now)) }
+{
+    match whole_number(field_in(fields, 0), 1, MOST_DURATION_MS) {
+        Ok(duration_ms) => Ok(duration_ms),
+        Err(fault) => Err(refused(field_kind(fault), Key::Duration, row, 1)),
+    }
+}
+
+/// The bandwidth of a period, in thousandths of a kbps.
+fn bandwidth_in(fields: &ByteRecord, row: u32) -> Result<u64, InputFault>
+    ensures { Gives (λ n. n) result (bandwidth_in row (fields_of fields.now)) }
+{
+    match thousandths(field_in(fields, 1), 0, MOST_BANDWIDTH_KBPS) {
+        Ok(bandwidth) => Ok(bandwidth),
+        Err(fault) => Err(refused(field_kind(fault), Key::Bandwidth, row, 2)),
+    }
+}
+
+/// The latency of a period, in milliseconds.
+fn latency_in(fields: &ByteRecord, row: u32) -> Result<u32, InputFault>
+    ensures { Gives (λ n. n) result (latency_in row (fields_of fields.now)) }
+{
+    match whole_number(field_in(fields, 2), 0, MOST_LATENCY_MS) {
+        Ok(latency) => Ok(latency),
+        Err(fault) => Err(refused(field_kind(fault), Key::Latency, row, 3)),
+    }
+}
+
+/// The period in a row.
+fn period_in_row(fields: &ByteRecord, row: u32) -> Result<Period, InputFault>
+    ensures period { Gives (λ p. p) result (period_in_row row (fields_of fields.now)) }
+    ensures few { OnOk result (row ≤ 100001) }
+{
+    counted_row(row)?;
+    let duration_ms = duration_in(fields, row)?;
+    let bandwidth = bandwidth_in(fields, row)?;
+    let latency = latency_in(fields, row)?;
+    Ok(Period {
+        duration_ms,
+        bandwidth,
+        latency,
+    })
+}
+
+/// The periods of the records behind the header.
+fn all_rows(alloc: Global, rows: &[ByteRecord]) -> Result<Vec<Period>, InputFault>
+    ensures periods { Gives (λ v. v.items) result (each_from period_in_row 2 (map fields_of rows.now)) }
+    ensures few { OnOk result (length rows.now ≤ 100000) }
+{
+    let mut periods = Vec::new(alloc);
+    for (i, fields) in rows.iter().enumerate() {
+        let period = period_in_row(fields, i as u32 + 2)?;
+        push(&mut periods, period)?;
+    }
+    Ok(periods)
+}
+
+/// The periods, if no uneven record stands behind theirs and there are some.
+fn ended(periods: Vec<Period>, uneven: Option<u64>) -> Result<Vec<Period>, InputFault>
+    requires { IfSome uneven (λ row. row < 2 ^ 32) }
+    ensures { Gives (λ v. v.items) result (ended uneven periods.items) }
+{
+    if let Some(row) = uneven {
+        return Err(refused(Kind::NotCsv, Key::Period, row as u32, 0));
+    }
+    if periods.is_empty() {
+        return Err(refused(Kind::Empty, Key::Whole, 0, 0));
+    }
+    Ok(periods)
+}
+
+/// The periods of a table.
+fn table_periods(alloc: Global, records: &Records) -> Result<Vec<Period>, InputFault>
+    requires { IfSome records.now.uneven (λ k. k ≡ length records.now.rows.items + 1) }
+    ensures { Gives (λ v. v.items) result (table_periods (table_in records.now)) }
+{
+    let rows = behind_header(&records.rows)?;
+    let periods = all_rows(alloc, rows)?;
+    ended(periods, records.uneven)
+}
+
+/// The trace of a table.
+fn table_trace(alloc: Global, records: &Records) -> Result<Trace, InputFault>
+    requires { IfSome records.now.uneven (λ k. k ≡ length records.now.rows.items + 1) }
+    ensures { Gives (λ t. t) result (table_trace (table_in records.now)) }
+{
+    let periods = table_periods(alloc, records)?;
+    whole_trace(periods)
+}
+
+/// Reads a CSV trace. A bandwidth is a number of kbps with up to three digits behind a point, and is kept
+/// in thousandths. The answer is `Refused` exactly where the bytes are no trace, with the first test that
+/// they fail: rows count the records from 1, the header being the first, and columns count the fields
+/// from 1.
+pub fn read_trace_csv(alloc: Global, bytes: &[u8]) -> Result<Trace, InputFault>
+    ensures { Gives (λ t. t) result (trace_csv_of bytes.now) }
+{
+    let Ok(records) = records_of(alloc, bytes) else {
+        return Err(InputFault::Memory);
+    };
+    table_trace(alloc, &records)
+}
