@@ -1,0 +1,4 @@
+pub mod Files
+pub mod Settings
+pub mod Whole
+pub mod Table

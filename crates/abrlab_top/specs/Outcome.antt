@@ -1,0 +1,164 @@
+-- What a run comes to, by its words and its files, in the order of its refusals.
+use Rattle.std.specs.Prelude.{◌≡◌, ℕ, ◌&&◌, ◌||◌, ◌==◌, Bool, true, false, not, List, [], ◌∷◌, length, Option, Some, None, Result, Ok, Err, codes, if◌then◌else◌, nat_le, nat_lt, nat_eq}
+use Rattle.std.specs.List.{ends_with, list_all}
+use Rattle.lab_io.specs.Sink.{Text}
+use Rattle.lab_model.specs.declared.fault.Refusal.{Refusal}
+use Rattle.lab_model.specs.declared.setup.Setup.{Setup}
+use Rattle.lab_model.specs.declared.trace.Period.{Period}
+use Rattle.lab_model.specs.Film.{Film, rungs_of, segments_of}
+use Rattle.lab_model.specs.Rules.{RuleKind, fixed, listed, throughput, bola, mpc}
+use Rattle.lab_model.specs.Weighing.{weighing}
+use Rattle.lab_words.specs.Words.{CommandWords, command_of}
+use Rattle.manifest_reader.specs.Manifest.{manifest_of}
+use Rattle.trace_reader.specs.Trace.{trace_json}
+use Rattle.player_core.specs.Available.{all_ahead}
+use Rattle.player_core.specs.State.{Case}
+use Rattle.player_core.specs.Session.{session_of}
+use Rattle.session_report.specs.Session.{session_text}
+use Rattle.abrlab_top.specs.declared.stop.Role.{Role}
+use Rattle.abrlab_top.specs.declared.stop.Role.TheVariants as role
+use Rattle.abrlab_top.specs.declared.stop.Setting.{Setting}
+use Rattle.abrlab_top.specs.declared.stop.Setting.TheVariants as setting
+use Rattle.abrlab_top.specs.declared.stop.Stop.{Stop}
+use Rattle.abrlab_top.specs.declared.stop.Stop.TheVariants as stop
+
+-- the bytes of each file by its name, and none where there is no such file
+abbrev pub Files : Type 0
+Files = Text → Option Text
+
+-- the first refusal is the outcome of the whole
+infixl 10 ◌>>=◌
+abbrev pub ◌>>=◌ : {A B : Type 0} → Result A Stop → (A → Result B Stop) → Result B Stop
+(Ok x) >>= f = f x
+(Err s) >>= f = Err s
+
+-- ---- the words
+
+-- what `simulate` asks for: two files, a setup and a rule
+pub record Asked : Type 0 where
+  pub manifest : Text
+  pub trace : Text
+  pub setup : Setup
+  pub rule : RuleKind
+
+-- the name of a file in the CSV format, which isn't read yet
+abbrev pub is_csv : Text → Bool
+is_csv name = ends_with nat_eq name (codes ".csv")
+
+-- the kinds of rule that are built
+abbrev pub is_built_rule : RuleKind → Bool
+is_built_rule (fixed rung) = true
+is_built_rule (listed rungs) = true
+is_built_rule (throughput windows) = false
+is_built_rule (bola g) = false
+is_built_rule (mpc horizon) = false
+
+-- the trace and the rule are of the kinds that are built, and so is a session without seeks
+abbrev pub is_built : Text → RuleKind → Option Text → Bool
+is_built trace rule None = not (is_csv trace) && is_built_rule rule
+is_built trace rule (Some seeks) = false
+
+-- the setup that the options give
+abbrev pub setup_of : CommandWords → Setup
+setup_of c = record { buffer_ms = c.buffer_ms; weights = weighing c.utilities c.switch c.stall c.startup; abandon = c.abandon }
+
+-- a session of the one trace and the one rule, where it is built
+abbrev pub asked_with : CommandWords → List Text → List (Text × RuleKind) → Result Asked Stop
+asked_with c (trace ∷ []) (rule ∷ []) =
+    if is_built trace rule.1 c.seeks then Ok (record { manifest = c.manifest; trace = trace; setup = setup_of c; rule = rule.1 }) else Err stop.Usage
+asked_with c traces rules = Err stop.Usage
+
+-- what a command that is read asks for
+abbrev pub asked_by : Option CommandWords → Result Asked Stop
+asked_by None = Err stop.Usage
+asked_by (Some c) = asked_with c c.traces c.rules
+
+-- what the words ask for
+unfoldable pub asked : List Text → Result Asked Stop
+asked words = asked_by (command_of words)
+
+-- ---- the files
+
+-- the most bytes of a file
+abbrev pub file_limit : ℕ
+file_limit = 67108864
+
+-- the bytes of a file that is there and within the limit
+abbrev pub bytes_of : Role → Option Text → Result Text Stop
+bytes_of role None = Err (stop.NotRead role)
+bytes_of role (Some bytes) = if nat_lt file_limit (length bytes) then Err (stop.TooLong role) else Ok bytes
+
+-- what a reader makes of a file
+abbrev pub read_as : {A : Type 0} → Role → Result A Refusal → Result A Stop
+read_as role (Ok x) = Ok x
+read_as role (Err why) = Err (stop.Refused role why)
+
+-- the manifest in a file
+unfoldable pub film_in : Files → Text → Result Film Stop
+film_in files name = do
+  bytes ← bytes_of role.Manifest (files name)
+  read_as role.Manifest (manifest_of bytes)
+
+-- the trace in a file
+unfoldable pub periods_in : Files → Text → Result (List Period) Stop
+periods_in files name = do
+  bytes ← bytes_of role.Trace (files name)
+  read_as role.Trace (trace_json bytes)
+
+-- ---- the settings
+
+-- the rule can be asked about this film
+abbrev pub rule_fits : RuleKind → Film → Bool
+rule_fits (fixed q) f = nat_lt q (rungs_of f)
+rule_fits (listed rungs) f = (length rungs == segments_of f) && list_all (λ q. nat_lt q (rungs_of f)) rungs
+rule_fits (throughput windows) f = true
+rule_fits (bola g) f = true
+rule_fits (mpc horizon) f = true
+
+-- the buffer holds a segment
+abbrev pub buffer_fits : Setup → Film → Bool
+buffer_fits s f = nat_le f.seg_ms s.buffer_ms && nat_le s.buffer_ms 10000000
+
+-- each rung has a utility, and a table has a row for each segment
+abbrev pub utilities_fit : Setup → Film → Bool
+utilities_fit s f = (s.weights.count == rungs_of f) && ((s.weights.rows == 0) || (s.weights.rows == segments_of f))
+
+-- the first setting that does not fit: the buffer, then the utilities, then the rule
+unfoldable pub misfit : Setup → RuleKind → Film → Option Setting
+misfit s rule f =
+    if not (buffer_fits s f) then Some setting.Buffer
+    else (if not (utilities_fit s f) then Some setting.Utilities
+    else (if not (rule_fits rule f) then Some (setting.Rule 1) else None))
+
+-- the case that a film, a network, a setup and a rule make, of a film on demand and without seeks
+abbrev pub session_case : Film → List Period → Setup → RuleKind → Case
+session_case f periods s rule = record { film = f; periods = periods; setup = s; seeks = []; ahead = all_ahead; rule = rule }
+
+-- the case, unless a setting does not fit
+abbrev pub unless_misfit : Option Setting → Case → Result Case Stop
+unless_misfit None c = Ok c
+unless_misfit (Some setting) c = Err (stop.Settings setting)
+
+-- ---- the whole
+
+-- the case that a command plays: the manifest first, then the trace, then the settings
+unfoldable pub case_in : Files → Asked → Result Case Stop
+case_in files a = do
+  film ← film_in files a.manifest
+  periods ← periods_in files a.trace
+  unless_misfit (misfit a.setup a.rule film) (session_case film periods a.setup a.rule)
+
+-- the case that words and files make
+unfoldable pub case_of : List Text → Files → Result Case Stop
+case_of words files = do
+  a ← asked words
+  case_in files a
+
+-- what is printed of a case: the text of the session of the millisecond player
+unfoldable pub printed : Case → Text
+printed c = session_text (session_of c) c.setup.weights
+
+-- the file of a role by the name that the words give it
+abbrev pub name_of : Asked → Role → Text
+name_of a role.Manifest = a.manifest
+name_of a role.Trace = a.trace
