@@ -1,5 +1,5 @@
 -- What a fetched file is, and what a reader makes of it.
-use Rattle.std.proofs.Common.{◌≡◌, ℕ, ◌+◌, ◌<◌, ◌≤◌, List, length, take, Option, Some, None, option_map, Result, Ok, Err, sym, ap, ◌∙◌, refl, arith, min}
+use Rattle.std.proofs.Common.{◌≡◌, ◌+◌, ◌<◌, ◌≤◌, length, take, Option, Some, None, option_map, Result, Ok, Err, ap, ◌∙◌, refl, arith, min}
 use Rattle.std.specs.Result.{IsErrAnd}
 use Rattle.std.proofs.lemmas.Result.{err_from_is_err_and}
 use Rattle.std.proofs.lemmas.List.{length-take, take_all}

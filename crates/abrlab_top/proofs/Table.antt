@@ -1,10 +1,10 @@
 -- What each answer of a run has for a cause, from the cause of its ending.
-use Rattle.std.proofs.Common.{◌≡◌, ◌⊎◌, ℕ, List, [], ◌∷◌, Bool, true, false, Option, Some, None, Result, Ok, Err, IsOk, IsSome, sym, ap, ◌∙◌, refl, arith, inl, inr, nat_lt, if◌then◌else◌, length}
+use Rattle.std.proofs.Common.{◌≡◌, ◌⊎◌, ℕ, List, [], ◌∷◌, Bool, true, false, Option, Some, None, Result, Ok, Err, IsOk, IsSome, ◌∙◌, refl, arith, inl, inr, nat_lt, if◌then◌else◌, length, unwrap_or}
 use Rattle.lab_io.specs.Sink.{Text, Rose}
 use Rattle.lab_model.specs.declared.fault.Refusal.{Refusal}
 use Rattle.lab_words.specs.Words.{begins_with_verb}
 use Rattle.player_core.specs.State.{Case}
-use Rattle.lab_model.specs.Film.{Film}
+use Rattle.lab_model.specs.Film.{Film, segments_of}
 use Rattle.abrlab_top.specs.declared.stop.Role.{Role}
 use Rattle.abrlab_top.specs.declared.stop.Role.TheVariants as role
 use Rattle.abrlab_top.specs.declared.stop.Setting.{Setting}
@@ -12,8 +12,8 @@ use Rattle.abrlab_top.specs.declared.stop.Stop.{Stop}
 use Rattle.abrlab_top.specs.declared.stop.Stop.TheVariants as stop
 use Rattle.abrlab_top.specs.declared.stop.Ending.{Ending}
 use Rattle.abrlab_top.specs.declared.stop.Ending.TheVariants as ending
-use Rattle.abrlab_top.specs.Outcome.{◌>>=◌, Asked, Files, asked, bytes_of, case_in, case_of, file_limit, film_in, misfit, name_of, periods_in, printed, read_as, session_case, unless_misfit}
-use Rattle.abrlab_top.specs.Run.{AcceptedBefore, AreTaken, IsAmong, IsDone, IsNoMemory, IsNotRead, IsOutputFailed, IsRefused, IsUsage, NoFaults, PrintsTheSession, Tells, Told, World, answers_to, ending_status, outcome_status, status}
+use Rattle.abrlab_top.specs.Outcome.{◌>>=◌, Asked, Files, IsNamed, asked, bytes_of, case_in, case_of, file_limit, film_in, name_of, periods_in, printed, read_as, script_in, seeks_in, unless_misfit}
+use Rattle.abrlab_top.specs.Run.{AcceptedBefore, AreTaken, IsAmong, IsDone, IsNoMemory, IsNotRead, IsOutputFailed, IsRefused, IsUsage, NoFaults, PrintsTheSession, Tells, Told, World, answers_to, ending_status, status}
 use Rattle.abrlab_top.specs.Stages.{Causes}
 use Rattle.abrlab_top.proofs.Whole.{begins}
 
@@ -60,7 +60,7 @@ is_refused words old new ending.NoMemory r h s = let k = h.status in absurd (ome
 pub is_not_read : (words : List Text) (old new : World) (e : Ending) (r : ℕ) → Ends words old new e r → r ≡ 4 → IsNotRead words old new
 is_not_read words old new ending.Done r h s = let k = h.status in absurd (omega arith)
 is_not_read words old new (ending.Stopped stop.Usage) r h s = let k = h.status in absurd (omega arith)
-is_not_read words old new (ending.Stopped (stop.NotRead role)) r h s = record { wanted = h.cause.1.0; role = role; asked = h.cause.1.1; out = h.cause.0; rose = h.cause.1.2; before = h.cause.1.3; err = h.told }
+is_not_read words old new (ending.Stopped (stop.NotRead role)) r h s = record { wanted = h.cause.1.0; role = role; asked = h.cause.1.1; named = h.cause.1.2; out = h.cause.0; rose = h.cause.1.3; before = h.cause.1.4; err = h.told }
 is_not_read words old new (ending.Stopped (stop.TooLong role)) r h s = let k = h.status in absurd (omega arith)
 is_not_read words old new (ending.Stopped (stop.Refused role why)) r h s = let k = h.status in absurd (omega arith)
 is_not_read words old new (ending.Stopped (stop.Settings setting)) r h s = let k = h.status in absurd (omega arith)
@@ -140,12 +140,17 @@ not_usage_fit : (o : Option Setting) (c : Case) → NotUsage (unless_misfit o c)
 not_usage_fit None c = λ e. cc
 not_usage_fit (Some setting) c = λ e. cc
 
+not_usage_seeks : (files : Files) (segments : ℕ) (name : Option Text) → NotUsage (seeks_in files segments name)
+unfolding script_in
+not_usage_seeks files segments None = λ e. cc
+not_usage_seeks files segments (Some name) = not_usage_then _ _ (not_usage_bytes role.Seeks (files name)) (λ bytes. not_usage_read role.Seeks _)
+
 not_usage : (files : Files) (a : Asked) → NotUsage (case_in files a)
 unfolding case_in film_in periods_in
 not_usage files a =
     not_usage_then _ _ (not_usage_then _ _ (not_usage_bytes role.Manifest (files a.manifest)) (λ bytes. not_usage_read role.Manifest _))
     (λ film. not_usage_then _ _ (not_usage_then _ _ (not_usage_bytes role.Trace (files a.trace)) (λ bytes. not_usage_read role.Trace _))
-    (λ periods. not_usage_fit _ _))
+    (λ periods. not_usage_then _ _ (not_usage_seeks files (segments_of film) a.seeks) (λ seeks. not_usage_fit _ _)))
 
 four_among : (o : Result Case Stop) → NotUsage o → IsAmong 4 (answers_to o)
 four_among (Ok c) h = refl
@@ -223,22 +228,38 @@ trace_lacking : (files : Files) (a : Asked) → IsOk (film_in files a.manifest) 
 unfolding case_in periods_in
 trace_lacking files a h n = trace_after files a (film_in files a.manifest) _ (λ film. rw n refl) h
 
--- a file that is lacking is the outcome, where those before it are accepted
-lacking : (files : Files) (a : Asked) (role : Role) → AcceptedBefore files a role → files (name_of a role) ≡ None → case_in files a ≡ Err (stop.NotRead role)
-unfolding case_in film_in
-lacking files a role.Manifest h n = rw n refl
-lacking files a role.Trace h n = trace_lacking files a h n
+after_ok : {A B : Type 0} (o : Result A Stop) (f : A → Result B Stop) (why : Stop) → IsOk o → ((x : A) → f x ≡ Err why) → (o >>= f) ≡ Err why
+after_ok (Ok x) f why h k = k x
+after_ok (Err other) f why h k = cc
 
-lacking_or_not : (words : List Text) (files : Files) (old new : World) (a : Asked) (role : Role) (file : Option Text) → files (name_of a role) ≡ file → asked words ≡ Ok a → AcceptedBefore files a role → NoFaults words files old new
+script_lacking : (files : Files) (segments : ℕ) (name : Option Text) → IsSome name → files (unwrap_or name []) ≡ None → seeks_in files segments name ≡ Err (stop.NotRead role.Seeks)
+unfolding script_in
+script_lacking files segments None h n = cc
+script_lacking files segments (Some name) h n = rw n refl
+
+seeks_lacking : (files : Files) (a : Asked) → IsOk (film_in files a.manifest) → IsOk (periods_in files a.trace) → IsSome a.seeks → files (unwrap_or a.seeks []) ≡ None → case_in files a ≡ Err (stop.NotRead role.Seeks)
+unfolding case_in
+seeks_lacking files a f p s n =
+    after_ok (film_in files a.manifest) _ (stop.NotRead role.Seeks) f
+    (λ film. after_ok (periods_in files a.trace) _ (stop.NotRead role.Seeks) p (λ periods. rw (script_lacking files (segments_of film) a.seeks s n) refl))
+
+-- a file that is lacking is the outcome, where those before it are accepted
+lacking : (files : Files) (a : Asked) (role : Role) → IsNamed a role → AcceptedBefore files a role → files (name_of a role) ≡ None → case_in files a ≡ Err (stop.NotRead role)
+unfolding case_in film_in
+lacking files a role.Manifest named h n = rw n refl
+lacking files a role.Trace named h n = trace_lacking files a h n
+lacking files a role.Seeks named h n = seeks_lacking files a h.0 h.1 named n
+
+lacking_or_not : (words : List Text) (files : Files) (old new : World) (a : Asked) (role : Role) (file : Option Text) → files (name_of a role) ≡ file → asked words ≡ Ok a → IsNamed a role → AcceptedBefore files a role → NoFaults words files old new
     → Rose (old.shelf.faults (name_of a role)) (new.shelf.faults (name_of a role)) → 4 ≡ status words files
-lacking_or_not words files old new a role None n e h f rose = rw (case_of_asked words files a e, lacking files a role h n) refl
-lacking_or_not words files old new a role (Some bytes) n e h f rose = absurd (f.shelf a role e (rw n refl) rose)
+lacking_or_not words files old new a role None n e named h f rose = rw (case_of_asked words files a e, lacking files a role named h n) refl
+lacking_or_not words files old new a role (Some bytes) n e named h f rose = absurd (f.shelf a role e named (rw n refl) rose)
 
 -- without faults from outside the status is answered, or 9
 pub is_complete : (words : List Text) (old new : World) (e : Ending) (r : ℕ) → Ends words old new e r → (files : Files) → Tells old.shelf files → NoFaults words files old new → (r ≡ status words files) ⊎ (r ≡ 9)
 is_complete words old new ending.Done r h = λ files t f. inl (rw ((h.cause.1 files t).1) h.status)
 is_complete words old new (ending.Stopped stop.Usage) r h = λ files t f. inl (rw (case_of_usage words files h.cause.1.0) h.status)
-is_complete words old new (ending.Stopped (stop.NotRead role)) r h = λ files t f. inl (h.status ∙ lacking_or_not words files old new h.cause.1.0 role (files (name_of h.cause.1.0 role)) refl h.cause.1.1 (h.cause.1.3 files t) f h.cause.1.2)
+is_complete words old new (ending.Stopped (stop.NotRead role)) r h = λ files t f. inl (h.status ∙ lacking_or_not words files old new h.cause.1.0 role (files (name_of h.cause.1.0 role)) refl h.cause.1.1 h.cause.1.2 (h.cause.1.4 files t) f h.cause.1.3)
 is_complete words old new (ending.Stopped (stop.TooLong role)) r h = λ files t f. inl (rw (h.cause.1.1 files t) h.status)
 is_complete words old new (ending.Stopped (stop.Refused role why)) r h = λ files t f. inl (rw (h.cause.1.1 files t) h.status)
 is_complete words old new (ending.Stopped (stop.Settings setting)) r h = λ files t f. inl (rw (h.cause.1.1 files t) h.status)

@@ -1,5 +1,5 @@
 -- What stands on `err`: one line for each way in which a run ends, but for a text that went out whole.
-use Rattle.std.specs.Prelude.{List, [], ◌∷◌, codes, ℕ}
+use Rattle.std.specs.Prelude.{List, [], ◌∷◌, codes}
 use Rattle.std.specs.Fmt.{decimal}
 use Rattle.lab_io.specs.Sink.{Text}
 use Rattle.lab_io.specs.Piece.{fields_line}
@@ -21,6 +21,7 @@ use Rattle.abrlab_top.specs.declared.stop.Ending.TheVariants as ending
 abbrev pub role_word : Role → Text
 role_word role.Manifest = codes "manifest"
 role_word role.Trace = codes "trace"
+role_word role.Seeks = codes "seeks"
 
 -- the word of a kind of fault
 abbrev pub kind_word : Kind → Text

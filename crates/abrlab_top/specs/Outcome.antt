@@ -1,5 +1,5 @@
 -- What a run comes to, by its words and its files, in the order of its refusals.
-use Rattle.std.specs.Prelude.{◌≡◌, ℕ, ◌&&◌, ◌||◌, ◌==◌, Bool, true, false, not, List, [], ◌∷◌, length, Option, Some, None, Result, Ok, Err, codes, if◌then◌else◌, nat_le, nat_lt, nat_eq}
+use Rattle.std.specs.Prelude.{ℕ, ◌&&◌, ◌||◌, ◌==◌, Bool, true, false, not, List, [], ◌∷◌, length, Option, Some, None, Result, Ok, Err, codes, if◌then◌else◌, nat_le, nat_lt, nat_eq, unwrap_or, IsSome}
 use Rattle.std.specs.List.{ends_with, list_all}
 use Rattle.lab_io.specs.Sink.{Text}
 use Rattle.lab_model.specs.declared.fault.Refusal.{Refusal}
@@ -11,6 +11,9 @@ use Rattle.lab_model.specs.Weighing.{weighing}
 use Rattle.lab_words.specs.Words.{CommandWords, command_of}
 use Rattle.manifest_reader.specs.Manifest.{manifest_of}
 use Rattle.trace_reader.specs.Trace.{trace_json}
+use Rattle.trace_reader.specs.TraceCsv.{trace_csv_of}
+use Rattle.seek_script.specs.Script.{seeks_of}
+use Rattle.lab_model.specs.declared.context.Seek.{Seek}
 use Rattle.player_core.specs.Available.{all_ahead}
 use Rattle.player_core.specs.State.{Case}
 use Rattle.player_core.specs.Session.{session_of}
@@ -34,14 +37,15 @@ abbrev pub ◌>>=◌ : {A B : Type 0} → Result A Stop → (A → Result B Stop
 
 -- ---- the words
 
--- what `simulate` asks for: two files, a setup and a rule
+-- what `simulate` asks for: a manifest, a trace and perhaps a seek script, a setup and a rule
 pub record Asked : Type 0 where
   pub manifest : Text
   pub trace : Text
+  pub seeks : Option Text
   pub setup : Setup
   pub rule : RuleKind
 
--- the name of a file in the CSV format, which isn't read yet
+-- the name of a file in the CSV format
 abbrev pub is_csv : Text → Bool
 is_csv name = ends_with nat_eq name (codes ".csv")
 
@@ -53,19 +57,14 @@ is_built_rule (throughput windows) = false
 is_built_rule (bola g) = false
 is_built_rule (mpc horizon) = false
 
--- the trace and the rule are of the kinds that are built, and so is a session without seeks
-abbrev pub is_built : Text → RuleKind → Option Text → Bool
-is_built trace rule None = not (is_csv trace) && is_built_rule rule
-is_built trace rule (Some seeks) = false
-
 -- the setup that the options give
 abbrev pub setup_of : CommandWords → Setup
 setup_of c = record { buffer_ms = c.buffer_ms; weights = weighing c.utilities c.switch c.stall c.startup; abandon = c.abandon }
 
--- a session of the one trace and the one rule, where it is built
+-- a session of the one trace and the one rule, where the rule is built
 abbrev pub asked_with : CommandWords → List Text → List (Text × RuleKind) → Result Asked Stop
 asked_with c (trace ∷ []) (rule ∷ []) =
-    if is_built trace rule.1 c.seeks then Ok (record { manifest = c.manifest; trace = trace; setup = setup_of c; rule = rule.1 }) else Err stop.Usage
+    if is_built_rule rule.1 then Ok (record { manifest = c.manifest; trace = trace; seeks = c.seeks; setup = setup_of c; rule = rule.1 }) else Err stop.Usage
 asked_with c traces rules = Err stop.Usage
 
 -- what a command that is read asks for
@@ -99,11 +98,26 @@ film_in files name = do
   bytes ← bytes_of role.Manifest (files name)
   read_as role.Manifest (manifest_of bytes)
 
+-- the trace that the bytes of a file are, by the format that its name tells
+abbrev pub trace_of : Text → Text → Result (List Period) Refusal
+trace_of name bytes = if is_csv name then trace_csv_of bytes else trace_json bytes
+
 -- the trace in a file
 unfoldable pub periods_in : Files → Text → Result (List Period) Stop
 periods_in files name = do
   bytes ← bytes_of role.Trace (files name)
-  read_as role.Trace (trace_json bytes)
+  read_as role.Trace (trace_of name bytes)
+
+-- the seek script in a file, for a film of so many segments
+unfoldable pub script_in : Files → ℕ → Text → Result (List Seek) Stop
+script_in files segments name = do
+  bytes ← bytes_of role.Seeks (files name)
+  read_as role.Seeks (seeks_of bytes segments)
+
+-- the seeks of a session: none where there is no script
+abbrev pub seeks_in : Files → ℕ → Option Text → Result (List Seek) Stop
+seeks_in files segments None = Ok []
+seeks_in files segments (Some name) = script_in files segments name
 
 -- ---- the settings
 
@@ -130,9 +144,9 @@ misfit s rule f =
     else (if not (utilities_fit s f) then Some setting.Utilities
     else (if not (rule_fits rule f) then Some (setting.Rule 1) else None))
 
--- the case that a film, a network, a setup and a rule make, of a film on demand and without seeks
-abbrev pub session_case : Film → List Period → Setup → RuleKind → Case
-session_case f periods s rule = record { film = f; periods = periods; setup = s; seeks = []; ahead = all_ahead; rule = rule }
+-- the case that a film on demand, a network, seeks, a setup and a rule make
+abbrev pub session_case : Film → List Period → List Seek → Setup → RuleKind → Case
+session_case f periods seeks s rule = record { film = f; periods = periods; setup = s; seeks = seeks; ahead = all_ahead; rule = rule }
 
 -- the case, unless a setting does not fit
 abbrev pub unless_misfit : Option Setting → Case → Result Case Stop
@@ -141,12 +155,13 @@ unless_misfit (Some setting) c = Err (stop.Settings setting)
 
 -- ---- the whole
 
--- the case that a command plays: the manifest first, then the trace, then the settings
+-- the case that a command plays: the manifest first, then the trace, then the seek script, then the settings
 unfoldable pub case_in : Files → Asked → Result Case Stop
 case_in files a = do
   film ← film_in files a.manifest
   periods ← periods_in files a.trace
-  unless_misfit (misfit a.setup a.rule film) (session_case film periods a.setup a.rule)
+  seeks ← seeks_in files (segments_of film) a.seeks
+  unless_misfit (misfit a.setup a.rule film) (session_case film periods seeks a.setup a.rule)
 
 -- the case that words and files make
 unfoldable pub case_of : List Text → Files → Result Case Stop
@@ -162,3 +177,10 @@ printed c = session_text (session_of c) c.setup.weights
 abbrev pub name_of : Asked → Role → Text
 name_of a role.Manifest = a.manifest
 name_of a role.Trace = a.trace
+name_of a role.Seeks = unwrap_or a.seeks []
+
+-- the words name a file of the role
+abbrev pub IsNamed : Asked → Role → Type 0
+IsNamed a role.Manifest = Unit {0}
+IsNamed a role.Trace = Unit {0}
+IsNamed a role.Seeks = IsSome a.seeks

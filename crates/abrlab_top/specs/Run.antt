@@ -1,5 +1,5 @@
 -- A whole run: its status, its text and its note, and what each answer has for a cause.
-use Rattle.std.specs.Prelude.{◌≡◌, ◌⊎◌, ℕ, ◌==◌, Bool, true, List, [], ◌∷◌, Option, Some, Result, Ok, Err, IsOk, IsSome}
+use Rattle.std.specs.Prelude.{◌≡◌, ◌⊎◌, ℕ, ◌==◌, true, List, [], ◌∷◌, Some, Result, Ok, Err, IsOk, IsSome}
 use Rattle.std.specs.List.{list_any}
 use Rattle.lab_io.specs.Sink.{Text, Seen, Rose, Grew, GrewPart, Puts}
 use Rattle.lab_io.specs.Shelf.{Shelved}
@@ -14,8 +14,8 @@ use Rattle.abrlab_top.specs.declared.stop.Stop.{Stop}
 use Rattle.abrlab_top.specs.declared.stop.Stop.TheVariants as stop
 use Rattle.abrlab_top.specs.declared.stop.Ending.{Ending}
 use Rattle.abrlab_top.specs.declared.stop.Ending.TheVariants as ending
-use Rattle.abrlab_top.specs.Outcome.{Asked, Files, asked, case_of, film_in, name_of, printed}
-use Rattle.abrlab_top.specs.Notes.{ending_note, memory_note, output_note, stop_note}
+use Rattle.abrlab_top.specs.Outcome.{Asked, Files, IsNamed, asked, case_of, film_in, name_of, periods_in, printed}
+use Rattle.abrlab_top.specs.Notes.{memory_note, output_note, stop_note}
 
 -- ---- the run as a definition
 
@@ -92,6 +92,7 @@ ending_status ending.NoMemory = 9
 abbrev pub AcceptedBefore : Files → Asked → Role → Type 0
 AcceptedBefore files a role.Manifest = Unit {0}
 AcceptedBefore files a role.Trace = IsOk (film_in files a.manifest)
+AcceptedBefore files a role.Seeks = IsOk (film_in files a.manifest) × IsOk (periods_in files a.trace)
 
 -- the words ask for something
 abbrev pub AreTaken : List Text → Type 0
@@ -123,6 +124,7 @@ pub record IsNotRead (words : List Text) (old new : World) : Type 0 where
   pub wanted : Asked
   pub role : Role
   pub asked : asked words ≡ Ok wanted
+  pub named : IsNamed wanted role
   pub out : new.out ≡ old.out
   pub rose : Rose (old.shelf.faults (name_of wanted role)) (new.shelf.faults (name_of wanted role))
   pub before : (files : Files) → Tells old.shelf files → AcceptedBefore files wanted role
@@ -157,7 +159,7 @@ answers_to (Err (stop.Settings setting)) = 3 ∷ 4 ∷ 9 ∷ []
 
 -- no fault came from outside: neither the count of a file that the words name and the shelf holds rose, nor that of `out`
 pub record NoFaults (words : List Text) (files : Files) (old new : World) : Type 0 where
-  pub shelf : (wanted : Asked) (role : Role) → asked words ≡ Ok wanted → IsSome (files (name_of wanted role)) → Rose (old.shelf.faults (name_of wanted role)) (new.shelf.faults (name_of wanted role)) → ⊥
+  pub shelf : (wanted : Asked) (role : Role) → asked words ≡ Ok wanted → IsNamed wanted role → IsSome (files (name_of wanted role)) → Rose (old.shelf.faults (name_of wanted role)) (new.shelf.faults (name_of wanted role)) → ⊥
   pub out : Rose old.out.faults new.out.faults → ⊥
 
 -- THE HEADLINE: `out` has grown by exactly the session text of the millisecond player on the case that words and files make, and `err` by nothing

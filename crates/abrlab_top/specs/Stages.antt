@@ -1,5 +1,5 @@
 -- What the stages of a run have for a cause, each as it is called.
-use Rattle.std.specs.Prelude.{◌≡◌, ◌⊎◌, ℕ, ◌≤◌, true, List, Result, Ok, Err, IsOk, string_bytes, []}
+use Rattle.std.specs.Prelude.{◌≡◌, ◌⊎◌, ◌≤◌, true, List, Result, Ok, Err, string_bytes, option_map, []}
 use Rattle.lab_io.specs.Sink.{Text, Seen, Rose, Grew, GrewPart}
 use Rattle.lab_io.specs.Shelf.{Shelved}
 use Rattle.lab_words.specs.Words.{begins_with_verb}
@@ -8,6 +8,7 @@ use Rattle.lab_model.specs.Rules.{KindFits}
 use Rattle.lab_model.specs.declared.fault.InputFault.{InputFault}
 use Rattle.lab_model.specs.declared.fault.InputFault.TheVariants.{Memory, Refused}
 use Rattle.player_core.specs.State.{Case}
+use Rattle.player_core.specs.Seeks.{SeeksFit}
 use Rattle.abrlab_top.specs.declared.stop.Role.{Role}
 use Rattle.abrlab_top.specs.declared.stop.Stop.{Stop}
 use Rattle.abrlab_top.specs.declared.stop.Stop.TheVariants as stop
@@ -17,7 +18,7 @@ use Rattle.abrlab_top.specs.declared.stop.Ending.{Ending}
 use Rattle.abrlab_top.specs.declared.stop.Ending.TheVariants as ending
 use Rattle.abrlab_top.specs.declared.session.Simulation.{Simulation}
 use Rattle.abrlab_top.specs.declared.session.Ready.{Ready}
-use Rattle.abrlab_top.specs.Outcome.{Asked, Files, asked, case_in, case_of, name_of, printed, session_case}
+use Rattle.abrlab_top.specs.Outcome.{Asked, Files, IsNamed, asked, case_in, case_of, name_of, printed, session_case}
 use Rattle.abrlab_top.specs.Rules.{StandsFor, kind_of}
 use Rattle.abrlab_top.specs.Run.{AcceptedBefore, AreTaken, Tells, text}
 
@@ -43,16 +44,17 @@ halt_of role (Refused why) = halt.Stopped (stop.Refused role why)
 
 -- what is asked for, without where its texts lie in memory
 abbrev pub asked_seen : Simulation → Asked
-asked_seen s = record { manifest = string_bytes s.manifest; trace = string_bytes s.trace; setup = s.setup; rule = kind_of s.rule }
+asked_seen s = record { manifest = string_bytes s.manifest; trace = string_bytes s.trace; seeks = option_map string_bytes s.seeks; setup = s.setup; rule = kind_of s.rule }
 
 -- the case that is ready to be played
 abbrev pub case_seen : Ready → Case
-case_seen r = session_case r.manifest r.trace r.setup (kind_of r.rule)
+case_seen r = session_case r.manifest r.trace r.seeks.items r.setup (kind_of r.rule)
 
 -- the case can be played
 pub record CanPlay (r : Ready) : Type 0 where
   pub setup_fits : SetupFits r.setup r.manifest
   pub rule_fits : KindFits (kind_of r.rule) r.manifest
+  pub seeks_fit : SeeksFit r.seeks.items r.manifest
   pub told : StandsFor r.rule []
 
 -- what reading the words gave
@@ -66,7 +68,7 @@ abbrev pub Readies : Asked → Shelved → Result Ready Halt → Shelved → Typ
 Readies a old (Ok r) new = (files : Files) → Tells old files → case_in files a ≡ Ok (case_seen r)
 Readies a old (Err (halt.Stopped stop.Usage)) new = ⊥
 Readies a old (Err (halt.Stopped (stop.NotRead role))) new =
-    Rose (old.faults (name_of a role)) (new.faults (name_of a role)) × ((files : Files) → Tells old files → AcceptedBefore files a role)
+    IsNamed a role × Rose (old.faults (name_of a role)) (new.faults (name_of a role)) × ((files : Files) → Tells old files → AcceptedBefore files a role)
 Readies a old (Err (halt.Stopped (stop.TooLong role))) new = (files : Files) → Tells old files → case_in files a ≡ Err (stop.TooLong role)
 Readies a old (Err (halt.Stopped (stop.Refused role why))) new = (files : Files) → Tells old files → case_in files a ≡ Err (stop.Refused role why)
 Readies a old (Err (halt.Stopped (stop.Settings setting))) new = (files : Files) → Tells old files → case_in files a ≡ Err (stop.Settings setting)
@@ -80,7 +82,7 @@ Refuses words old why = AreTaken words × ((files : Files) → Tells old files �
 abbrev pub Stops : List Text → Shelved → Stop → Shelved → Type 0
 Stops words old stop.Usage new = (asked words ≡ Err stop.Usage) × (new ≡ old)
 Stops words old (stop.NotRead role) new =
-    (a : Asked) × (asked words ≡ Ok a) × Rose (old.faults (name_of a role)) (new.faults (name_of a role)) × ((files : Files) → Tells old files → AcceptedBefore files a role)
+    (a : Asked) × (asked words ≡ Ok a) × IsNamed a role × Rose (old.faults (name_of a role)) (new.faults (name_of a role)) × ((files : Files) → Tells old files → AcceptedBefore files a role)
 Stops words old (stop.TooLong role) new = Refuses words old (stop.TooLong role)
 Stops words old (stop.Refused role why) new = Refuses words old (stop.Refused role why)
 Stops words old (stop.Settings setting) new = Refuses words old (stop.Settings setting)

@@ -5,7 +5,7 @@ ghost use Rattle.lab_model.specs.Weighing.{IsWeighing, weighing};
 ghost use Rattle.lab_words.specs.Limits.{IsWithinLimits};
 ghost use Rattle.lab_words.specs.Rules.{spoken};
 ghost use Rattle.lab_words.specs.Words.{view};
-ghost use Rattle.abrlab_top.specs.Outcome.{asked_by, is_built_rule, is_csv};
+ghost use Rattle.abrlab_top.specs.Outcome.{asked_by, is_built_rule};
 ghost use Rattle.abrlab_top.specs.Rules.{StandsFor};
 ghost use Rattle.abrlab_top.specs.Stages.{Asks, asked_seen};
 
@@ -15,13 +15,6 @@ use crate::stop::{Halt, Stop};
 use lab_model::{Setup, Weights};
 use lab_words::{Command, RuleWords, WordsErr, read_words};
 use std::alloc::Global;
-
-// A trace in the CSV format is not read yet.
-fn is_csv(name: &str) -> bool
-    ensures { result ≡ is_csv name.now }
-{
-    name.as_bytes().ends_with(b".csv")
-}
 
 fn is_built_rule(rule: &RuleWords) -> bool
     ensures { result ≡ is_built_rule (spoken rule.now) }
@@ -72,12 +65,13 @@ fn simulation_of(command: Command) -> Option<Simulation>
 {
     let trace = only(command.traces);
     let rule = only(command.rules).rule;
-    if command.seeks.is_some() || is_csv(&trace) || !is_built_rule(&rule) {
+    if !is_built_rule(&rule) {
         return None;
     }
     Some(Simulation {
         manifest: command.manifest,
         trace,
+        seeks: command.seeks,
         setup: setup_of(
             command.buffer_ms,
             command.utilities,

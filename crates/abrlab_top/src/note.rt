@@ -18,6 +18,7 @@ fn role_word(role: Role) -> &'static str
     match role {
         Role::Manifest => "manifest",
         Role::Trace => "trace",
+        Role::Seeks => "seeks",
     }
 }
 

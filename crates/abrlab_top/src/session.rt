@@ -9,11 +9,11 @@ ghost use Rattle.abrlab_top.specs.Rules.{StandsFor, kind_of};
 ghost use Rattle.abrlab_top.specs.Stages.{CanPlay, Causes, Keeps, Prepares, Readies, Shows, asked_seen, case_seen};
 
 use crate::asked::asked;
-use crate::file::{film_from, trace_from};
+use crate::file::{film_from, seeks_from, trace_from};
 use crate::rule::AnyRule;
 use crate::stop::{Ending, Halt, Setting, Stop};
 use lab_io::{PutErr, Shelf, Sink};
-use lab_model::{Manifest, NoMemory, Rule, Setup, Trace};
+use lab_model::{Manifest, NoMemory, Rule, Seek, Setup, Trace};
 use network_clock::Clock;
 use player_core::{Session, play};
 use session_report::write_session;
@@ -26,6 +26,8 @@ pub(crate) struct Simulation {
     pub manifest: String,
     /// The trace's file name.
     pub trace: String,
+    /// The seek script's file name, if there is one.
+    pub seeks: Option<String>,
     pub setup: Setup,
     pub rule: AnyRule,
 }
@@ -35,6 +37,7 @@ pub(crate) struct Simulation {
 pub(crate) struct Ready {
     pub manifest: Manifest,
     pub trace: Trace,
+    pub seeks: Vec<Seek>,
     pub setup: Setup,
     pub rule: AnyRule,
 }
@@ -88,12 +91,14 @@ fn readied<F: Shelf>(alloc: Global, shelf: &mut F, asked: Simulation) -> Result<
 {
     let manifest = film_from(alloc, shelf, &asked.manifest)?;
     let trace = trace_from(alloc, shelf, &asked.trace)?;
+    let seeks = seeks_from(alloc, shelf, &asked.seeks, manifest.segments())?;
     if let Some(setting) = misfit(&asked.setup, &asked.rule, &manifest) {
         return Err(Halt::Stopped(Stop::Settings(setting)));
     }
     Ok(Ready {
         manifest,
         trace,
+        seeks,
         setup: asked.setup,
         rule: asked.rule,
     })
@@ -116,13 +121,14 @@ fn shown<O: Sink>(alloc: Global, ready: Ready, out: &mut O) -> Ending
     let Ready {
         manifest,
         trace,
+        seeks,
         setup,
         rule,
     } = ready;
     let Ok(clock) = Clock::new(alloc, &trace) else {
         return Ending::NoMemory;
     };
-    let Ok(session) = play(alloc, &manifest, &clock, &setup, &[], rule) else {
+    let Ok(session) = play(alloc, &manifest, &clock, &setup, &seeks, rule) else {
         return Ending::NoMemory;
     };
     match write_session(&session, &setup.weights, out) {

@@ -9,6 +9,8 @@ pub enum Role {
     Manifest,
     /// The recorded network.
     Trace,
+    /// The seek script.
+    Seeks,
 }
 
 /// What does not fit the film.

@@ -1,6 +1,6 @@
-use Rattle.std.proofs.Common.{ℕ, List, map, string_bytes}
-use Rattle.abrlab_top.specs.Run.{World, world}
-use Rattle.abrlab_top.proofs.Table.{Ends, is_answer, is_complete, prints_the_session, without_command}
+use Rattle.std.proofs.Common.{map, string_bytes}
+use Rattle.abrlab_top.specs.Run.{world}
+use Rattle.abrlab_top.proofs.Table.{is_answer, is_complete, prints_the_session, without_command}
 use Rattle.abrlab_top.proofs.run.Goals as goal
 
 pub returns-clause-simulates : goal.returns-clause-simulates

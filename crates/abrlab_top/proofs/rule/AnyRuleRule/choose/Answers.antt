@@ -1,4 +1,3 @@
-use Rattle.std.proofs.Common.{sym}
 use Rattle.abrlab_top.proofs.rule.AnyRuleRule.choose.Goals as goal
 
 pub returns-in-Fixed-clause-choice : goal.returns-in-Fixed-clause-choice
