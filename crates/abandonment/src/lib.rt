@@ -7,6 +7,9 @@ ghost use Rattle.abandonment.specs.Test.{abandonment, is_better, is_due, is_late
 
 use lab_model::{Manifest, Sample};
 
+#[cfg(test)]
+mod tests;
+
 /// How far a running download has come.
 #[derive(Clone, Copy, PartialEq, Eq, Debug)]
 pub struct Progress {

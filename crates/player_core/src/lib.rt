@@ -9,3 +9,6 @@ mod session;
 pub use player::{available, play, play_from, seeks_fit};
 pub use rules::{Fixed, Listed};
 pub use session::{Event, Session};
+
+#[cfg(test)]
+mod tests;

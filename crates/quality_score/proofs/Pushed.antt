@@ -1,5 +1,5 @@
 -- What one more played segment adds to the sums of those before it.
-use Rattle.std.proofs.Common.{◌≡◌, ◌∙◌, ℕ, ◌+◌, ◌<◌, List, [], ◌∷◌, ◌++◌, length, Option, Some, None, refl, sym, ap, arith, rules, take, get_or, length-append, zero-add, add_assoc}
+use Rattle.std.proofs.Common.{◌≡◌, ◌∙◌, ℕ, ◌+◌, List, [], ◌∷◌, ◌++◌, Option, Some, None, refl, sym, ap, arith, length-append}
 use Rattle.lab_model.specs.declared.context.Played.{Played}
 use Rattle.lab_model.specs.Weighing.{Weighing, change_of, utility_of}
 use Rattle.quality_score.specs.Score.{changes_of, utilities_of}
@@ -22,8 +22,8 @@ pub stands_push : (w : Weighing) (ps : List Played) (p : Played) (t now : Tallie
     → now.utilities ≡ t.utilities + utility_of w p.segment p.rung → now.changes ≡ t.changes + change_of w p.segment t.last p.rung
     → now.last ≡ Some p.rung → now.count ≡ t.count + 1 → StandsFor w (ps ++ p ∷ []) now
 stands_push w ps p t now s u v l n = record {
-    utilities = u ∙ ap (λ (x : ℕ). x + utility_of w p.segment p.rung) s.utilities ∙ sym (utilities_push w ps p);
-    changes = v ∙ ap (λ (x : ℕ). x + change_of w p.segment t.last p.rung) s.changes ∙ ap (λ (x : Option ℕ). changes_of w None ps + change_of w p.segment x p.rung) s.last ∙ sym (changes_push w None ps p);
-    last = l ∙ sym (last_push None ps p);
-    count = let k = s.count in let m = length-append ps (p ∷ []) in omega (arith, n, k, m);
-  }
+  utilities = u ∙ ap (λ (x : ℕ). x + utility_of w p.segment p.rung) s.utilities ∙ sym (utilities_push w ps p);
+  changes = v ∙ ap (λ (x : ℕ). x + change_of w p.segment t.last p.rung) s.changes ∙ ap (λ (x : Option ℕ). changes_of w None ps + change_of w p.segment x p.rung) s.last ∙ sym (changes_push w None ps p);
+  last = l ∙ sym (last_push None ps p);
+  count = let k = s.count in let m = length-append ps (p ∷ []) in omega (arith, n, k, m);
+}

@@ -11,6 +11,9 @@ ghost use Rattle.quality_score.specs.Tallied.{IsSmall, StandsFor};
 use lab_model::{Played, Weights};
 use std::marker::Model;
 
+#[cfg(test)]
+mod tests;
+
 /// A running score: it stands for the played segments that it was told, under one set of weights.
 #[derive(Drop)]
 pub struct Tally {
@@ -38,7 +41,9 @@ fn change(w: &Weights, p: Played, before: Option<u8>) -> u32
 {
     match before {
         None => 0,
-        Some(q) => w.utility(p.segment, p.rung).abs_diff(w.utility(p.segment, q)),
+        Some(q) => w
+            .utility(p.segment, p.rung)
+            .abs_diff(w.utility(p.segment, q)),
     }
 }
 
