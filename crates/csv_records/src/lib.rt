@@ -7,6 +7,8 @@
 
 mod number;
 mod records;
+#[cfg(test)]
+mod tests;
 
 pub use number::{Fault, thousandths, whole_number};
 pub use records::{Records, field_in, is_named, records_of};

@@ -7,5 +7,7 @@
 
 mod fault;
 mod script;
+#[cfg(test)]
+mod tests;
 
 pub use script::read_seeks;

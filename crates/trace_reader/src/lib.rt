@@ -1,6 +1,8 @@
 //! The readers of traces: recorded networks, period by period.
 #![tactic(auto)]
 
+#[cfg(test)]
+mod csv_tests;
 mod csv_trace;
 mod cycle;
 mod fault;
