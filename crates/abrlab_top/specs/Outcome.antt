@@ -12,7 +12,7 @@ use Rattle.lab_words.specs.Words.{CommandWords, command_of}
 use Rattle.manifest_reader.specs.Manifest.{manifest_of}
 use Rattle.trace_reader.specs.Trace.{trace_json}
 use Rattle.player_core.specs.Available.{all_ahead}
-use Rattle.player_core.specs.State.{Case}
+use Rattle.player_core.specs.State.{Case, case_of}
 use Rattle.player_core.specs.Session.{session_of}
 use Rattle.session_report.specs.Session.{session_text}
 use Rattle.abrlab_top.specs.declared.stop.Role.{Role}
@@ -130,10 +130,6 @@ misfit s rule f =
     else (if not (utilities_fit s f) then Some setting.Utilities
     else (if not (rule_fits rule f) then Some (setting.Rule 1) else None))
 
--- the case that a film, a network, a setup and a rule make, of a film on demand and without seeks
-abbrev pub session_case : Film → List Period → Setup → RuleKind → Case
-session_case f periods s rule = record { film = f; periods = periods; setup = s; seeks = []; ahead = all_ahead; rule = rule }
-
 -- the case, unless a setting does not fit
 abbrev pub unless_misfit : Option Setting → Case → Result Case Stop
 unless_misfit None c = Ok c
@@ -141,16 +137,16 @@ unless_misfit (Some setting) c = Err (stop.Settings setting)
 
 -- ---- the whole
 
--- the case that a command plays: the manifest first, then the trace, then the settings
+-- the case that a command plays, of a film on demand and without seeks: the manifest comes first, then the trace, then the settings
 unfoldable pub case_in : Files → Asked → Result Case Stop
 case_in files a = do
   film ← film_in files a.manifest
   periods ← periods_in files a.trace
-  unless_misfit (misfit a.setup a.rule film) (session_case film periods a.setup a.rule)
+  unless_misfit (misfit a.setup a.rule film) (case_of film periods a.setup [] all_ahead a.rule)
 
--- the case that words and files make
-unfoldable pub case_of : List Text → Files → Result Case Stop
-case_of words files = do
+-- the outcome of words and files: the case that they make, or the first refusal
+unfoldable pub outcome : List Text → Files → Result Case Stop
+outcome words files = do
   a ← asked words
   case_in files a
 
