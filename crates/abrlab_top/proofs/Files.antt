@@ -9,7 +9,7 @@ use Rattle.lab_io.specs.Shelf.{Shelved, Holds}
 use Rattle.lab_model.specs.declared.fault.Refusal.{Refusal}
 use Rattle.lab_model.specs.declared.fault.InputFault.{InputFault}
 use Rattle.lab_model.specs.declared.fault.InputFault.TheVariants.{Memory, Refused}
-use Rattle.manifest_reader.specs.Faults.{Fails}
+use Rattle.lab_model.specs.Reading.{Fails}
 use Rattle.abrlab_top.specs.declared.stop.Role.{Role}
 use Rattle.abrlab_top.specs.declared.stop.Stop.{Stop}
 use Rattle.abrlab_top.specs.declared.stop.Stop.TheVariants as stop

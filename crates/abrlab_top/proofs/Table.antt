@@ -1,5 +1,5 @@
 -- What each answer of a run has for a cause, from the cause of its ending.
-use Rattle.std.proofs.Common.{◌≡◌, ◌⊎◌, ℕ, List, [], ◌∷◌, Bool, true, false, Option, Some, None, Result, Ok, Err, IsOk, IsSome, ◌∙◌, refl, arith, inl, inr, nat_lt, if◌then◌else◌, length, unwrap_or}
+use Rattle.std.proofs.Common.{◌≡◌, ◌⊎◌, ℕ, List, [], Bool, true, false, Option, Some, None, Result, Ok, Err, IsOk, IsSome, ◌∙◌, refl, arith, inl, inr, nat_lt, if◌then◌else◌, length, unwrap_or}
 use Rattle.lab_io.specs.Sink.{Text, Rose}
 use Rattle.lab_model.specs.declared.fault.Refusal.{Refusal}
 use Rattle.lab_words.specs.Words.{begins_with_verb}
@@ -12,8 +12,8 @@ use Rattle.abrlab_top.specs.declared.stop.Stop.{Stop}
 use Rattle.abrlab_top.specs.declared.stop.Stop.TheVariants as stop
 use Rattle.abrlab_top.specs.declared.stop.Ending.{Ending}
 use Rattle.abrlab_top.specs.declared.stop.Ending.TheVariants as ending
-use Rattle.abrlab_top.specs.Outcome.{◌>>=◌, Asked, Files, IsNamed, asked, bytes_of, case_in, case_of, file_limit, film_in, name_of, periods_in, printed, read_as, script_in, seeks_in, unless_misfit}
-use Rattle.abrlab_top.specs.Run.{AcceptedBefore, AreTaken, IsAmong, IsDone, IsNoMemory, IsNotRead, IsOutputFailed, IsRefused, IsUsage, NoFaults, PrintsTheSession, Tells, Told, World, answers_to, ending_status, status}
+use Rattle.abrlab_top.specs.Outcome.{◌>>=◌, Asked, Files, IsNamed, asked, bytes_of, case_in, outcome, file_limit, film_in, name_of, periods_in, printed, read_as, script_in, seeks_in, unless_misfit}
+use Rattle.abrlab_top.specs.Run.{AcceptedBefore, AreTaken, IsAmong, IsRefused, NoFaults, PrintsTheSession, Tells, Told, World, answers_to, ending_status, status}
 use Rattle.abrlab_top.specs.Stages.{Causes}
 use Rattle.abrlab_top.proofs.Whole.{begins}
 
@@ -23,71 +23,16 @@ pub record Ends (words : List Text) (old new : World) (e : Ending) (r : ℕ) : T
   pub told : Told old.err e new.err
   pub status : r ≡ ending_status e
 
--- 0
-pub is_done : (words : List Text) (old new : World) (e : Ending) (r : ℕ) → Ends words old new e r → r ≡ 0 → IsDone words old new
-is_done words old new ending.Done r h s = record { taken = h.cause.0; err = h.told; text = λ files t. let x = h.cause.1 files t in (rw x.1 refl, rw x.1 x.2) }
-is_done words old new (ending.Stopped stop.Usage) r h s = let k = h.status in absurd (omega arith)
-is_done words old new (ending.Stopped (stop.NotRead role)) r h s = let k = h.status in absurd (omega arith)
-is_done words old new (ending.Stopped (stop.TooLong role)) r h s = let k = h.status in absurd (omega arith)
-is_done words old new (ending.Stopped (stop.Refused role why)) r h s = let k = h.status in absurd (omega arith)
-is_done words old new (ending.Stopped (stop.Settings setting)) r h s = let k = h.status in absurd (omega arith)
-is_done words old new ending.OutputFailed r h s = let k = h.status in absurd (omega arith)
-is_done words old new ending.NoMemory r h s = let k = h.status in absurd (omega arith)
-
--- 2
-pub is_usage : (words : List Text) (old new : World) (e : Ending) (r : ℕ) → Ends words old new e r → r ≡ 2 → IsUsage words old new
-is_usage words old new ending.Done r h s = let k = h.status in absurd (omega arith)
-is_usage words old new (ending.Stopped stop.Usage) r h s = record { refused = h.cause.1.0; shelf = h.cause.1.1; out = h.cause.0; err = h.told }
-is_usage words old new (ending.Stopped (stop.NotRead role)) r h s = let k = h.status in absurd (omega arith)
-is_usage words old new (ending.Stopped (stop.TooLong role)) r h s = let k = h.status in absurd (omega arith)
-is_usage words old new (ending.Stopped (stop.Refused role why)) r h s = let k = h.status in absurd (omega arith)
-is_usage words old new (ending.Stopped (stop.Settings setting)) r h s = let k = h.status in absurd (omega arith)
-is_usage words old new ending.OutputFailed r h s = let k = h.status in absurd (omega arith)
-is_usage words old new ending.NoMemory r h s = let k = h.status in absurd (omega arith)
-
--- 3
+-- the row of 3
 pub is_refused : (words : List Text) (old new : World) (e : Ending) (r : ℕ) → Ends words old new e r → r ≡ 3 → IsRefused words old new
 is_refused words old new ending.Done r h s = let k = h.status in absurd (omega arith)
 is_refused words old new (ending.Stopped stop.Usage) r h s = let k = h.status in absurd (omega arith)
 is_refused words old new (ending.Stopped (stop.NotRead role)) r h s = let k = h.status in absurd (omega arith)
-is_refused words old new (ending.Stopped (stop.TooLong role)) r h s = record { taken = h.cause.1.0; out = h.cause.0; note = λ files t. (rw (h.cause.1.1 files t) refl, rw (h.cause.1.1 files t) h.told) }
-is_refused words old new (ending.Stopped (stop.Refused role why)) r h s = record { taken = h.cause.1.0; out = h.cause.0; note = λ files t. (rw (h.cause.1.1 files t) refl, rw (h.cause.1.1 files t) h.told) }
-is_refused words old new (ending.Stopped (stop.Settings setting)) r h s = record { taken = h.cause.1.0; out = h.cause.0; note = λ files t. (rw (h.cause.1.1 files t) refl, rw (h.cause.1.1 files t) h.told) }
+is_refused words old new (ending.Stopped (stop.TooLong role)) r h s = record { taken = h.cause.1.0; why = stop.TooLong role; refuses = refl; out = h.cause.0; err = h.told; outcome = λ files t. (rw (h.cause.1.1 files t) refl, rw (h.cause.1.1 files t) refl) }
+is_refused words old new (ending.Stopped (stop.Refused role why)) r h s = record { taken = h.cause.1.0; why = stop.Refused role why; refuses = refl; out = h.cause.0; err = h.told; outcome = λ files t. (rw (h.cause.1.1 files t) refl, rw (h.cause.1.1 files t) refl) }
+is_refused words old new (ending.Stopped (stop.Settings setting)) r h s = record { taken = h.cause.1.0; why = stop.Settings setting; refuses = refl; out = h.cause.0; err = h.told; outcome = λ files t. (rw (h.cause.1.1 files t) refl, rw (h.cause.1.1 files t) refl) }
 is_refused words old new ending.OutputFailed r h s = let k = h.status in absurd (omega arith)
 is_refused words old new ending.NoMemory r h s = let k = h.status in absurd (omega arith)
-
--- 4
-pub is_not_read : (words : List Text) (old new : World) (e : Ending) (r : ℕ) → Ends words old new e r → r ≡ 4 → IsNotRead words old new
-is_not_read words old new ending.Done r h s = let k = h.status in absurd (omega arith)
-is_not_read words old new (ending.Stopped stop.Usage) r h s = let k = h.status in absurd (omega arith)
-is_not_read words old new (ending.Stopped (stop.NotRead role)) r h s = record { wanted = h.cause.1.0; role = role; asked = h.cause.1.1; named = h.cause.1.2; out = h.cause.0; rose = h.cause.1.3; before = h.cause.1.4; err = h.told }
-is_not_read words old new (ending.Stopped (stop.TooLong role)) r h s = let k = h.status in absurd (omega arith)
-is_not_read words old new (ending.Stopped (stop.Refused role why)) r h s = let k = h.status in absurd (omega arith)
-is_not_read words old new (ending.Stopped (stop.Settings setting)) r h s = let k = h.status in absurd (omega arith)
-is_not_read words old new ending.OutputFailed r h s = let k = h.status in absurd (omega arith)
-is_not_read words old new ending.NoMemory r h s = let k = h.status in absurd (omega arith)
-
--- 5
-pub is_output_failed : (words : List Text) (old new : World) (e : Ending) (r : ℕ) → Ends words old new e r → r ≡ 5 → IsOutputFailed words old new
-is_output_failed words old new ending.Done r h s = let k = h.status in absurd (omega arith)
-is_output_failed words old new (ending.Stopped stop.Usage) r h s = let k = h.status in absurd (omega arith)
-is_output_failed words old new (ending.Stopped (stop.NotRead role)) r h s = let k = h.status in absurd (omega arith)
-is_output_failed words old new (ending.Stopped (stop.TooLong role)) r h s = let k = h.status in absurd (omega arith)
-is_output_failed words old new (ending.Stopped (stop.Refused role why)) r h s = let k = h.status in absurd (omega arith)
-is_output_failed words old new (ending.Stopped (stop.Settings setting)) r h s = let k = h.status in absurd (omega arith)
-is_output_failed words old new ending.OutputFailed r h s = record { taken = h.cause.0; rose = h.cause.1; err = h.told; text = λ files t. let x = h.cause.2 files t in (rw x.1 refl, rw x.1 x.2) }
-is_output_failed words old new ending.NoMemory r h s = let k = h.status in absurd (omega arith)
-
--- 9
-pub is_no_memory : (words : List Text) (old new : World) (e : Ending) (r : ℕ) → Ends words old new e r → r ≡ 9 → IsNoMemory words old new
-is_no_memory words old new ending.Done r h s = let k = h.status in absurd (omega arith)
-is_no_memory words old new (ending.Stopped stop.Usage) r h s = let k = h.status in absurd (omega arith)
-is_no_memory words old new (ending.Stopped (stop.NotRead role)) r h s = let k = h.status in absurd (omega arith)
-is_no_memory words old new (ending.Stopped (stop.TooLong role)) r h s = let k = h.status in absurd (omega arith)
-is_no_memory words old new (ending.Stopped (stop.Refused role why)) r h s = let k = h.status in absurd (omega arith)
-is_no_memory words old new (ending.Stopped (stop.Settings setting)) r h s = let k = h.status in absurd (omega arith)
-is_no_memory words old new ending.OutputFailed r h s = let k = h.status in absurd (omega arith)
-is_no_memory words old new ending.NoMemory r h s = record { command = h.cause.0; out = h.cause.1; err = h.told; text = h.cause.2 }
 
 -- the headline
 pub prints_the_session : (words : List Text) (old new : World) (e : Ending) (r : ℕ) → Ends words old new e r → r ≡ 0 → (files : Files) → Tells old.shelf files → PrintsTheSession words files old new
@@ -100,17 +45,6 @@ prints_the_session words old new (ending.Stopped (stop.Refused role why)) r h s 
 prints_the_session words old new (ending.Stopped (stop.Settings setting)) r h s = let k = h.status in absurd (omega arith)
 prints_the_session words old new ending.OutputFailed r h s = let k = h.status in absurd (omega arith)
 prints_the_session words old new ending.NoMemory r h s = let k = h.status in absurd (omega arith)
-
--- no other status
-pub is_known : (words : List Text) (old new : World) (e : Ending) (r : ℕ) → Ends words old new e r → IsAmong r (0 ∷ 2 ∷ 3 ∷ 4 ∷ 5 ∷ 9 ∷ [])
-is_known words old new ending.Done r h = rw h.status refl
-is_known words old new (ending.Stopped stop.Usage) r h = rw h.status refl
-is_known words old new (ending.Stopped (stop.NotRead role)) r h = rw h.status refl
-is_known words old new (ending.Stopped (stop.TooLong role)) r h = rw h.status refl
-is_known words old new (ending.Stopped (stop.Refused role why)) r h = rw h.status refl
-is_known words old new (ending.Stopped (stop.Settings setting)) r h = rw h.status refl
-is_known words old new ending.OutputFailed r h = rw h.status refl
-is_known words old new ending.NoMemory r h = rw h.status refl
 
 -- only the words make a usage
 abbrev NotUsage : {A : Type 0} → Result A Stop → Type 0
@@ -168,42 +102,27 @@ nine_among (Err (stop.TooLong role)) = refl
 nine_among (Err (stop.Refused role why)) = refl
 nine_among (Err (stop.Settings setting)) = refl
 
-case_of_asked : (words : List Text) (files : Files) (a : Asked) → asked words ≡ Ok a → case_of words files ≡ case_in files a
-unfolding case_of
-case_of_asked words files a e = rw e refl
+outcome_asked : (words : List Text) (files : Files) (a : Asked) → asked words ≡ Ok a → outcome words files ≡ case_in files a
+unfolding outcome
+outcome_asked words files a e = rw e refl
 
-case_of_usage : (words : List Text) (files : Files) → asked words ≡ Err stop.Usage → case_of words files ≡ Err stop.Usage
-unfolding case_of
-case_of_usage words files e = rw e refl
+outcome_usage : (words : List Text) (files : Files) → asked words ≡ Err stop.Usage → outcome words files ≡ Err stop.Usage
+unfolding outcome
+outcome_usage words files e = rw e refl
 
 -- the table
-pub is_answer : (words : List Text) (old new : World) (e : Ending) (r : ℕ) → Ends words old new e r → (files : Files) → Tells old.shelf files → IsAmong r (answers_to (case_of words files))
+pub is_answer : (words : List Text) (old new : World) (e : Ending) (r : ℕ) → Ends words old new e r → (files : Files) → Tells old.shelf files → IsAmong r (answers_to (outcome words files))
 is_answer words old new ending.Done r h = λ files t. rw (h.status, (h.cause.1 files t).1) refl
-is_answer words old new (ending.Stopped stop.Usage) r h = λ files t. rw (h.status, case_of_usage words files h.cause.1.0) refl
-is_answer words old new (ending.Stopped (stop.NotRead role)) r h = λ files t. rw (h.status, case_of_asked words files h.cause.1.0 h.cause.1.1) (four_among (case_in files h.cause.1.0) (not_usage files h.cause.1.0))
+is_answer words old new (ending.Stopped stop.Usage) r h = λ files t. rw (h.status, outcome_usage words files h.cause.1.0) refl
+is_answer words old new (ending.Stopped (stop.NotRead role)) r h = λ files t. rw (h.status, outcome_asked words files h.cause.1.0 h.cause.1.1) (four_among (case_in files h.cause.1.0) (not_usage files h.cause.1.0))
 is_answer words old new (ending.Stopped (stop.TooLong role)) r h = λ files t. rw (h.status, h.cause.1.1 files t) refl
 is_answer words old new (ending.Stopped (stop.Refused role why)) r h = λ files t. rw (h.status, h.cause.1.1 files t) refl
 is_answer words old new (ending.Stopped (stop.Settings setting)) r h = λ files t. rw (h.status, h.cause.1.1 files t) refl
 is_answer words old new ending.OutputFailed r h = λ files t. rw (h.status, (h.cause.2 files t).1) refl
-is_answer words old new ending.NoMemory r h = λ files t. rw h.status (nine_among (case_of words files))
+is_answer words old new ending.NoMemory r h = λ files t. rw h.status (nine_among (outcome words files))
 
 taken : (words : List Text) (a : Asked) → asked words ≡ Ok a → AreTaken words
 taken words a e = rw e refl
-
--- words that are taken are not refused
-taken_not_refused : {A : Type 0} (words : List Text) → AreTaken words → asked words ≡ Err stop.Usage → A
-taken_not_refused words h e = let k = rw e at h in cc
-
--- refused words are answered by 2, or by 9
-pub usage_comes : (words : List Text) (old new : World) (e : Ending) (r : ℕ) → Ends words old new e r → asked words ≡ Err stop.Usage → (r ≡ 2) ⊎ (r ≡ 9)
-usage_comes words old new ending.Done r h = λ u. taken_not_refused words h.cause.0 u
-usage_comes words old new (ending.Stopped stop.Usage) r h = λ u. inl h.status
-usage_comes words old new (ending.Stopped (stop.NotRead role)) r h = λ u. taken_not_refused words (taken words h.cause.1.0 h.cause.1.1) u
-usage_comes words old new (ending.Stopped (stop.TooLong role)) r h = λ u. taken_not_refused words h.cause.1.0 u
-usage_comes words old new (ending.Stopped (stop.Refused role why)) r h = λ u. taken_not_refused words h.cause.1.0 u
-usage_comes words old new (ending.Stopped (stop.Settings setting)) r h = λ u. taken_not_refused words h.cause.1.0 u
-usage_comes words old new ending.OutputFailed r h = λ u. taken_not_refused words h.cause.0 u
-usage_comes words old new ending.NoMemory r h = λ u. inr h.status
 
 -- words that begin with no command
 named_not : {A : Type 0} (words : List Text) → begins_with_verb words ≡ true → begins_with_verb words ≡ false → A
@@ -252,13 +171,13 @@ lacking files a role.Seeks named h n = seeks_lacking files a h.0 h.1 named n
 
 lacking_or_not : (words : List Text) (files : Files) (old new : World) (a : Asked) (role : Role) (file : Option Text) → files (name_of a role) ≡ file → asked words ≡ Ok a → IsNamed a role → AcceptedBefore files a role → NoFaults words files old new
     → Rose (old.shelf.faults (name_of a role)) (new.shelf.faults (name_of a role)) → 4 ≡ status words files
-lacking_or_not words files old new a role None n e named h f rose = rw (case_of_asked words files a e, lacking files a role named h n) refl
+lacking_or_not words files old new a role None n e named h f rose = rw (outcome_asked words files a e, lacking files a role named h n) refl
 lacking_or_not words files old new a role (Some bytes) n e named h f rose = absurd (f.shelf a role e named (rw n refl) rose)
 
 -- without faults from outside the status is answered, or 9
 pub is_complete : (words : List Text) (old new : World) (e : Ending) (r : ℕ) → Ends words old new e r → (files : Files) → Tells old.shelf files → NoFaults words files old new → (r ≡ status words files) ⊎ (r ≡ 9)
 is_complete words old new ending.Done r h = λ files t f. inl (rw ((h.cause.1 files t).1) h.status)
-is_complete words old new (ending.Stopped stop.Usage) r h = λ files t f. inl (rw (case_of_usage words files h.cause.1.0) h.status)
+is_complete words old new (ending.Stopped stop.Usage) r h = λ files t f. inl (rw (outcome_usage words files h.cause.1.0) h.status)
 is_complete words old new (ending.Stopped (stop.NotRead role)) r h = λ files t f. inl (h.status ∙ lacking_or_not words files old new h.cause.1.0 role (files (name_of h.cause.1.0 role)) refl h.cause.1.1 h.cause.1.2 (h.cause.1.4 files t) f h.cause.1.3)
 is_complete words old new (ending.Stopped (stop.TooLong role)) r h = λ files t f. inl (rw (h.cause.1.1 files t) h.status)
 is_complete words old new (ending.Stopped (stop.Refused role why)) r h = λ files t f. inl (rw (h.cause.1.1 files t) h.status)

@@ -22,8 +22,10 @@ use Rattle.abrlab_top.specs.declared.stop.Halt.TheVariants as halt
 use Rattle.abrlab_top.specs.declared.stop.Ending.{Ending}
 use Rattle.abrlab_top.specs.declared.stop.Ending.TheVariants as ending
 use Rattle.abrlab_top.specs.declared.session.Ready.{Ready}
-use Rattle.abrlab_top.specs.Outcome.{Asked, Files, asked, asked_by, case_in, case_of, film_in, misfit, name_of, periods_in, printed, seeks_in, session_case}
+use Rattle.abrlab_top.specs.Outcome.{Asked, Files, asked, asked_by, case_in, outcome, film_in, misfit, name_of, periods_in, printed, seeks_in}
 use Rattle.abrlab_top.specs.Rules.{kind_of}
+use Rattle.player_core.specs.Available.{all_ahead}
+use Rattle.player_core.specs.State.{case_of}
 use Rattle.player_core.specs.Session.{Shown, session_of}
 use Rattle.session_report.specs.Session.{session_text}
 use Rattle.abrlab_top.specs.Run.{AreTaken, Tells}
@@ -131,13 +133,13 @@ case_misfits files a film periods seeks setting p q s m = rw (p, q, s, ← m) re
 
 -- all fits
 pub case_made : (files : Files) (a : Asked) (film : Film) (periods : List Period) (seeks : List Seek) → film_in files a.manifest ≡ Ok film → periods_in files a.trace ≡ Ok periods → seeks_in files (segments_of film) a.seeks ≡ Ok seeks → None ≡ misfit a.setup a.rule film
-    → case_in files a ≡ Ok (session_case film periods seeks a.setup a.rule)
+    → case_in files a ≡ Ok (case_of film periods a.setup seeks all_ahead a.rule)
 unfolding case_in
 case_made files a film periods seeks p q s m = rw (p, q, s, ← m) refl
 
 -- what the words ask for, and what came of it
 pub prepared_by : (words : List Text) (a : Asked) (old : Shelved) (r : Result Ready Halt) (new : Shelved) → asked words ≡ Ok a → Readies a old r new → Prepares words old r new
-unfolding case_of
+unfolding outcome
 prepared_by words a old (Ok r) new e x = (rw e refl, λ files t. rw e (x files t))
 prepared_by words a old (Err (halt.Stopped stop.Usage)) new e x = absurd x
 prepared_by words a old (Err (halt.Stopped (stop.NotRead role))) new e x = (a, e, x.0, x.1, x.2)
@@ -147,9 +149,9 @@ prepared_by words a old (Err (halt.Stopped (stop.Settings setting))) new e x = (
 prepared_by words a old (Err halt.NoMemory) new e x = begins words (rw e refl)
 
 -- the text of the session that was played is the one to be printed
-pub printed_as : (r : Ready) (clock : List Period) (s : Shown) → clock ≡ r.trace → s ≡ session_of (session_case r.manifest clock r.seeks.items r.setup (kind_of r.rule)) → printed (case_seen r) ≡ session_text s r.setup.weights
+pub printed_as : (r : Ready) (clock : List Period) (s : Shown) → clock ≡ r.trace → s ≡ session_of (case_of r.manifest clock r.setup r.seeks.items all_ahead (kind_of r.rule)) → printed (case_seen r) ≡ session_text s r.setup.weights
 unfolding printed
-printed_as r clock s e k = ap (λ x. session_text x r.setup.weights) (sym (k ∙ ap (λ ps. session_of (session_case r.manifest ps r.seeks.items r.setup (kind_of r.rule))) e))
+printed_as r clock s e k = ap (λ x. session_text x r.setup.weights) (sym (k ∙ ap (λ ps. session_of (case_of r.manifest ps r.setup r.seeks.items all_ahead (kind_of r.rule))) e))
 
 pub puts_whole : (old new : Seen) (t said : Text) (r : Result (Unit {0}) PutErr) (u : Unit {0}) → r ≡ Ok u → said ≡ t → Puts old t new r → Shows said old ending.Done new
 puts_whole old new t said r u e s p = let k = rw e at p in rw s k.answered

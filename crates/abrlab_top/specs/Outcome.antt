@@ -15,7 +15,7 @@ use Rattle.trace_reader.specs.TraceCsv.{trace_csv_of}
 use Rattle.seek_script.specs.Script.{seeks_of}
 use Rattle.lab_model.specs.declared.context.Seek.{Seek}
 use Rattle.player_core.specs.Available.{all_ahead}
-use Rattle.player_core.specs.State.{Case}
+use Rattle.player_core.specs.State.{Case, case_of}
 use Rattle.player_core.specs.Session.{session_of}
 use Rattle.session_report.specs.Session.{session_text}
 use Rattle.abrlab_top.specs.declared.stop.Role.{Role}
@@ -144,10 +144,6 @@ misfit s rule f =
     else (if not (utilities_fit s f) then Some setting.Utilities
     else (if not (rule_fits rule f) then Some (setting.Rule 1) else None))
 
--- the case that a film on demand, a network, seeks, a setup and a rule make
-abbrev pub session_case : Film → List Period → List Seek → Setup → RuleKind → Case
-session_case f periods seeks s rule = record { film = f; periods = periods; setup = s; seeks = seeks; ahead = all_ahead; rule = rule }
-
 -- the case, unless a setting does not fit
 abbrev pub unless_misfit : Option Setting → Case → Result Case Stop
 unless_misfit None c = Ok c
@@ -155,17 +151,17 @@ unless_misfit (Some setting) c = Err (stop.Settings setting)
 
 -- ---- the whole
 
--- the case that a command plays: the manifest first, then the trace, then the seek script, then the settings
+-- the case that a command plays, of a film on demand: the manifest comes first, then the trace, then the seek script, then the settings
 unfoldable pub case_in : Files → Asked → Result Case Stop
 case_in files a = do
   film ← film_in files a.manifest
   periods ← periods_in files a.trace
   seeks ← seeks_in files (segments_of film) a.seeks
-  unless_misfit (misfit a.setup a.rule film) (session_case film periods seeks a.setup a.rule)
+  unless_misfit (misfit a.setup a.rule film) (case_of film periods a.setup seeks all_ahead a.rule)
 
--- the case that words and files make
-unfoldable pub case_of : List Text → Files → Result Case Stop
-case_of words files = do
+-- the outcome of words and files: the case that they make, or the first refusal
+unfoldable pub outcome : List Text → Files → Result Case Stop
+outcome words files = do
   a ← asked words
   case_in files a
 

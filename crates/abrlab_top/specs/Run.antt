@@ -14,7 +14,7 @@ use Rattle.abrlab_top.specs.declared.stop.Stop.{Stop}
 use Rattle.abrlab_top.specs.declared.stop.Stop.TheVariants as stop
 use Rattle.abrlab_top.specs.declared.stop.Ending.{Ending}
 use Rattle.abrlab_top.specs.declared.stop.Ending.TheVariants as ending
-use Rattle.abrlab_top.specs.Outcome.{Asked, Files, IsNamed, asked, case_of, film_in, name_of, periods_in, printed}
+use Rattle.abrlab_top.specs.Outcome.{Asked, Files, IsNamed, asked, outcome, film_in, name_of, periods_in, printed}
 use Rattle.abrlab_top.specs.Notes.{memory_note, output_note, stop_note}
 
 -- ---- the run as a definition
@@ -44,15 +44,15 @@ outcome_note (Err why) = stop_note why
 
 -- the status that words and files ask for
 abbrev pub status : List Text → Files → ℕ
-status words files = outcome_status (case_of words files)
+status words files = outcome_status (outcome words files)
 
 -- what words and files ask to print on `out`
 abbrev pub text : List Text → Files → Text
-text words files = outcome_text (case_of words files)
+text words files = outcome_text (outcome words files)
 
 -- what words and files ask to print on `err`
 abbrev pub note : List Text → Files → Text
-note words files = outcome_note (case_of words files)
+note words files = outcome_note (outcome words files)
 
 -- ---- what a run meets
 
@@ -113,11 +113,14 @@ pub record IsUsage (words : List Text) (old new : World) : Type 0 where
   pub out : new.out ≡ old.out
   pub err : Says old.err (stop_note stop.Usage) new.err
 
--- 3: over told files the status is 3, and `err` is told the note; nothing stands on `out`
+-- 3: a file or a setting is refused, `err` is told of it, and nothing stands on `out`; over told files the status is 3, and what `err` is told is the note
 pub record IsRefused (words : List Text) (old new : World) : Type 0 where
   pub taken : AreTaken words
+  pub why : Stop
+  pub refuses : stop_status why ≡ 3
   pub out : new.out ≡ old.out
-  pub note : (files : Files) → Tells old.shelf files → (status words files ≡ 3) × Says old.err (note words files) new.err
+  pub err : Says old.err (stop_note why) new.err
+  pub outcome : (files : Files) → Tells old.shelf files → (status words files ≡ 3) × (note words files ≡ stop_note why)
 
 -- 4: the count of a file that the words name rose, and over told files each file before it is accepted; nothing stands on `out`
 pub record IsNotRead (words : List Text) (old new : World) : Type 0 where
@@ -165,6 +168,6 @@ pub record NoFaults (words : List Text) (files : Files) (old new : World) : Type
 -- THE HEADLINE: `out` has grown by exactly the session text of the millisecond player on the case that words and files make, and `err` by nothing
 pub record PrintsTheSession (words : List Text) (files : Files) (old new : World) : Type 0 where
   pub played : Case
-  pub made : case_of words files ≡ Ok played
+  pub made : outcome words files ≡ Ok played
   pub out : Grew old.out.written (session_text (session_of played) played.setup.weights) new.out.written
   pub err : new.err ≡ old.err

@@ -7,7 +7,8 @@ use Rattle.lab_model.specs.Fit.{SetupFits}
 use Rattle.lab_model.specs.Rules.{KindFits}
 use Rattle.lab_model.specs.declared.fault.InputFault.{InputFault}
 use Rattle.lab_model.specs.declared.fault.InputFault.TheVariants.{Memory, Refused}
-use Rattle.player_core.specs.State.{Case}
+use Rattle.player_core.specs.State.{Case, case_of}
+use Rattle.player_core.specs.Available.{all_ahead}
 use Rattle.player_core.specs.Seeks.{SeeksFit}
 use Rattle.abrlab_top.specs.declared.stop.Role.{Role}
 use Rattle.abrlab_top.specs.declared.stop.Stop.{Stop}
@@ -18,7 +19,7 @@ use Rattle.abrlab_top.specs.declared.stop.Ending.{Ending}
 use Rattle.abrlab_top.specs.declared.stop.Ending.TheVariants as ending
 use Rattle.abrlab_top.specs.declared.session.Simulation.{Simulation}
 use Rattle.abrlab_top.specs.declared.session.Ready.{Ready}
-use Rattle.abrlab_top.specs.Outcome.{Asked, Files, IsNamed, asked, case_in, case_of, name_of, printed, session_case}
+use Rattle.abrlab_top.specs.Outcome.{Asked, Files, IsNamed, asked, case_in, outcome, name_of, printed}
 use Rattle.abrlab_top.specs.Rules.{StandsFor, kind_of}
 use Rattle.abrlab_top.specs.Run.{AcceptedBefore, AreTaken, Tells, text}
 
@@ -48,7 +49,7 @@ asked_seen s = record { manifest = string_bytes s.manifest; trace = string_bytes
 
 -- the case that is ready to be played
 abbrev pub case_seen : Ready → Case
-case_seen r = session_case r.manifest r.trace r.seeks.items r.setup (kind_of r.rule)
+case_seen r = case_of r.manifest r.trace r.setup r.seeks.items all_ahead (kind_of r.rule)
 
 -- the case can be played
 pub record CanPlay (r : Ready) : Type 0 where
@@ -76,7 +77,7 @@ Readies a old (Err halt.NoMemory) new = Unit {0}
 
 -- the words ask for something, and over told files it comes to this refusal
 abbrev pub Refuses : List Text → Shelved → Stop → Type 0
-Refuses words old why = AreTaken words × ((files : Files) → Tells old files → case_of words files ≡ Err why)
+Refuses words old why = AreTaken words × ((files : Files) → Tells old files → outcome words files ≡ Err why)
 
 -- why a run stopped before it wrote
 abbrev pub Stops : List Text → Shelved → Stop → Shelved → Type 0
@@ -89,7 +90,7 @@ Stops words old (stop.Settings setting) new = Refuses words old (stop.Settings s
 
 -- what words and files gave
 abbrev pub Prepares : List Text → Shelved → Result Ready Halt → Shelved → Type 0
-Prepares words old (Ok r) new = AreTaken words × ((files : Files) → Tells old files → case_of words files ≡ Ok (case_seen r))
+Prepares words old (Ok r) new = AreTaken words × ((files : Files) → Tells old files → outcome words files ≡ Ok (case_seen r))
 Prepares words old (Err (halt.Stopped why)) new = Stops words old why new
 Prepares words old (Err halt.NoMemory) new = begins_with_verb words ≡ true
 
@@ -103,9 +104,9 @@ Shows said old ending.NoMemory new = GrewPart old.written said new.written × ((
 -- why a run ended as it did
 abbrev pub Causes : List Text → Shelved → Seen → Ending → Shelved → Seen → Type 0
 Causes words shelf out ending.Done shelf2 out2 =
-    AreTaken words × ((files : Files) → Tells shelf files → (c : Case) × (case_of words files ≡ Ok c) × Grew out.written (printed c) out2.written)
+    AreTaken words × ((files : Files) → Tells shelf files → (c : Case) × (outcome words files ≡ Ok c) × Grew out.written (printed c) out2.written)
 Causes words shelf out (ending.Stopped why) shelf2 out2 = (out2 ≡ out) × Stops words shelf why shelf2
 Causes words shelf out ending.OutputFailed shelf2 out2 =
-    AreTaken words × Rose out.faults out2.faults × ((files : Files) → Tells shelf files → (c : Case) × (case_of words files ≡ Ok c) × GrewPart out.written (printed c) out2.written)
+    AreTaken words × Rose out.faults out2.faults × ((files : Files) → Tells shelf files → (c : Case) × (outcome words files ≡ Ok c) × GrewPart out.written (printed c) out2.written)
 Causes words shelf out ending.NoMemory shelf2 out2 =
     (begins_with_verb words ≡ true) × ((out2 ≡ out) ⊎ Rose out.wants out2.wants) × ((files : Files) → Tells shelf files → GrewPart out.written (text words files) out2.written)

@@ -10,7 +10,7 @@ mod stop;
 
 ghost use Rattle.std.specs.Prelude.{◌≡◌, ◌⊎◌, ◌∷◌, [], Err, List, false, map, string_bytes, true};
 ghost use Rattle.lab_words.specs.Words.{begins_with_verb};
-ghost use Rattle.abrlab_top.specs.Outcome.{Files, asked, case_of};
+ghost use Rattle.abrlab_top.specs.Outcome.{Files, asked, outcome};
 ghost use Rattle.abrlab_top.specs.Run.{IsAmong, IsDone, IsNoMemory, IsNotRead, IsOutputFailed, IsRefused, IsUsage, NoFaults, PrintsTheSession, Tells, answers_to, ending_status, status, stop_status, world};
 
 use crate::note::tell;
@@ -59,7 +59,7 @@ pub fn run<F: Shelf, O: Sink, E: Sink>(
 ) -> u8
     ensures simulates { (files : Files) → Tells (F.shelved shelf.old) files → result ≡ 0 → PrintsTheSession (map string_bytes words.now) files (world (F.shelved shelf.old) (O.seen out.old) (E.seen err.old)) (world (F.shelved shelf.new) (O.seen out.new) (E.seen err.new)) }
     ensures known { IsAmong result (0 ∷ 2 ∷ 3 ∷ 4 ∷ 5 ∷ 9 ∷ []) }
-    ensures told { (files : Files) → Tells (F.shelved shelf.old) files → IsAmong result (answers_to (case_of (map string_bytes words.now) files)) }
+    ensures told { (files : Files) → Tells (F.shelved shelf.old) files → IsAmong result (answers_to (outcome (map string_bytes words.now) files)) }
     ensures done { result ≡ 0 → IsDone (map string_bytes words.now) (world (F.shelved shelf.old) (O.seen out.old) (E.seen err.old)) (world (F.shelved shelf.new) (O.seen out.new) (E.seen err.new)) }
     ensures usage { result ≡ 2 → IsUsage (map string_bytes words.now) (world (F.shelved shelf.old) (O.seen out.old) (E.seen err.old)) (world (F.shelved shelf.new) (O.seen out.new) (E.seen err.new)) }
     ensures usage_comes { asked (map string_bytes words.now) ≡ Err Stop.Usage → (result ≡ 2) ⊎ (result ≡ 9) }
@@ -74,3 +74,6 @@ pub fn run<F: Shelf, O: Sink, E: Sink>(
     tell(err, ending);
     ending_status(ending)
 }
+
+#[cfg(test)]
+mod tests;

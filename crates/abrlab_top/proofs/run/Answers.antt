@@ -1,6 +1,6 @@
 use Rattle.std.proofs.Common.{map, string_bytes}
 use Rattle.abrlab_top.specs.Run.{world}
-use Rattle.abrlab_top.proofs.Table.{is_answer, is_complete, prints_the_session, without_command}
+use Rattle.abrlab_top.proofs.Table.{is_answer, is_complete, is_refused, prints_the_session, without_command}
 use Rattle.abrlab_top.proofs.run.Goals as goal
 
 pub returns-clause-simulates : goal.returns-clause-simulates
@@ -26,3 +26,9 @@ returns-clause-complete g c = λ files t f.
     is_complete (map string_bytes c.args.words.now) (world (g.F.Shelf.shelved c.args.shelf.now) (g.O.Sink.seen c.args.out.now) (g.E.Sink.seen c.args.err.now))
     (world (g.F.Shelf.shelved c.ended-ending.new.shelf) (g.O.Sink.seen c.ended-ending.new.out) (g.E.Sink.seen c.tell.new.err)) c.ended-ending.result c.ending_status.result
     (record { cause = c.ended-ending.ensures; told = c.tell.ensures; status = c.ending_status.ensures }) files t f
+
+pub returns-clause-refused : goal.returns-clause-refused
+returns-clause-refused g c = λ s.
+    is_refused (map string_bytes c.args.words.now) (world (g.F.Shelf.shelved c.args.shelf.now) (g.O.Sink.seen c.args.out.now) (g.E.Sink.seen c.args.err.now))
+    (world (g.F.Shelf.shelved c.ended-ending.new.shelf) (g.O.Sink.seen c.ended-ending.new.out) (g.E.Sink.seen c.tell.new.err)) c.ended-ending.result c.ending_status.result
+    (record { cause = c.ended-ending.ensures; told = c.tell.ensures; status = c.ending_status.ensures }) s

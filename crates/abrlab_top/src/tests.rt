@@ -1,0 +1,408 @@
+// Whole runs over files and sinks in memory.
+use crate::run;
+use lab_io::{MemShelf, MemSink};
+use std::alloc::{AllocError, Global};
+use std::process::Abort;
+use std::test::Fail;
+
+const FILM: &str =
+    r#"{"segment_duration_ms": 1000, "bitrates_kbps": [1000, 2000], "segment_sizes_bits": [[1000000, 2000000], [1000000, 2000000], [1000000, 2000000]]}"#;
+
+const TINY: &str =
+    r#"{"segment_duration_ms": 1, "bitrates_kbps": [1], "segment_sizes_bits": [[1]]}"#;
+
+const C2000: &str = r#"[{"duration_ms": 60000, "bandwidth_kbps": 2000, "latency_ms": 0}]"#;
+
+const C500: &str = r#"[{"duration_ms": 60000, "bandwidth_kbps": 500, "latency_ms": 0}]"#;
+
+const C200: &str = r#"[{"duration_ms": 60000, "bandwidth_kbps": 200, "latency_ms": 0}]"#;
+
+const ONE: &str = r#"[{"duration_ms": 1, "bandwidth_kbps": 1, "latency_ms": 0}]"#;
+
+const STEADY: &str =
+    "simulate --manifest m --trace t --rule fixed:1 --utilities 0,10 --buffer 10000";
+
+const STEADY_TEXT: &str = "0 request 0 1
+1000 arrive 0 1 first 0 rate 2000000
+1000 request 1 1
+1000 play 0 1
+2000 arrive 1 1 first 1000 rate 2000000
+2000 request 2 1
+2000 play 1 1
+3000 arrive 2 1 first 2000 rate 2000000
+3000 play 2 1
+4000 end
+startup 1000
+stall 0
+stalls 0
+seeking 0
+wasted 0
+end 4000
+score 29000
+";
+
+// What a run answered, and the sinks after it.
+#[derive(Drop)]
+struct Answer {
+    status: u8,
+    out: MemSink,
+    err: MemSink,
+}
+
+// The calls that fail, by their numbers.
+#[derive(Clone, Copy)]
+struct Faults<'a> {
+    fetches: &'a [u64],
+    puts: &'a [u64],
+    notes: &'a [u64],
+}
+
+const NONE: Faults<'static> = Faults {
+    fetches: &[],
+    puts: &[],
+    notes: &[],
+};
+
+fn words(alloc: Global, line: &str) -> Result<Vec<String>, AllocError> {
+    let mut words = Vec::new(alloc);
+    for word in line.split_whitespace() {
+        words.push(String::from_str(alloc, word)?)?;
+    }
+    Ok(words)
+}
+
+fn file(alloc: Global, name: &str, bytes: &[u8]) -> Result<(String, Vec<u8>), AllocError> {
+    Ok((
+        String::from_str(alloc, name)?,
+        Vec::from_slice(alloc, bytes)?,
+    ))
+}
+
+fn failing<'a>(fetches: &'a [u64], puts: &'a [u64], notes: &'a [u64]) -> Faults<'a> {
+    Faults {
+        fetches,
+        puts,
+        notes,
+    }
+}
+
+// Runs the words of a line with a manifest `m` and a trace `t`.
+fn ran(alloc: Global, line: &str, files: [&str; 2], failing: Faults) -> Result<Answer, Fail> {
+    let [manifest, trace] = files;
+    let files = vec![in alloc;
+        file(alloc, "m", manifest.as_bytes())?,
+        file(alloc, "t", trace.as_bytes())?,
+    ]?;
+    let mut shelf = MemShelf::new(files, Vec::from_slice(alloc, failing.fetches)?);
+    let mut out = MemSink::new(alloc, Vec::from_slice(alloc, failing.puts)?);
+    let mut err = MemSink::new(alloc, Vec::from_slice(alloc, failing.notes)?);
+    let status = run(alloc, &words(alloc, line)?, &mut shelf, &mut out, &mut err);
+    Ok(Answer { status, out, err })
+}
+
+const SMALL_TEXT: &str = "0 request 0 0
+500 arrive 0 0 first 0 rate 2000000
+500 request 1 0
+500 play 0 0
+1000 arrive 1 0 first 500 rate 2000000
+1500 request 2 0
+1500 play 1 0
+2000 arrive 2 0 first 1500 rate 2000000
+2500 play 2 0
+3500 end
+startup 500
+stall 0
+stalls 0
+seeking 0
+wasted 0
+end 3500
+score -500
+";
+
+const SLOW_TEXT: &str = "0 request 0 1
+4000 arrive 0 1 first 0 rate 500000
+4000 request 1 1
+4000 play 0 1
+5000 stall
+8000 arrive 1 1 first 4000 rate 500000
+8000 request 2 1
+8000 play 1 1
+9000 stall
+12000 arrive 2 1 first 8000 rate 500000
+12000 play 2 1
+13000 end
+startup 4000
+stall 6000
+stalls 2
+seeking 0
+wasted 0
+end 13000
+score -574000
+";
+
+const ABANDONED_TEXT: &str = "0 request 0 1
+500 abandon 0 1 to 0 got 100000
+500 request 0 0
+5500 arrive 0 0 first 500 rate 200000
+5500 request 1 1
+5500 play 0 0
+6000 abandon 1 1 to 0 got 100000
+6000 request 1 0
+6500 stall
+11000 arrive 1 0 first 6000 rate 200000
+11000 request 2 1
+11000 play 1 0
+11500 abandon 2 1 to 0 got 100000
+11500 request 2 0
+12000 stall
+16500 arrive 2 0 first 11500 rate 200000
+16500 play 2 0
+17500 end
+startup 5500
+stall 9000
+stalls 2
+seeking 0
+wasted 300000
+end 17500
+score -905500
+";
+
+const TINY_TEXT: &str = "0 request 0 0
+1 arrive 0 0 first 0 rate 1000
+1 play 0 0
+2 end
+startup 1
+stall 0
+stalls 0
+seeking 0
+wasted 0
+end 2
+score -1
+";
+
+// The session of these words is printed, and nothing else.
+fn prints(
+    rt: &impl Abort,
+    alloc: Global,
+    line: &str,
+    files: [&str; 2],
+    text: &str,
+) -> Result<(), Fail> {
+    let ran = ran(alloc, line, files, NONE)?;
+    assert_eq!(rt; ran.out.written(), text.as_bytes());
+    assert_eq!(rt; ran.err.written(), b"".as_slice());
+    assert_eq!(rt; ran.status, 0);
+    Ok(())
+}
+
+// The words and files are refused with this status and note, and nothing is printed.
+fn refuses(
+    rt: &impl Abort,
+    alloc: Global,
+    line: &str,
+    files: [&str; 2],
+    status: u8,
+    note: &str,
+) -> Result<(), Fail> {
+    let ran = ran(alloc, line, files, NONE)?;
+    assert_eq!(rt; ran.err.written(), note.as_bytes());
+    assert_eq!(rt; ran.out.written(), b"".as_slice());
+    assert_eq!(rt; ran.status, status);
+    Ok(())
+}
+
+#[test]
+fn steady_link(rt: HostRuntime) -> Result<(), Fail> {
+    prints(&rt, rt.alloc(), STEADY, [FILM, C2000], STEADY_TEXT)?;
+    let listed =
+        "simulate --manifest=m --trace=t --rule=list:1,1,1 --utilities=0,10 --buffer=10000";
+    prints(&rt, rt.alloc(), listed, [FILM, C2000], STEADY_TEXT)
+}
+
+#[test]
+fn small_buffer(rt: HostRuntime) -> Result<(), Fail> {
+    let line = "simulate --manifest m --trace t --rule fixed:0 --utilities 0,10 --buffer 2000";
+    prints(&rt, rt.alloc(), line, [FILM, C2000], SMALL_TEXT)
+}
+
+#[test]
+fn slow_link(rt: HostRuntime) -> Result<(), Fail> {
+    prints(&rt, rt.alloc(), STEADY, [FILM, C500], SLOW_TEXT)
+}
+
+#[test]
+fn abandoned_downloads(rt: HostRuntime) -> Result<(), Fail> {
+    let line =
+        "simulate --abandon --manifest m --trace t --rule fixed:1 --utilities 0,10 --buffer 10000";
+    prints(&rt, rt.alloc(), line, [FILM, C200], ABANDONED_TEXT)
+}
+
+#[test]
+fn smallest_input(rt: HostRuntime) -> Result<(), Fail> {
+    let line = "simulate --manifest m --trace t --rule fixed:0 --utilities 0 --buffer 1";
+    prints(&rt, rt.alloc(), line, [TINY, ONE], TINY_TEXT)
+}
+
+// A manifest of so many segments of one bit.
+fn bits(alloc: Global, segments: u16) -> Result<String, AllocError> {
+    let mut text = String::from_str(
+        alloc,
+        r#"{"segment_duration_ms": 1, "bitrates_kbps": [1], "segment_sizes_bits": [[1]"#,
+    )?;
+    for _ in 1..segments {
+        text.push_str(",[1]")?;
+    }
+    text.push_str("]}")?;
+    Ok(text)
+}
+
+#[test]
+fn many_segments(rt: HostRuntime) -> Result<(), Fail> {
+    let alloc = rt.alloc();
+    let line = "simulate --manifest m --trace t --rule fixed:0 --utilities 0 --buffer 10000000";
+    let ran = ran(alloc, line, [&bits(alloc, 2000)?, ONE], NONE)?;
+    assert_eq!(rt; ran.status, 0);
+    let text = ran.out.written();
+    assert_eq!(rt; text.iter().filter(|byte| **byte == b'\n').count(), 6008);
+    let end = b"2001 end\nstartup 1\nstall 0\nstalls 0\nseeking 0\nwasted 0\nend 2001\nscore -1\n";
+    assert!(rt; text.ends_with(end));
+    Ok(())
+}
+
+#[test]
+fn refused_words(rt: HostRuntime) -> Result<(), Fail> {
+    let lines = [
+        "",
+        "play",
+        "simulate",
+        "simulate --manifest m --trace t --rule fixed:01 --utilities 0,10",
+        "simulate --manifest m --trace t --rule fixed:1 --utilities 0,10 --buffer 0",
+        "simulate --manifest m --trace t --rule fixed:1 --utilities 10,0",
+        "simulate --manifest m --manifest m --trace t --rule fixed:1 --utilities 0,10",
+        "simulate --manifest m --rule fixed:1 --utilities 0,10",
+        "simulate --manifest m --trace t.csv --rule fixed:1 --utilities 0,10",
+        "simulate --manifest m --trace t --rule bola:5 --utilities 0,10",
+        "simulate --manifest m --trace t --rule fixed:1 --utilities 0,10 --seeks s",
+    ];
+    let note = "abrlab: usage: simulate, compare, plan, check, demo\n";
+    for line in lines {
+        refuses(&rt, rt.alloc(), line, [FILM, C2000], 2, note)?;
+        let silent = ran(rt.alloc(), line, [FILM, C2000], failing(&[1], &[], &[1]))?;
+        assert_eq!(rt; (silent.status, silent.err.faults()), (2, 1));
+    }
+    Ok(())
+}
+
+#[test]
+fn settings(rt: HostRuntime) -> Result<(), Fail> {
+    let table = [
+        ("--rule fixed:1 --utilities 0,10 --buffer 999", "buffer"),
+        (
+            "--rule fixed:2 --utilities 0,10,20 --buffer 1000",
+            "utilities",
+        ),
+        ("--rule fixed:2 --utilities 0,10 --buffer 1000", "rule 1"),
+        ("--rule list:1,1 --utilities 0,10 --buffer 1000", "rule 1"),
+    ];
+    let alloc = rt.alloc();
+    for (options, setting) in table {
+        let line = format!(in alloc; "simulate --manifest m --trace t {options}")?;
+        let note = format!(in alloc; "abrlab: settings: {setting}\n")?;
+        refuses(&rt, alloc, &line, [FILM, C2000], 3, &note)?;
+    }
+    Ok(())
+}
+
+#[test]
+fn bad_manifests(rt: HostRuntime) -> Result<(), Fail> {
+    let table = [
+        (
+            r#"{"segment_duration_ms": 1000, "bitrates_kbps": [1000, 2000], "segment_sizes_bits": [[1000000, 2000000], [1000000], [1000000, 2000000]]}"#,
+            "shape at segment_sizes_bits row 2 column 0",
+        ),
+        (
+            r#"{"segment_duration_ms": 1000.0, "bitrates_kbps": [1000, 2000], "segment_sizes_bits": [[1000000, 2000000]]}"#,
+            "not-whole at segment_duration_ms row 0 column 0",
+        ),
+        (
+            r#"{"segment_duration_ms": 10"#,
+            "not-json at whole row 0 column 0",
+        ),
+        (
+            r#"{"segment_duration_ms": 1000, "bitrates_kbps": [2000, 1000], "segment_sizes_bits": [[1000000, 2000000]]}"#,
+            "order at bitrates_kbps row 0 column 2",
+        ),
+    ];
+    let alloc = rt.alloc();
+    for (manifest, fault) in table {
+        let note = format!(in alloc; "abrlab: manifest file: {fault}\n")?;
+        refuses(&rt, alloc, STEADY, [manifest, "[]"], 3, &note)?;
+    }
+    let titled =
+        r#"{"title": 1, "segment_duration_ms": 1000, "bitrates_kbps": [1000, 2000], "segment_sizes_bits": [[1000000, 2000000], [1000000, 2000000], [1000000, 2000000]]}"#;
+    prints(&rt, alloc, STEADY, [titled, C2000], STEADY_TEXT)?;
+    let slow =
+        r#"[{"duration_ms": 11, "bandwidth_kbps": 0, "latency_ms": 0}, {"duration_ms": 10, "bandwidth_kbps": 2, "latency_ms": 0}]"#;
+    let note = "abrlab: trace file: too-slow at cycle row 0 column 0\n";
+    refuses(&rt, alloc, STEADY, [FILM, slow], 3, note)
+}
+
+// The first so many characters of an ASCII text.
+fn start(text: &str, count: usize) -> &str {
+    text.get(..count).unwrap_or(text)
+}
+
+#[test]
+fn truncated_files(rt: HostRuntime) -> Result<(), Fail> {
+    let alloc = rt.alloc();
+    let note = "abrlab: manifest file: not-json at whole row 0 column 0\n";
+    for count in 0..FILM.len() {
+        refuses(&rt, alloc, STEADY, [start(FILM, count), C2000], 3, note)?;
+    }
+    let note = "abrlab: trace file: not-json at whole row 0 column 0\n";
+    for count in 0..C2000.len() {
+        refuses(&rt, alloc, STEADY, [FILM, start(C2000, count)], 3, note)?;
+    }
+    Ok(())
+}
+
+#[test]
+fn missing_and_failing(rt: HostRuntime) -> Result<(), Fail> {
+    let alloc = rt.alloc();
+    let lacking = "simulate --manifest m --trace x --rule fixed:1 --utilities 0,10 --buffer 10000";
+    let note = "abrlab: trace file: not read\n";
+    refuses(&rt, alloc, lacking, [FILM, C2000], 4, note)?;
+    let third = ran(alloc, STEADY, [FILM, C2000], failing(&[], &[3], &[]))?;
+    assert_eq!(rt; (third.status, third.out.faults()), (5, 1));
+    assert_eq!(rt; third.err.written(), b"abrlab: output failed\n".as_slice());
+    assert!(rt; STEADY_TEXT.as_bytes().starts_with(third.out.written()));
+    let mut long = String::new(alloc);
+    for _ in 0..67_108_865 {
+        long.push(' ')?;
+    }
+    let note = "abrlab: manifest file: too long\n";
+    refuses(&rt, alloc, STEADY, [&long, C2000], 3, note)
+}
+
+#[test]
+fn every_fault(rt: HostRuntime) -> Result<(), Fail> {
+    let alloc = rt.alloc();
+    for (fetch, role) in [(1, "manifest"), (2, "trace")] {
+        let ran = ran(alloc, STEADY, [FILM, C2000], failing(&[fetch], &[], &[]))?;
+        let note = format!(in alloc; "abrlab: {role} file: not read\n")?;
+        assert_eq!(rt; ran.status, 4);
+        assert_eq!(rt; ran.err.written(), note.as_bytes());
+        assert_eq!(rt; ran.out.written(), b"".as_slice());
+    }
+    for put in 1..1000 {
+        let ran = ran(alloc, STEADY, [FILM, C2000], failing(&[], &[put], &[]))?;
+        if ran.status == 0 {
+            assert!(rt; put > 17);
+            return Ok(());
+        }
+        assert_eq!(rt; (ran.status, ran.out.faults()), (5, 1));
+        assert!(rt; STEADY_TEXT.as_bytes().starts_with(ran.out.written()));
+    }
+    assert!(rt; false);
+    Ok(())
+}
