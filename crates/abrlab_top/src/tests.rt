@@ -93,6 +93,16 @@ fn ran(alloc: Global, line: &str, files: [&str; 2], failing: Faults) -> Result<A
         file(alloc, "m", manifest.as_bytes())?,
         file(alloc, "t", trace.as_bytes())?,
     ]?;
+    ran_over(alloc, line, files, failing)
+}
+
+// Runs the words of a line over these files.
+fn ran_over(
+    alloc: Global,
+    line: &str,
+    files: Vec<(String, Vec<u8>)>,
+    failing: Faults,
+) -> Result<Answer, Fail> {
     let mut shelf = MemShelf::new(files, Vec::from_slice(alloc, failing.fetches)?);
     let mut out = MemSink::new(alloc, Vec::from_slice(alloc, failing.puts)?);
     let mut err = MemSink::new(alloc, Vec::from_slice(alloc, failing.notes)?);
@@ -280,9 +290,9 @@ fn refused_words(rt: HostRuntime) -> Result<(), Fail> {
         "simulate --manifest m --trace t --rule fixed:1 --utilities 10,0",
         "simulate --manifest m --manifest m --trace t --rule fixed:1 --utilities 0,10",
         "simulate --manifest m --rule fixed:1 --utilities 0,10",
-        "simulate --manifest m --trace t.csv --rule fixed:1 --utilities 0,10",
+        "simulate --manifest m --trace t --rule mpc:5 --utilities 0,10",
         "simulate --manifest m --trace t --rule bola:5 --utilities 0,10",
-        "simulate --manifest m --trace t --rule fixed:1 --utilities 0,10 --seeks s",
+        "simulate --manifest m --trace t --rule fixed:1 --utilities 0,10 --seeks=",
     ];
     let note = "abrlab: usage: simulate, compare, plan, check, demo\n";
     for line in lines {
@@ -405,4 +415,181 @@ fn every_fault(rt: HostRuntime) -> Result<(), Fail> {
     }
     assert!(rt; false);
     Ok(())
+}
+
+// Runs the words of a line with the film `m`, a link `t` of 2000 kbps and one file more.
+fn ran_with(
+    alloc: Global,
+    line: &str,
+    name: &str,
+    text: &str,
+    failing: Faults,
+) -> Result<Answer, Fail> {
+    let files = vec![in alloc;
+        file(alloc, "m", FILM.as_bytes())?,
+        file(alloc, "t", C2000.as_bytes())?,
+        file(alloc, name, text.as_bytes())?,
+    ]?;
+    ran_over(alloc, line, files, failing)
+}
+
+// What a run with one file more answers.
+fn answers(
+    rt: &impl Abort,
+    alloc: Global,
+    line: &str,
+    more: (&str, &str),
+    wanted: (u8, &str, &str),
+) -> Result<(), Fail> {
+    let ran = ran_with(alloc, line, more.0, more.1, NONE)?;
+    assert_eq!(rt; ran.err.written(), wanted.2.as_bytes());
+    assert_eq!(rt; ran.out.written(), wanted.1.as_bytes());
+    assert_eq!(rt; ran.status, wanted.0);
+    Ok(())
+}
+
+const SOUGHT: &str =
+    "simulate --manifest m --trace t --seeks s --rule fixed:1 --utilities 0,10 --buffer 10000";
+
+const SOUGHT_TEXT: &str = "0 request 0 1
+1000 arrive 0 1 first 0 rate 2000000
+1000 seek 2 wasted 2000000
+1000 request 2 1
+2000 arrive 2 1 first 1000 rate 2000000
+2000 play 2 1
+3000 end
+startup 1000
+stall 0
+stalls 0
+seeking 1000
+wasted 2000000
+end 3000
+score 9000
+";
+
+#[test]
+fn seek_ahead(rt: HostRuntime) -> Result<(), Fail> {
+    let script = "at_ms,to_segment\n1000,2\n";
+    answers(&rt, rt.alloc(), SOUGHT, ("s", script), (0, SOUGHT_TEXT, ""))
+}
+
+#[test]
+fn seek_after_the_end(rt: HostRuntime) -> Result<(), Fail> {
+    let script = "at_ms,to_segment\n4000,0\n";
+    answers(&rt, rt.alloc(), SOUGHT, ("s", script), (0, STEADY_TEXT, ""))
+}
+
+#[test]
+fn bad_seeks(rt: HostRuntime) -> Result<(), Fail> {
+    let table = [
+        ("", "empty at whole row 0 column 0"),
+        ("at_ms\n", "shape at header row 1 column 0"),
+        (
+            "at_ms,to_segment\n1000,3\n",
+            "out-of-range at to_segment row 2 column 2",
+        ),
+        (
+            "at_ms,to_segment\n1000,1\n1000,2\n",
+            "order at at_ms row 3 column 1",
+        ),
+        (
+            "at_ms,to_segment\n1000,1\n1000\n",
+            "not-csv at seek row 3 column 0",
+        ),
+    ];
+    let alloc = rt.alloc();
+    for (script, fault) in table {
+        let note = format!(in alloc; "abrlab: seeks file: {fault}\n")?;
+        answers(&rt, alloc, SOUGHT, ("s", script), (3, "", &note))?;
+    }
+    let note = "abrlab: seeks file: not read\n";
+    answers(&rt, alloc, SOUGHT, ("x", ""), (4, "", note))?;
+    let third = ran_with(
+        alloc,
+        SOUGHT,
+        "s",
+        "at_ms,to_segment\n",
+        failing(&[3], &[], &[]),
+    )?;
+    assert_eq!(rt; (third.status, third.err.written()), (4, note.as_bytes()));
+    Ok(())
+}
+
+const SPREAD: &str =
+    "simulate --manifest m --trace c.csv --rule fixed:1 --utilities 0,10 --buffer 10000";
+
+const SPREAD_TEXT: &str = "0 request 0 1
+1001 arrive 0 1 first 0 rate 1998001
+1001 request 1 1
+1001 play 0 1
+2001 stall
+2002 arrive 1 1 first 1001 rate 1998001
+2002 request 2 1
+2002 play 1 1
+3002 stall
+3003 arrive 2 1 first 2002 rate 1998001
+3003 play 2 1
+4003 end
+startup 1001
+stall 2
+stalls 2
+seeking 0
+wasted 0
+end 4003
+score 28799
+";
+
+#[test]
+fn csv_trace(rt: HostRuntime) -> Result<(), Fail> {
+    let table = [
+        ("60000,2000,0\n", (0, STEADY_TEXT, "")),
+        ("60000,2000.5,0\n", (0, STEADY_TEXT, "")),
+        ("60000,1999.999,0\n", (0, SPREAD_TEXT, "")),
+        (
+            "60000,2000.5001,0\n",
+            (
+                3,
+                "",
+                "abrlab: trace file: not-whole at bandwidth_kbps row 2 column 2\n",
+            ),
+        ),
+        (
+            "60000,2000,0\n60000,2000\n",
+            (
+                3,
+                "",
+                "abrlab: trace file: not-csv at period row 3 column 0\n",
+            ),
+        ),
+    ];
+    let alloc = rt.alloc();
+    for (periods, wanted) in table {
+        let text = format!(in alloc; "duration_ms,bandwidth_kbps,latency_ms\n{periods}")?;
+        answers(&rt, alloc, SPREAD, ("c.csv", &text), wanted)?;
+    }
+    Ok(())
+}
+
+#[test]
+fn truncated_csv(rt: HostRuntime) -> Result<(), Fail> {
+    let whole = "duration_ms,bandwidth_kbps,latency_ms\n60000,2000,0\n";
+    let alloc = rt.alloc();
+    for count in 0..50 {
+        let fault = match count {
+            0 | 37 | 38 => "empty at whole row 0 column 0",
+            1..37 => "shape at header row 1 column 0",
+            39..49 => "not-csv at period row 2 column 0",
+            _ => "wrong-kind at latency_ms row 2 column 3",
+        };
+        let note = format!(in alloc; "abrlab: trace file: {fault}\n")?;
+        let part = ("c.csv", start(whole, count));
+        answers(&rt, alloc, SPREAD, part, (3, "", &note))?;
+    }
+    answers(
+        &rt,
+        alloc,
+        SPREAD,
+        ("c.csv", start(whole, 50)),
+        (0, STEADY_TEXT, ""),
+    )
 }
