@@ -29,8 +29,8 @@ use Rattle.abrlab_top.specs.declared.stop.Stop.TheVariants as stop
 abbrev pub Files : Type 0
 Files = Text → Option Text
 
--- the first refusal is the outcome of the whole
 infixl 10 ◌>>=◌
+-- the first refusal is the outcome of the whole
 abbrev pub ◌>>=◌ : {A B : Type 0} → Result A Stop → (A → Result B Stop) → Result B Stop
 (Ok x) >>= f = f x
 (Err s) >>= f = Err s

@@ -511,7 +511,8 @@ fn bad_seeks(rt: HostRuntime) -> Result<(), Fail> {
         "at_ms,to_segment\n",
         failing(&[3], &[], &[]),
     )?;
-    assert_eq!(rt; (third.status, third.err.written()), (4, note.as_bytes()));
+    assert_eq!(rt; third.status, 4);
+    assert_eq!(rt; third.err.written(), note.as_bytes());
     Ok(())
 }
 

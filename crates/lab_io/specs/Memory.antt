@@ -64,6 +64,7 @@ pub record MemText : Type 0 where
   pub faults : ℕ
   pub wants : ℕ
 
+-- what it shows: all that was written, and its two counts
 abbrev pub mem_seen : MemText → Seen
 mem_seen s = record { written = Some s.written; faults = s.faults; wants = s.wants }
 
@@ -84,6 +85,7 @@ pub record SureText : Type 0 where
   pub written : Text
   pub wants : ℕ
 
+-- what it shows: all that was written, no fault, and its count of wants
 abbrev pub sure_seen : SureText → Seen
 sure_seen s = record { written = Some s.written; faults = 0; wants = s.wants }
 

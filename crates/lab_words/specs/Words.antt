@@ -29,8 +29,8 @@ pub record CommandWords : Type 0 where
   pub abandon : Bool
   pub seeks : Option Text
 
--- the first that is refused refuses the whole
 infixl 10 ◌>>=◌
+-- the first that is refused refuses the whole
 abbrev pub ◌>>=◌ : {A B : Type 0} → Option A → (A → Option B) → Option B
 (Some x) >>= f = f x
 None >>= f = None

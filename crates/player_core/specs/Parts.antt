@@ -44,12 +44,14 @@ begun seeking = playing
 begun playing = playing
 begun ended = ended
 
+-- whether the player plays
 abbrev pub is_playing : Mode → Bool
 is_playing playing = true
 is_playing starting = false
 is_playing seeking = false
 is_playing ended = false
 
+-- whether the session is over
 abbrev pub is_ended : Mode → Bool
 is_ended ended = true
 is_ended playing = false
@@ -69,6 +71,7 @@ loads c p d = record p {
   events = logs p (event.Arrive p.t d.segment d.rung (unwrap_or d.first 0) (sample_of c.film p.t d));
 }
 
+-- what an instant does to a download, if there is one: it is loaded where nothing of it is left
 abbrev pub arrives : Case → Player → Option Download → Player
 arrives c p None = p
 arrives c p (Some d) = if d.job.left == 0 then loads c p d else p
@@ -94,6 +97,7 @@ gives_up c p d (Some q) = record p {
   events = logs p (event.Abandon p.t d.segment d.rung q (got_of c.film d));
 }
 
+-- a running download is given up where the abandonment test says so
 abbrev pub gives_up_any : Case → Player → Option Download → Player
 gives_up_any c p None = p
 gives_up_any c p (Some d) = gives_up c p d (abandonment c.film d.segment d.rung (progress_of c.film p.t d))

@@ -15,15 +15,17 @@ Scores = ℤ × ℤ
 abbrev pub regret_of : Scores → ℤ
 regret_of p = p.1 -ℤ p.0
 
--- the scores, the best scores and the regrets of a list, summed
+-- the scores of a list, summed
 abbrev pub scores_sum : List Scores → ℤ
 scores_sum [] = pos 0
 scores_sum (p ∷ ps) = p.0 +ℤ scores_sum ps
 
+-- the best scores of a list, summed
 abbrev pub bests_sum : List Scores → ℤ
 bests_sum [] = pos 0
 bests_sum (p ∷ ps) = p.1 +ℤ bests_sum ps
 
+-- the regrets of a list, summed
 abbrev pub regrets_sum : List Scores → ℤ
 regrets_sum [] = pos 0
 regrets_sum (p ∷ ps) = regret_of p +ℤ regrets_sum ps
