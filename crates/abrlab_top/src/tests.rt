@@ -540,12 +540,28 @@ end 4003
 score 28799
 ";
 
+// The session over a CSV trace of these periods.
+fn spreads(
+    rt: &impl Abort,
+    alloc: Global,
+    periods: &str,
+    wanted: (u8, &str, &str),
+) -> Result<(), Fail> {
+    let text = format!(in alloc; "duration_ms,bandwidth_kbps,latency_ms\n{periods}")?;
+    answers(rt, alloc, SPREAD, ("c.csv", &text), wanted)
+}
+
+#[test]
+fn decimal_bandwidth(rt: HostRuntime) -> Result<(), Fail> {
+    let alloc = rt.alloc();
+    spreads(&rt, alloc, "60000,1999.999,0\n", (0, SPREAD_TEXT, ""))?;
+    spreads(&rt, alloc, "60000,2000.5,0\n", (0, STEADY_TEXT, ""))
+}
+
 #[test]
 fn csv_trace(rt: HostRuntime) -> Result<(), Fail> {
     let table = [
         ("60000,2000,0\n", (0, STEADY_TEXT, "")),
-        ("60000,2000.5,0\n", (0, STEADY_TEXT, "")),
-        ("60000,1999.999,0\n", (0, SPREAD_TEXT, "")),
         (
             "60000,2000.5001,0\n",
             (
@@ -563,10 +579,8 @@ fn csv_trace(rt: HostRuntime) -> Result<(), Fail> {
             ),
         ),
     ];
-    let alloc = rt.alloc();
     for (periods, wanted) in table {
-        let text = format!(in alloc; "duration_ms,bandwidth_kbps,latency_ms\n{periods}")?;
-        answers(&rt, alloc, SPREAD, ("c.csv", &text), wanted)?;
+        spreads(&rt, rt.alloc(), periods, wanted)?;
     }
     Ok(())
 }
