@@ -23,8 +23,8 @@ arrive-requires g c =
     let top = now_top k is n c.loop-t.body inv.going inv.same inv.timed in
     record { ready = load_ready k is n c.loop-t.body (body_sound k n n _ _ top) }
 
-pub returns-then-is_ended-clause-session : goal.returns-then-is_ended-clause-session
-returns-then-is_ended-clause-session g c =
+pub returns-then-is_ended : goal.returns-then-is_ended
+returns-then-is_ended g c =
     let k : Case = case_of c.args.m.now c.args.clock.now c.args.set.now c.args.seeks.now c.args.ahead (g.T.Rule.kind c.args.rule) in
     let is : IsCase k = record { film = c.segments.ensures.film; trace = c.periods.ensures.trace; setup = c.requires.setup; seeks = c.requires.seeks; ahead = c.requires.ahead; rule = c.requires.rule } in
     let n = c.loop-t._t in
@@ -34,10 +34,16 @@ returns-then-is_ended-clause-session g c =
     let finished = now_finished k is n _ _ c.finish.new.self arrived (record { follows = c.in_ok-finish.ensures.follows k refl; timed = c.in_ok-finish.ensures.timed }) in
     let ended : is_ended (stopped k (player_after k n)).mode ≡ true = sym (ap (λ (q : Player). is_ended q.mode) finished.same) ∙ sym c.is_ended.ensures ∙ c.if-is_ended.true in
     let same = session_is k is n c.finish.new.self c.into_session.result c.loop-t-test.true inv.going finished ended c.into_session.ensures in
-    same
+    record {
+      session = same;
+      rungs = session_rungs k is c.into_session.result same;
+      count = session_count k is c.into_session.result same;
+      ends = session_ends k is c.into_session.result same;
+      times = session_times k is c.into_session.result same;
+    }
 
-pub returns-then-is_ended-clause-rungs : goal.returns-then-is_ended-clause-rungs
-returns-then-is_ended-clause-rungs g c =
+pub abandon-requires : goal.abandon-requires
+abandon-requires g c =
     let k : Case = case_of c.args.m.now c.args.clock.now c.args.set.now c.args.seeks.now c.args.ahead (g.T.Rule.kind c.args.rule) in
     let is : IsCase k = record { film = c.segments.ensures.film; trace = c.periods.ensures.trace; setup = c.requires.setup; seeks = c.requires.seeks; ahead = c.requires.ahead; rule = c.requires.rule } in
     let n = c.loop-t._t in
@@ -45,73 +51,13 @@ returns-then-is_ended-clause-rungs g c =
     let top = now_top k is n c.loop-t.body inv.going inv.same inv.timed in
     let arrived = now_arrived k is n _ _ c.arrive.new.self top (record { follows = c.in_ok-arrive.ensures.arrives k refl; timed = c.in_ok-arrive.ensures.timed }) in
     let finished = now_finished k is n _ _ c.finish.new.self arrived (record { follows = c.in_ok-finish.ensures.follows k refl; timed = c.in_ok-finish.ensures.timed }) in
-    let ended : is_ended (stopped k (player_after k n)).mode ≡ true = sym (ap (λ (q : Player). is_ended q.mode) finished.same) ∙ sym c.is_ended.ensures ∙ c.if-is_ended.true in
-    let same = session_is k is n c.finish.new.self c.into_session.result c.loop-t-test.true inv.going finished ended c.into_session.ensures in
-    session_rungs k is c.into_session.result same
+    record {
+      judge = judge_ready k is n c.finish.new.self (body_sound k n n _ _ finished);
+      wasted = wasted_ready k is n c.finish.new.self (body_sound k n n _ _ finished);
+    }
 
-pub returns-then-is_ended-clause-count : goal.returns-then-is_ended-clause-count
-returns-then-is_ended-clause-count g c =
-    let k : Case = case_of c.args.m.now c.args.clock.now c.args.set.now c.args.seeks.now c.args.ahead (g.T.Rule.kind c.args.rule) in
-    let is : IsCase k = record { film = c.segments.ensures.film; trace = c.periods.ensures.trace; setup = c.requires.setup; seeks = c.requires.seeks; ahead = c.requires.ahead; rule = c.requires.rule } in
-    let n = c.loop-t._t in
-    let inv = c.loop-t.invariant in
-    let top = now_top k is n c.loop-t.body inv.going inv.same inv.timed in
-    let arrived = now_arrived k is n _ _ c.arrive.new.self top (record { follows = c.in_ok-arrive.ensures.arrives k refl; timed = c.in_ok-arrive.ensures.timed }) in
-    let finished = now_finished k is n _ _ c.finish.new.self arrived (record { follows = c.in_ok-finish.ensures.follows k refl; timed = c.in_ok-finish.ensures.timed }) in
-    let ended : is_ended (stopped k (player_after k n)).mode ≡ true = sym (ap (λ (q : Player). is_ended q.mode) finished.same) ∙ sym c.is_ended.ensures ∙ c.if-is_ended.true in
-    let same = session_is k is n c.finish.new.self c.into_session.result c.loop-t-test.true inv.going finished ended c.into_session.ensures in
-    session_count k is c.into_session.result same
-
-pub returns-then-is_ended-clause-ends : goal.returns-then-is_ended-clause-ends
-returns-then-is_ended-clause-ends g c =
-    let k : Case = case_of c.args.m.now c.args.clock.now c.args.set.now c.args.seeks.now c.args.ahead (g.T.Rule.kind c.args.rule) in
-    let is : IsCase k = record { film = c.segments.ensures.film; trace = c.periods.ensures.trace; setup = c.requires.setup; seeks = c.requires.seeks; ahead = c.requires.ahead; rule = c.requires.rule } in
-    let n = c.loop-t._t in
-    let inv = c.loop-t.invariant in
-    let top = now_top k is n c.loop-t.body inv.going inv.same inv.timed in
-    let arrived = now_arrived k is n _ _ c.arrive.new.self top (record { follows = c.in_ok-arrive.ensures.arrives k refl; timed = c.in_ok-arrive.ensures.timed }) in
-    let finished = now_finished k is n _ _ c.finish.new.self arrived (record { follows = c.in_ok-finish.ensures.follows k refl; timed = c.in_ok-finish.ensures.timed }) in
-    let ended : is_ended (stopped k (player_after k n)).mode ≡ true = sym (ap (λ (q : Player). is_ended q.mode) finished.same) ∙ sym c.is_ended.ensures ∙ c.if-is_ended.true in
-    let same = session_is k is n c.finish.new.self c.into_session.result c.loop-t-test.true inv.going finished ended c.into_session.ensures in
-    session_ends k is c.into_session.result same
-
-pub returns-then-is_ended-clause-times : goal.returns-then-is_ended-clause-times
-returns-then-is_ended-clause-times g c =
-    let k : Case = case_of c.args.m.now c.args.clock.now c.args.set.now c.args.seeks.now c.args.ahead (g.T.Rule.kind c.args.rule) in
-    let is : IsCase k = record { film = c.segments.ensures.film; trace = c.periods.ensures.trace; setup = c.requires.setup; seeks = c.requires.seeks; ahead = c.requires.ahead; rule = c.requires.rule } in
-    let n = c.loop-t._t in
-    let inv = c.loop-t.invariant in
-    let top = now_top k is n c.loop-t.body inv.going inv.same inv.timed in
-    let arrived = now_arrived k is n _ _ c.arrive.new.self top (record { follows = c.in_ok-arrive.ensures.arrives k refl; timed = c.in_ok-arrive.ensures.timed }) in
-    let finished = now_finished k is n _ _ c.finish.new.self arrived (record { follows = c.in_ok-finish.ensures.follows k refl; timed = c.in_ok-finish.ensures.timed }) in
-    let ended : is_ended (stopped k (player_after k n)).mode ≡ true = sym (ap (λ (q : Player). is_ended q.mode) finished.same) ∙ sym c.is_ended.ensures ∙ c.if-is_ended.true in
-    let same = session_is k is n c.finish.new.self c.into_session.result c.loop-t-test.true inv.going finished ended c.into_session.ensures in
-    session_times k is c.into_session.result same
-
-pub abandon-requires-clause-judge : goal.abandon-requires-clause-judge
-abandon-requires-clause-judge g c =
-    let k : Case = case_of c.args.m.now c.args.clock.now c.args.set.now c.args.seeks.now c.args.ahead (g.T.Rule.kind c.args.rule) in
-    let is : IsCase k = record { film = c.segments.ensures.film; trace = c.periods.ensures.trace; setup = c.requires.setup; seeks = c.requires.seeks; ahead = c.requires.ahead; rule = c.requires.rule } in
-    let n = c.loop-t._t in
-    let inv = c.loop-t.invariant in
-    let top = now_top k is n c.loop-t.body inv.going inv.same inv.timed in
-    let arrived = now_arrived k is n _ _ c.arrive.new.self top (record { follows = c.in_ok-arrive.ensures.arrives k refl; timed = c.in_ok-arrive.ensures.timed }) in
-    let finished = now_finished k is n _ _ c.finish.new.self arrived (record { follows = c.in_ok-finish.ensures.follows k refl; timed = c.in_ok-finish.ensures.timed }) in
-    judge_ready k is n c.finish.new.self (body_sound k n n _ _ finished)
-
-pub abandon-requires-clause-wasted : goal.abandon-requires-clause-wasted
-abandon-requires-clause-wasted g c =
-    let k : Case = case_of c.args.m.now c.args.clock.now c.args.set.now c.args.seeks.now c.args.ahead (g.T.Rule.kind c.args.rule) in
-    let is : IsCase k = record { film = c.segments.ensures.film; trace = c.periods.ensures.trace; setup = c.requires.setup; seeks = c.requires.seeks; ahead = c.requires.ahead; rule = c.requires.rule } in
-    let n = c.loop-t._t in
-    let inv = c.loop-t.invariant in
-    let top = now_top k is n c.loop-t.body inv.going inv.same inv.timed in
-    let arrived = now_arrived k is n _ _ c.arrive.new.self top (record { follows = c.in_ok-arrive.ensures.arrives k refl; timed = c.in_ok-arrive.ensures.timed }) in
-    let finished = now_finished k is n _ _ c.finish.new.self arrived (record { follows = c.in_ok-finish.ensures.follows k refl; timed = c.in_ok-finish.ensures.timed }) in
-    wasted_ready k is n c.finish.new.self (body_sound k n n _ _ finished)
-
-pub seek-requires-clause-running : goal.seek-requires-clause-running
-seek-requires-clause-running g c =
+pub seek-requires : goal.seek-requires
+seek-requires g c =
     let k : Case = case_of c.args.m.now c.args.clock.now c.args.set.now c.args.seeks.now c.args.ahead (g.T.Rule.kind c.args.rule) in
     let is : IsCase k = record { film = c.segments.ensures.film; trace = c.periods.ensures.trace; setup = c.requires.setup; seeks = c.requires.seeks; ahead = c.requires.ahead; rule = c.requires.rule } in
     let n = c.loop-t._t in
@@ -120,43 +66,13 @@ seek-requires-clause-running g c =
     let arrived = now_arrived k is n _ _ c.arrive.new.self top (record { follows = c.in_ok-arrive.ensures.arrives k refl; timed = c.in_ok-arrive.ensures.timed }) in
     let finished = now_finished k is n _ _ c.finish.new.self arrived (record { follows = c.in_ok-finish.ensures.follows k refl; timed = c.in_ok-finish.ensures.timed }) in
     let abandoned = now_abandoned k is n _ _ c.abandon.new.self finished (record { follows = c.in_ok-abandon.ensures.abandons k refl refl; timed = c.in_ok-abandon.ensures.timed }) in
-    range_ready k n c.abandon.new.self (body_sound k n n _ _ abandoned)
-
-pub seek-requires-clause-loaded : goal.seek-requires-clause-loaded
-seek-requires-clause-loaded g c =
-    let k : Case = case_of c.args.m.now c.args.clock.now c.args.set.now c.args.seeks.now c.args.ahead (g.T.Rule.kind c.args.rule) in
-    let is : IsCase k = record { film = c.segments.ensures.film; trace = c.periods.ensures.trace; setup = c.requires.setup; seeks = c.requires.seeks; ahead = c.requires.ahead; rule = c.requires.rule } in
-    let n = c.loop-t._t in
-    let inv = c.loop-t.invariant in
-    let top = now_top k is n c.loop-t.body inv.going inv.same inv.timed in
-    let arrived = now_arrived k is n _ _ c.arrive.new.self top (record { follows = c.in_ok-arrive.ensures.arrives k refl; timed = c.in_ok-arrive.ensures.timed }) in
-    let finished = now_finished k is n _ _ c.finish.new.self arrived (record { follows = c.in_ok-finish.ensures.follows k refl; timed = c.in_ok-finish.ensures.timed }) in
-    let abandoned = now_abandoned k is n _ _ c.abandon.new.self finished (record { follows = c.in_ok-abandon.ensures.abandons k refl refl; timed = c.in_ok-abandon.ensures.timed }) in
-    (body_sound k n n _ _ abandoned).loaded
-
-pub seek-requires-clause-room : goal.seek-requires-clause-room
-seek-requires-clause-room g c =
-    let k : Case = case_of c.args.m.now c.args.clock.now c.args.set.now c.args.seeks.now c.args.ahead (g.T.Rule.kind c.args.rule) in
-    let is : IsCase k = record { film = c.segments.ensures.film; trace = c.periods.ensures.trace; setup = c.requires.setup; seeks = c.requires.seeks; ahead = c.requires.ahead; rule = c.requires.rule } in
-    let n = c.loop-t._t in
-    let inv = c.loop-t.invariant in
-    let top = now_top k is n c.loop-t.body inv.going inv.same inv.timed in
-    let arrived = now_arrived k is n _ _ c.arrive.new.self top (record { follows = c.in_ok-arrive.ensures.arrives k refl; timed = c.in_ok-arrive.ensures.timed }) in
-    let finished = now_finished k is n _ _ c.finish.new.self arrived (record { follows = c.in_ok-finish.ensures.follows k refl; timed = c.in_ok-finish.ensures.timed }) in
-    let abandoned = now_abandoned k is n _ _ c.abandon.new.self finished (record { follows = c.in_ok-abandon.ensures.abandons k refl refl; timed = c.in_ok-abandon.ensures.timed }) in
-    room_ready k is n c.abandon.new.self (body_sound k n n _ _ abandoned)
-
-pub seek-requires-clause-wasted : goal.seek-requires-clause-wasted
-seek-requires-clause-wasted g c =
-    let k : Case = case_of c.args.m.now c.args.clock.now c.args.set.now c.args.seeks.now c.args.ahead (g.T.Rule.kind c.args.rule) in
-    let is : IsCase k = record { film = c.segments.ensures.film; trace = c.periods.ensures.trace; setup = c.requires.setup; seeks = c.requires.seeks; ahead = c.requires.ahead; rule = c.requires.rule } in
-    let n = c.loop-t._t in
-    let inv = c.loop-t.invariant in
-    let top = now_top k is n c.loop-t.body inv.going inv.same inv.timed in
-    let arrived = now_arrived k is n _ _ c.arrive.new.self top (record { follows = c.in_ok-arrive.ensures.arrives k refl; timed = c.in_ok-arrive.ensures.timed }) in
-    let finished = now_finished k is n _ _ c.finish.new.self arrived (record { follows = c.in_ok-finish.ensures.follows k refl; timed = c.in_ok-finish.ensures.timed }) in
-    let abandoned = now_abandoned k is n _ _ c.abandon.new.self finished (record { follows = c.in_ok-abandon.ensures.abandons k refl refl; timed = c.in_ok-abandon.ensures.timed }) in
-    wasted_ready k is n c.abandon.new.self (body_sound k n n _ _ abandoned)
+    record {
+      running = range_ready k n c.abandon.new.self (body_sound k n n _ _ abandoned);
+      loaded = (body_sound k n n _ _ abandoned).loaded;
+      room = room_ready k is n c.abandon.new.self (body_sound k n n _ _ abandoned);
+      wasted = wasted_ready k is n c.abandon.new.self (body_sound k n n _ _ abandoned);
+      targets = c.requires.seeks.targets;
+    }
 
 pub request-requires : goal.request-requires
 request-requires g c =
@@ -172,8 +88,8 @@ request-requires g c =
     let kind : g.T.Rule.kind c.abandon.new.rule ≡ g.T.Rule.kind c.args.rule = c.abandon.ensures.kind ∙ c.arrive.ensures.kind ∙ inv.kind in
     record { ready = subst (λ (x : RuleKind). CanRequest c.args.m.now c.args.set.now x (seen c.seek.new.self [])) (sym kind) (request_ready k is n (n + 1) _ _ c.loop-t-test.true sought) }
 
-pub pass-requires-clause-ready : goal.pass-requires-clause-ready
-pass-requires-clause-ready g c =
+pub pass-requires : goal.pass-requires
+pass-requires g c =
     let k : Case = case_of c.args.m.now c.args.clock.now c.args.set.now c.args.seeks.now c.args.ahead (g.T.Rule.kind c.args.rule) in
     let is : IsCase k = record { film = c.segments.ensures.film; trace = c.periods.ensures.trace; setup = c.requires.setup; seeks = c.requires.seeks; ahead = c.requires.ahead; rule = c.requires.rule } in
     let n = c.loop-t._t in
@@ -192,29 +108,10 @@ pass-requires-clause-ready g c =
     let told3 : g.T.Rule.stands_for c.abandon.new.rule a.history = subst (λ (q : Player). g.T.Rule.stands_for c.abandon.new.rule (abandon k q).history) finished.same (c.in_ok-abandon.ensures.told k refl refl r.history told2) in
     let told4 : g.T.Rule.stands_for c.abandon.new.rule s.history = subst (g.T.Rule.stands_for c.abandon.new.rule) (sym (seek_told k a)) told3 in
     let asked = now_asked k is n s _ c.request.new.self sought (c.in_ok-request.ensures.requests k s.history refl refl refl (sym kind) told4) c.in_ok-request.ensures.timed (request_told k s) in
-    pass_ready k is n (n + 1) _ _ c.loop-t-test.true asked
-
-pub pass-requires-clause-takes : goal.pass-requires-clause-takes
-pass-requires-clause-takes g c =
-    let k : Case = case_of c.args.m.now c.args.clock.now c.args.set.now c.args.seeks.now c.args.ahead (g.T.Rule.kind c.args.rule) in
-    let is : IsCase k = record { film = c.segments.ensures.film; trace = c.periods.ensures.trace; setup = c.requires.setup; seeks = c.requires.seeks; ahead = c.requires.ahead; rule = c.requires.rule } in
-    let n = c.loop-t._t in
-    let inv = c.loop-t.invariant in
-    let top = now_top k is n c.loop-t.body inv.going inv.same inv.timed in
-    let arrived = now_arrived k is n _ _ c.arrive.new.self top (record { follows = c.in_ok-arrive.ensures.arrives k refl; timed = c.in_ok-arrive.ensures.timed }) in
-    let finished = now_finished k is n _ _ c.finish.new.self arrived (record { follows = c.in_ok-finish.ensures.follows k refl; timed = c.in_ok-finish.ensures.timed }) in
-    let abandoned = now_abandoned k is n _ _ c.abandon.new.self finished (record { follows = c.in_ok-abandon.ensures.abandons k refl refl; timed = c.in_ok-abandon.ensures.timed }) in
-    let sought = now_sought k is n _ _ c.seek.new.self abandoned (record { follows = c.in_ok-seek.ensures.follows k refl refl; timed = c.in_ok-seek.ensures.timed }) in
-    let kind : g.T.Rule.kind c.abandon.new.rule ≡ g.T.Rule.kind c.args.rule = c.abandon.ensures.kind ∙ c.arrive.ensures.kind ∙ inv.kind in
-    let r = stopped k (player_after k n) in
-    let a = abandon k r in
-    let s = seek k a in
-    let told1 = subst (λ (q : Player). g.T.Rule.stands_for c.arrive.new.rule (arrival k q).history) inv.same (c.in_ok-arrive.ensures.told k refl _ inv.told) in
-    let told2 : g.T.Rule.stands_for c.arrive.new.rule r.history = subst (g.T.Rule.stands_for c.arrive.new.rule) (finish_told k (arrival k (player_after k n))) told1 in
-    let told3 : g.T.Rule.stands_for c.abandon.new.rule a.history = subst (λ (q : Player). g.T.Rule.stands_for c.abandon.new.rule (abandon k q).history) finished.same (c.in_ok-abandon.ensures.told k refl refl r.history told2) in
-    let told4 : g.T.Rule.stands_for c.abandon.new.rule s.history = subst (g.T.Rule.stands_for c.abandon.new.rule) (sym (seek_told k a)) told3 in
-    let asked = now_asked k is n s _ c.request.new.self sought (c.in_ok-request.ensures.requests k s.history refl refl refl (sym kind) told4) c.in_ok-request.ensures.timed (request_told k s) in
-    take_ready k is n (n + 1) _ _ asked
+    record {
+      ready = pass_ready k is n (n + 1) _ _ c.loop-t-test.true asked;
+      takes = take_ready k is n (n + 1) _ _ asked;
+    }
 
 pub loop-t-preserved : goal.loop-t-preserved
 loop-t-preserved g c =
