@@ -4,6 +4,7 @@
 
 mod context;
 mod fault;
+mod label;
 mod manifest;
 mod rule;
 mod sample;
@@ -13,6 +14,7 @@ mod weights;
 
 pub use context::{Context, NoMemory, Played, Seek};
 pub use fault::{InputFault, Key, Kind, Refusal};
+pub use label::Label;
 pub use manifest::Manifest;
 pub use rule::Rule;
 pub use sample::Sample;

@@ -1,0 +1,80 @@
+-- Labels: what the planner keeps of a rung list up to a segment, and what becomes of it on the next one.
+use Rattle.std.specs.Prelude.{◌≡◌, ℕ, zero, suc, ◌+◌, ◌-◌, ◌*◌, ◌≤◌, ◌<◌, ◌&&◌, Bool, List, length, max, slice_index, Some, ℤ, pos, ◌+ℤ◌, ◌-ℤ◌, ◌≤ℤ◌, nat_le, int_le}
+use Rattle.std.specs.List.{All}
+use Rattle.lab_model.specs.declared.label.Label.{Label}
+use Rattle.lab_model.specs.declared.setup.Setup.{Setup}
+use Rattle.lab_model.specs.declared.trace.Period.{Period}
+use Rattle.lab_model.specs.Cycle.{IsTrace}
+use Rattle.lab_model.specs.Film.{Film, IsFilm, rungs_of, size_of}
+use Rattle.lab_model.specs.Fit.{SetupFits}
+use Rattle.lab_model.specs.Weighing.{IsWeighing, change_of, utility_of}
+use Rattle.network_clock.specs.Network.{done_at}
+use Rattle.player_core.specs.Available.{all_ahead, available_at}
+
+-- all that a label depends on: film, network, setup and media ahead
+pub record Task : Type 0 where
+  pub film : Film
+  pub periods : List Period
+  pub setup : Setup
+  pub ahead : ℕ
+
+-- the task of these parts
+abbrev pub task_of : Film → List Period → Setup → ℕ → Task
+task_of f periods set ahead = record { film = f; periods = periods; setup = set; ahead = ahead }
+
+-- a task within the limits
+pub record IsTask (g : Task) : Type 0 where
+  pub film : IsFilm g.film
+  pub trace : IsTrace g.periods
+  pub setup : SetupFits g.setup g.film
+  pub weights : IsWeighing g.setup.weights
+  pub ahead : g.ahead ≤ all_ahead
+
+-- so many rungs of the ladder
+abbrev pub AreRungs : Task → ℕ → List ℕ → Type 0
+AreRungs g n rungs = (length rungs ≡ n) × All (λ q. q < rungs_of g.film) rungs
+
+-- the instant from which a segment may be asked for
+abbrev pub there_at : Task → ℕ → ℕ
+there_at g segment = available_at g.film g.ahead segment
+
+-- the instant at which a segment has come on a rung that was asked for at an instant
+abbrev pub came_at : Task → ℕ → ℕ → ℕ → ℕ
+came_at g start segment rung = done_at g.periods start (size_of g.film segment rung)
+
+-- the label of segment 0 on a rung
+abbrev pub start_label : Task → ℕ → Label
+start_label g q =
+    let t = came_at g (there_at g 0) 0 q in
+    record { t = t; p = t; v = pos (1000 * utility_of g.setup.weights 0 q + g.setup.weights.stall * t) -ℤ pos (g.setup.weights.startup * t) }
+
+-- the instant at which a segment is asked for, after a label of the segment before: when that one is loaded, there is room in the buffer, and it is there
+abbrev pub request_at : Task → ℕ → Label → ℕ
+request_at g segment l = max (max l.t (l.p + (segment + 1) * g.film.seg_ms - g.setup.buffer_ms)) (there_at g segment)
+
+-- the successor of a label of rung `q`, to a segment on rung `r`
+abbrev pub next_label : Task → ℕ → ℕ → Label → ℕ → Label
+next_label g segment q l r =
+    let t = came_at g (request_at g segment l) segment r in
+    record {
+      t = t;
+      p = max l.p (t - segment * g.film.seg_ms);
+      v = (l.v +ℤ pos (1000 * utility_of g.setup.weights segment r)) -ℤ pos (g.setup.weights.switch * change_of g.setup.weights segment (Some q) r);
+    }
+
+-- the value that a label comes to at the end, in thousandths of a point
+abbrev pub end_value : Task → Label → ℤ
+end_value g l = l.v -ℤ pos (g.setup.weights.stall * l.p)
+
+-- the label of a segment along a rung list
+unfoldable pub label_at : Task → List ℕ → ℕ → Label
+label_at g rungs zero = start_label g (slice_index rungs 0)
+label_at g rungs (suc i) = next_label g (suc i) (slice_index rungs i) (label_at g rungs i) (slice_index rungs (suc i))
+
+-- the first is no later, has no longer a delay and no less a value
+abbrev pub dominates : Label → Label → Bool
+dominates a b = nat_le a.t b.t && nat_le a.p b.p && int_le b.v a.v
+
+-- the same as a fact
+abbrev pub Dominates : Label → Label → Type 0
+Dominates a b = (a.t ≤ b.t) × (a.p ≤ b.p) × (b.v ≤ℤ a.v)
