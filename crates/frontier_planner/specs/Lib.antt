@@ -1,2 +1,4 @@
 pub mod Labels
 pub mod Parts
+pub mod Along
+pub mod ValueLaw

@@ -2,5 +2,7 @@
 #![tactic(auto)]
 
 mod plan;
+mod values;
 
 pub use plan::{Chain, Plan, PlanErr};
+pub use values::labels_are_values;
