@@ -1,6 +1,8 @@
 //! The planner: the best rung list that a network allowed, by labels that no other dominates.
 #![tactic(auto)]
 
+mod label;
 mod plan;
 
+pub use label::Grid;
 pub use plan::{Chain, Plan, PlanErr};
