@@ -1,0 +1,6 @@
+pub mod Order
+pub mod Walks
+pub mod Kept
+pub mod Inherits
+pub mod Path
+pub mod Covered
