@@ -4,5 +4,7 @@
 mod label;
 mod plan;
 
-pub use label::Grid;
+pub use label::{
+    Grid, dominates, end_value, next_from, next_label, round_label, start_from, start_label,
+};
 pub use plan::{Chain, Plan, PlanErr};
