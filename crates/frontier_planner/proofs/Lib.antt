@@ -1,3 +1,11 @@
+pub mod Order
+pub mod Walks
+pub mod Kept
+pub mod Inherits
+pub mod Path
+pub mod Covered
+pub mod Rounds
+pub mod Grown
 pub mod AlongSums
 pub mod Along
 pub mod AlongPasses

@@ -1,4 +1,5 @@
 pub mod Labels
+pub mod Near
 pub mod Parts
 pub mod Frontier
 pub mod Grid

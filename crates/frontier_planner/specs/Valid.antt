@@ -4,6 +4,7 @@ use Rattle.std.specs.List.{All}
 use Rattle.lab_model.specs.declared.label.Label.{Label}
 use Rattle.lab_model.specs.Film.{rungs_of, segments_of}
 use Rattle.frontier_planner.specs.Labels.{Dominates, Task, end_value, next_label, start_label}
+use Rattle.frontier_planner.specs.Near.{farthest_ms}
 use Rattle.frontier_planner.specs.Parts.{CertificateParts, ChainParts}
 use Rattle.frontier_planner.specs.Read.{has_table, list_value, no_label}
 
@@ -36,10 +37,6 @@ pub record IsPlace (c : CertificateParts) (i q k : ℕ) : Type 0 where
   pub segment : i < c.segments
   pub rung : q < c.rungs
   pub label : k < count_in c i q
-
--- how far a label of a certificate may lie, in milliseconds
-abbrev pub farthest_ms : ℕ
-farthest_ms = 1000000000000000
 
 -- V1: its counts are the film's, and it has a table exactly where the setup has one
 pub record CountsMatch (g : Task) (c : CertificateParts) : Type 0 where
