@@ -10,3 +10,6 @@ pub use label::{
 };
 pub use plan::{Chain, Plan, PlanErr};
 pub use values::labels_are_values;
+
+#[cfg(test)]
+mod tests;
