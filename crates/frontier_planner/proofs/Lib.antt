@@ -7,6 +7,7 @@ pub mod Covered
 pub mod Rounds
 pub mod Grown
 pub mod AlongSums
+pub mod AlongLists
 pub mod Along
 pub mod AlongPasses
 pub mod AlongEnds
