@@ -6,3 +6,4 @@ pub mod Path
 pub mod Covered
 pub mod Rounds
 pub mod Grown
+pub mod ReadBack
