@@ -7,3 +7,9 @@ pub mod Covered
 pub mod Rounds
 pub mod Grown
 pub mod ReadBack
+pub mod AlongSums
+pub mod Along
+pub mod AlongPasses
+pub mod AlongEnds
+pub mod LabelValues
+pub mod LabelsAreValues
