@@ -13,3 +13,5 @@ pub mod AlongPasses
 pub mod AlongEnds
 pub mod LabelValues
 pub mod LabelsAreValues
+pub mod Prefixes
+pub mod Reached
