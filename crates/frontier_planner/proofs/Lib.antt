@@ -6,6 +6,7 @@ pub mod Path
 pub mod Covered
 pub mod Rounds
 pub mod Grown
+pub mod ReadBack
 pub mod AlongSums
 pub mod AlongLists
 pub mod Along
@@ -13,3 +14,5 @@ pub mod AlongPasses
 pub mod AlongEnds
 pub mod LabelValues
 pub mod LabelsAreValues
+pub mod Prefixes
+pub mod Reached
