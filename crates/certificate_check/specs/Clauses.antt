@@ -53,10 +53,13 @@ starts_verdict rungs starts first = first_no (λ q. tested 2 0 q 0 (nat_lt (slic
 abbrev pub is_near : Label → Bool
 is_near l = nat_le l.t farthest_ms && nat_le l.p farthest_ms
 
--- V2 of a label: its times, and its names, each a place of the named chain of the next segment
+-- V2 of the names of a label: each is a place of the named chain of the next segment
+abbrev pub name_ranges : ℕ → ℕ → ℕ → ChainParts → Layer → ℕ → Verdict
+name_ranges per i q chain next k = first_no (λ r. tested 2 i q k (nat_lt (name_of per chain k r) (count_of (next r)))) per
+
+-- V2 of a label: its times and its names
 abbrev pub range_verdict : ℕ → ℕ → ℕ → ChainParts → Layer → ℕ → Verdict
-range_verdict per i q chain next k =
-    both (tested 2 i q k (is_near (label_of chain k))) (first_no (λ r. tested 2 i q k (nat_lt (name_of per chain k r) (count_of (next r)))) per)
+range_verdict per i q chain next k = both (tested 2 i q k (is_near (label_of chain k))) (name_ranges per i q chain next k)
 
 -- V2 of the labels of a segment
 abbrev pub ranges_verdict : ℕ → ℕ → ℕ → Layer → Layer → Verdict

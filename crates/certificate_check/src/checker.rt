@@ -1,21 +1,24 @@
 //! The checker, which is given the layers of a certificate in order.
 
-ghost use Rattle.std.specs.Prelude.{◌≡◌, ℕ, ◌+◌, ◌<◌, ◌≤◌, [], length};
+ghost use Rattle.std.specs.Prelude.{◌≡◌, ◌+◌, ◌<◌, ◌≤◌, [], int_le, length};
 ghost use Rattle.lab_model.specs.Film.{rungs_of, segments_of};
 ghost use Rattle.lab_model.specs.Fit.{SetupFits};
-ghost use Rattle.frontier_planner.specs.Labels.{AreRungs, Task, task_of};
+ghost use Rattle.frontier_planner.specs.Labels.{AreRungs, IsTask, Task, end_value, next_label, start_label, task_of};
+ghost use Rattle.frontier_planner.specs.Near.{CanFollow};
 ghost use Rattle.frontier_planner.specs.Parts.{chain_parts};
 ghost use Rattle.frontier_planner.specs.Read.{list_value};
 ghost use Rattle.certificate_text.specs.declared.certificate.Verdict.TheVariants.{Yes};
 ghost use Rattle.certificate_text.specs.Form.{IsChain};
 ghost use Rattle.certificate_check.specs.Scheme.{both, first_no};
-ghost use Rattle.certificate_check.specs.Clauses.{counts_verdict, end_verdict, ends_verdict, label_of, layer_of, name_verdict, names_verdict, plan_verdict, range_verdict, ranges_verdict, score_verdict, starts_held, starts_verdict};
+ghost use Rattle.certificate_check.specs.Clauses.{counts_verdict, end_verdict, ends_verdict, layer_of, name_verdict, names_verdict, plan_verdict, range_verdict, ranges_verdict, score_verdict, starts_held, starts_verdict};
 ghost use Rattle.certificate_check.specs.Layers.{AreBoth, IsLayer, MayEnd};
 
-use crate::ranges::{both, is_no, plan_verdict, ranges_verdict, starts_verdict, tested};
+use crate::ranges::{
+    both, count_of, is_no, label_of, name_of, plan_verdict, ranges_verdict, starts_verdict, tested,
+};
 use certificate_text::Verdict;
 use frontier_planner::{Chain, dominates, end_value, next_from, start_from};
-use lab_model::{Manifest, Setup};
+use lab_model::{Label, Manifest, Setup};
 use network_clock::Clock;
 use std::marker::Model;
 
@@ -47,6 +50,52 @@ pub(crate) struct Found {
 }
 
 impl Checker<'_> {
+    /// The label of segment 0 on a rung.
+    fn start(&self, rung: u8) -> Label
+        requires { rung < rungs_of self.now.film }
+        ensures label { result ≡ start_label self.now rung }
+        ensures task { IsTask self.now }
+    {
+        start_from(self.m, self.clock, self.set, self.ahead, rung)
+    }
+
+    /// The successor on a rung of the next segment.
+    fn successor(&self, segment: u16, rung: u8, old: Label, next_rung: u8) -> Label
+        requires segment { segment + 1 < segments_of self.now.film }
+        requires rung { rung < rungs_of self.now.film }
+        requires old { CanFollow old }
+        requires next_rung { next_rung < rungs_of self.now.film }
+        ensures { result ≡ next_label self.now (segment + 1) rung old next_rung }
+    {
+        prove!(self.m.segments() <= 2000);
+        next_from(
+            self.m,
+            self.clock,
+            self.set,
+            self.ahead,
+            segment + 1,
+            rung,
+            old,
+            next_rung,
+        )
+    }
+
+    /// The end value of a label.
+    fn value(&self, last: Label) -> i128
+        requires { last.p ≤ 1000000000000000 }
+        ensures { result ≡ end_value self.now last }
+    {
+        end_value(self.set, last)
+    }
+
+    /// Whether the end value of a label isn't above the bound.
+    fn ends_below(&self, bound: i128, last: Label) -> bool
+        requires { last.p ≤ 1000000000000000 }
+        ensures { result ≡ int_le (end_value self.now last) bound }
+    {
+        self.value(last) <= bound
+    }
+
     /// V1, and V2 of the plan.
     pub fn head_verdict(&self, table: bool, segments: u16, rungs: u8, plan: &[u8]) -> Verdict
         requires { (length plan.now ≡ segments) × (segments ≤ 2000) }
@@ -61,14 +110,14 @@ impl Checker<'_> {
     /// V3: the label that a start names dominates the start label.
     fn starts_held(&self, starts: &[u32], first: &[Chain]) -> Verdict
         requires rungs { length starts.now ≡ rungs_of self.now.film }
-        requires few { rungs_of self.now.film ≤ 16 }
+        requires few { length starts.now ≤ 16 }
         requires chains { length first.now ≡ length starts.now }
         requires inside { starts_verdict (length starts.now) starts.now (layer_of first.now) ≡ Yes }
         ensures { result ≡ starts_held self.now (length starts.now) starts.now (layer_of first.now) }
     {
         for (rung, start) in starts.iter().enumerate() {
-            let named = first[rung].labels[*start as usize];
-            let own = start_from(self.m, self.clock, self.set, self.ahead, rung as u8);
+            let named = label_of(&first[rung], *start as usize);
+            let own = self.start(rung as u8);
             let verdict = tested(3, 0, rung as u8, *start, dominates(named, own));
             if is_no(verdict) {
                 return verdict;
@@ -89,6 +138,7 @@ impl Checker<'_> {
         requires segment { segment + 1 < segments_of self.now.film }
         requires rung { rung < rungs_of self.now.film }
         requires next { length next.now ≡ rungs_of self.now.film }
+        requires few { length next.now ≤ 16 }
         requires place { place < length chain.now.labels.items }
         requires count { length chain.now.labels.items ≤ 1000000 }
         requires form { IsChain (length next.now) (chain_parts chain.now) }
@@ -97,20 +147,11 @@ impl Checker<'_> {
         ensures { result ≡ name_verdict self.now (length next.now) segment rung (chain_parts chain.now)
             (layer_of next.now) place }
     {
-        let label = chain.labels[place];
+        let label = label_of(chain, place);
         for (next_rung, next_chain) in next.iter().enumerate() {
-            let name = chain.names[place * next.len() + next_rung];
-            let named = next_chain.labels[name as usize];
-            let successor = next_from(
-                self.m,
-                self.clock,
-                self.set,
-                self.ahead,
-                segment + 1,
-                rung,
-                label,
-                next_rung as u8,
-            );
+            let name = name_of(next.len(), chain, place, next_rung);
+            let named = label_of(next_chain, name);
+            let successor = self.successor(segment, rung, label, next_rung as u8);
             let verdict = tested(4, segment, rung, place as u32, dominates(named, successor));
             if is_no(verdict) {
                 return verdict;
@@ -124,6 +165,7 @@ impl Checker<'_> {
         requires segment { segment + 1 < segments_of self.now.film }
         requires rung { rung < rungs_of self.now.film }
         requires next { length next.now ≡ rungs_of self.now.film }
+        requires few { length next.now ≤ 16 }
         requires count { length chain.now.labels.items ≤ 1000000 }
         requires form { IsChain (length next.now) (chain_parts chain.now) }
         requires ranges { first_no (range_verdict (length next.now) segment rung
@@ -131,7 +173,7 @@ impl Checker<'_> {
         ensures { result ≡ first_no (name_verdict self.now (length next.now) segment rung
             (chain_parts chain.now) (layer_of next.now)) (length chain.now.labels.items) }
     {
-        for place in 0..chain.labels.len() {
+        for place in 0..count_of(chain) {
             let verdict = self.name_verdict(segment, rung, chain, next, place);
             if is_no(verdict) {
                 return verdict;
@@ -143,6 +185,7 @@ impl Checker<'_> {
     /// V4 of the labels of a segment.
     fn names_verdict(&self, segment: u16, here: &[Chain], next: &[Chain]) -> Verdict
         requires fits { AreBoth self.now segment here.now next.now }
+        requires few { length next.now ≤ 16 }
         requires form { IsLayer (length next.now) here.now }
         requires ranges { ranges_verdict (length next.now) (length here.now) segment
             (layer_of here.now) (layer_of next.now) ≡ Yes }
@@ -161,13 +204,13 @@ impl Checker<'_> {
     /// V5 of the labels of a chain of the last segment.
     fn ends_of_chain(&self, bound: i128, segment: u16, rung: u8, chain: &Chain) -> Verdict
         requires count { length chain.now.labels.items ≤ 1000000 }
-        requires ranges { (k : ℕ) → k < length chain.now.labels.items
-            → (label_of (chain_parts chain.now) k).p ≤ 1000000000000000 }
+        requires ranges { first_no (range_verdict 0 segment rung (chain_parts chain.now)
+            (layer_of [])) (length chain.now.labels.items) ≡ Yes }
         ensures { result ≡ first_no (end_verdict self.now bound segment rung (chain_parts chain.now))
             (length chain.now.labels.items) }
     {
-        for (place, label) in chain.labels.iter().enumerate() {
-            let low = end_value(self.set, *label) <= bound;
+        for place in 0..count_of(chain) {
+            let low = self.ends_below(bound, label_of(chain, place));
             let verdict = tested(5, segment, rung, place as u32, low);
             if is_no(verdict) {
                 return verdict;
@@ -197,16 +240,15 @@ impl Checker<'_> {
         requires { AreRungs self.now (segments_of self.now.film) plan.now }
         ensures { result ≡ list_value self.now plan.now }
     {
+        prove!(self.m.segments() > 0);
         let mut rung = plan[0];
-        let mut label = start_from(self.m, self.clock, self.set, self.ahead, rung);
-        for segment in 1..self.m.segments() {
-            let next = plan[segment as usize];
-            label = next_from(
-                self.m, self.clock, self.set, self.ahead, segment, rung, label, next,
-            );
+        let mut label = self.start(rung);
+        for segment in 1..plan.len() {
+            let next = plan[segment];
+            label = self.successor(segment as u16 - 1, rung, label, next);
             rung = next;
         }
-        end_value(self.set, label)
+        self.value(label)
     }
 
     /// What the first layer gives, after this verdict on the lines before it.

@@ -3,7 +3,7 @@ use Rattle.frontier_planner.specs.Parts.{chain_parts}
 use Rattle.certificate_text.specs.declared.certificate.Verdict.TheVariants.{Yes}
 use Rattle.certificate_check.specs.Scheme.{first_no, tested}
 use Rattle.certificate_check.specs.Clauses.{count_of, layer_of, name_of}
-use Rattle.certificate_check.proofs.ranges.range_verdict.Given as goal
+use Rattle.certificate_check.proofs.ranges.name_ranges.Given as goal
 
 abbrev pub invariant-loop-next_rung : goal.invariant-loop-next_rung
 invariant-loop-next_rung l =
