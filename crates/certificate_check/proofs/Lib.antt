@@ -3,3 +3,6 @@ pub mod Layers
 pub mod InRange
 pub mod PlanLabels
 pub mod Verdicts
+pub mod Progress
+pub mod Slices
+pub mod Sound

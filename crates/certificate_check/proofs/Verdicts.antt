@@ -1,7 +1,9 @@
 -- The verdict is a Yes exactly where the certificate is valid.
 use Rattle.std.proofs.Common.{◌≡◌, ◌∙◌, ℕ, zero, suc, ◌+◌, ◌-◌, ◌*◌, ◌<◌, ◌≤◌, ◌⊎◌, ⊎_elim, Bool, true, false, not, ◌&&◌, List, length, refl, sym, ap, subst, arith}
 use Rattle.std.specs.Prelude.{ℤ, ◌≤ℤ◌, ◌==◌, if◌then◌else◌, int_le, nat_le, nat_lt, slice_index}
+use Rattle.std.specs.List.{All}
 use Rattle.std.specs.Ordering.{int_eq}
+use Rattle.std.proofs.lemmas.Grind.{get_or_default_zero}
 use Rattle.std.proofs.lemmas.Bool.{and_from, and_parts, cases_lt, cond-true, cond-false, le-leb, leb-true, lt-ltb, ltb-true}
 use Rattle.std.proofs.lemmas.Int.{ints}
 use Rattle.lab_model.specs.declared.label.Label.{Label}
@@ -113,15 +115,17 @@ in_range g c h =
     let plan = both_first (plan_verdict c.segments c.rungs c.plan) _ one in
     let two = both_second (plan_verdict c.segments c.rungs c.plan) _ one in
     let starts = both_first (starts_verdict c.rungs c.starts (chain_in c 0)) _ two in
-    let labels = both_second (starts_verdict c.rungs c.starts (chain_in c 0)) _ two in
-    (counts_match g c counts, record {
-      plan = plan_in_range c.segments c.rungs c.plan plan;
-      starts = start_in_range c.rungs c.starts (chain_in c 0) starts;
-      times = λ i q k place. times_in (names_per c.segments c.rungs i) i q (chain_in c i q) (chain_in c (i + 1)) k (range_at c labels i q k place);
-      names = λ i q k r place inside rung.
-          let per = per_inside c.segments c.rungs i inside in
-          subst (λ p. name_of p (chain_in c i q) k r < count_in c (i + 1) r) per (name_in_range (names_per c.segments c.rungs i) i q (chain_in c i q) (chain_in c (i + 1)) k (range_at c labels i q k place) r (subst (λ p. r < p) (sym per) rung));
-    })
+    let labels = both_second (starts_verdict c.rungs c.starts (chain_in c 0)) _ two in (
+      counts_match g c counts,
+      record {
+        plan = plan_in_range c.segments c.rungs c.plan plan;
+        starts = start_in_range c.rungs c.starts (chain_in c 0) starts;
+        times = λ i q k place. times_in (names_per c.segments c.rungs i) i q (chain_in c i q) (chain_in c (i + 1)) k (range_at c labels i q k place);
+        names = λ i q k r place inside rung.
+            let per = per_inside c.segments c.rungs i inside in
+            subst (λ p. name_of p (chain_in c i q) k r < count_in c (i + 1) r) per (name_in_range (names_per c.segments c.rungs i) i q (chain_in c i q) (chain_in c (i + 1)) k (range_at c labels i q k place) r (subst (λ p. r < p) (sym per) rung));
+      },
+    )
 
 range_yes : (c : CertificateParts) → InRange c → (i q k : ℕ) → IsPlace c i q k → range_verdict (names_per c.segments c.rungs i) i q (chain_in c i q) (chain_in c (i + 1)) k ≡ Yes
 range_yes c h i q k place =
@@ -147,16 +151,21 @@ pub claims_hold : (g : Task) (c : CertificateParts) → claims_up_to g c c.segme
 unfolding claims_up_to
 claims_hold g c h =
     let starts = both_first (starts_held g c.rungs c.starts (chain_in c 0)) _ h in
-    let names = both_second (starts_held g c.rungs c.starts (chain_in c 0)) _ h in
-    (record { holds = λ q low. dominates_true (label_in c 0 q (start_in c q)) (start_label g q) (yes_tested 3 0 q (start_in c q) (dominates (label_in c 0 q (start_in c q)) (start_label g q))
-    (yes_at (λ r. tested 3 0 r (start_in c r) (dominates (label_in c 0 r (start_in c r)) (start_label g r))) c.rungs q starts low)) },
-    record { holds = λ i q k r place inside rung.
-    let per = per_inside c.segments c.rungs i inside in
-    let here = label_yes c.rungs (chain_in c i) (λ s. name_verdict g (names_per c.segments c.rungs i) i s (chain_in c i s) (chain_in c (i + 1))) (yes_at (names_in g c) c.segments i names place.segment) q k place.rung place.label in
-    let next = next_label g (i + 1) q (label_in c i q k) in
-    subst (λ p. Dominates (label_in c (i + 1) r (name_of p (chain_in c i q) k r)) (next r)) per
-    (dominates_true (label_in c (i + 1) r (name_of (names_per c.segments c.rungs i) (chain_in c i q) k r)) (next r) (yes_tested 4 i q k _
-    (yes_at (λ s. tested 4 i q k (dominates (label_in c (i + 1) s (name_of (names_per c.segments c.rungs i) (chain_in c i q) k s)) (next s))) (names_per c.segments c.rungs i) r here (subst (λ p. r < p) (sym per) rung)))) })
+    let names = both_second (starts_held g c.rungs c.starts (chain_in c 0)) _ h in (
+      record {
+        holds = λ q low. dominates_true (label_in c 0 q (start_in c q)) (start_label g q) (yes_tested 3 0 q (start_in c q) (dominates (label_in c 0 q (start_in c q)) (start_label g q))
+            (yes_at (λ r. tested 3 0 r (start_in c r) (dominates (label_in c 0 r (start_in c r)) (start_label g r))) c.rungs q starts low));
+      },
+      record {
+        holds = λ i q k r place inside rung.
+            let per = per_inside c.segments c.rungs i inside in
+            let here = label_yes c.rungs (chain_in c i) (λ s. name_verdict g (names_per c.segments c.rungs i) i s (chain_in c i s) (chain_in c (i + 1))) (yes_at (names_in g c) c.segments i names place.segment) q k place.rung place.label in
+            let next = next_label g (i + 1) q (label_in c i q k) in
+            subst (λ p. Dominates (label_in c (i + 1) r (name_of p (chain_in c i q) k r)) (next r)) per
+            (dominates_true (label_in c (i + 1) r (name_of (names_per c.segments c.rungs i) (chain_in c i q) k r)) (next r) (yes_tested 4 i q k _
+            (yes_at (λ s. tested 4 i q k (dominates (label_in c (i + 1) s (name_of (names_per c.segments c.rungs i) (chain_in c i q) k s)) (next s))) (names_per c.segments c.rungs i) r here (subst (λ p. r < p) (sym per) rung))));
+      },
+    )
 
 claims_yes : (g : Task) (c : CertificateParts) → StartsHold g c → NamesHold g c → claims_up_to g c c.segments ≡ Yes
 unfolding claims_up_to
@@ -179,10 +188,13 @@ unfolding ends_in
 ends_hold g c bound h =
     let last = c.segments - 1 in
     let ends = both_first (ends_verdict g bound c.rungs last (chain_in c last)) (score_verdict g c.plan c.score) h in
-    let score = both_second (ends_verdict g bound c.rungs last (chain_in c last)) (score_verdict g c.plan c.score) h in
-    (record { holds = λ q k place. le_true (end_value g (label_in c last q k)) bound (yes_tested 5 last q k (int_le (end_value g (label_in c last q k)) bound)
-    (label_yes c.rungs (chain_in c last) (λ r. end_verdict g bound last r (chain_in c last r)) ends q k place.rung place.label)) },
-    record { holds = int_eq_true (list_value g c.plan) c.score (yes_tested 6 0 0 0 (int_eq (list_value g c.plan) c.score) score) })
+    let score = both_second (ends_verdict g bound c.rungs last (chain_in c last)) (score_verdict g c.plan c.score) h in (
+      record {
+        holds = λ q k place. le_true (end_value g (label_in c last q k)) bound (yes_tested 5 last q k (int_le (end_value g (label_in c last q k)) bound)
+            (label_yes c.rungs (chain_in c last) (λ r. end_verdict g bound last r (chain_in c last r)) ends q k place.rung place.label));
+      },
+      record { holds = int_eq_true (list_value g c.plan) c.score (yes_tested 6 0 0 0 (int_eq (list_value g c.plan) c.score) score) },
+    )
 
 ends_yes : (g : Task) (c : CertificateParts) (bound : ℤ) → 1 ≤ c.segments → EndsBelow g c bound → ScoreHolds g c → ends_in g c bound ≡ Yes
 unfolding ends_in
@@ -191,6 +203,10 @@ ends_yes g c bound some ends score =
     both_yes _ _ (labels_yes c.rungs (chain_in c last) (λ q. end_verdict g bound last q (chain_in c last q))
     (λ q k rung label. tested_yes 5 last q k (int_le (end_value g (label_in c last q k)) bound) (le_from (end_value g (label_in c last q k)) bound (ends.holds q k (record { segment = omega (arith, some); rung = rung; label = label })))))
     (tested_yes 6 0 0 0 (int_eq (list_value g c.plan) c.score) (int_eq_from (list_value g c.plan) c.score score.holds))
+
+-- the rungs of a list that are below a number at each place
+pub all_below : (xs : List ℕ) (n bound : ℕ) → length xs ≡ n → ((i : ℕ) → i < n → slice_index xs i < bound) → All (λ q. q < bound) xs
+all_below xs n bound long h = λ j d low. let e = get_or_default_zero xs j d low in let own = h j (omega (arith, long, low)) in omega (arith, e, own)
 
 -- ---- the whole
 

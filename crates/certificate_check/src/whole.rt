@@ -1,12 +1,13 @@
 //! The checks of whole certificates.
 
-ghost use Rattle.std.specs.Prelude.{◌≡◌, ◌↔◌, ◌*◌, ◌<◌, ◌≤◌, drop, length, take};
+ghost use Rattle.std.specs.Prelude.{◌≡◌, ◌↔◌, ◌<◌, ◌≤◌};
 ghost use Rattle.lab_model.specs.Fit.{SetupFits};
 ghost use Rattle.player_core.specs.Available.{all_ahead};
 ghost use Rattle.frontier_planner.specs.Labels.{task_of};
 ghost use Rattle.frontier_planner.specs.Valid.{IsValid};
 ghost use Rattle.certificate_text.specs.declared.certificate.Verdict.TheVariants.{Yes};
-ghost use Rattle.certificate_text.specs.Form.{IsCertificate, certificate_parts};
+ghost use Rattle.certificate_text.specs.Form.{IsCertificate, certificate_parts, names_per};
+ghost use Rattle.certificate_check.specs.Layers.{IsLayer, IsLayerOf};
 ghost use Rattle.certificate_check.specs.Soundness.{Certifies};
 ghost use Rattle.certificate_check.specs.Verdict.{verdict_of};
 
@@ -23,12 +24,35 @@ const ALL_AHEAD: u32 = 120_000_000;
 fn layer(cert: &Certificate, segment: u16) -> &[Chain]
     requires form { IsCertificate (certificate_parts cert.now) }
     requires segment { segment < cert.now.segments }
-    ensures { result.now ≡
-        take cert.now.rungs (drop (segment * cert.now.rungs) cert.now.chains.items) }
+    ensures own { IsLayerOf (certificate_parts cert.now) segment result.now }
+    ensures form { IsLayer (names_per cert.now.segments cert.now.rungs segment) result.now }
 {
     let rungs = cert.rungs as usize;
     let start = segment as usize * rungs;
     &cert.chains[start..start + rungs]
+}
+
+/// The verdict of this checker on a certificate, with this bound in V5.
+fn verdict_on(checker: &Checker<'_>, cert: &Certificate, bound: i128) -> Verdict
+    requires { IsCertificate (certificate_parts cert.now) }
+    ensures { result ≡ verdict_of checker.now (certificate_parts cert.now) bound }
+{
+    let head = checker.head_verdict(cert.table, cert.segments, cert.rungs, &cert.plan);
+    let last = cert.segments - 1;
+    let mut found = checker.found_first(head, &cert.starts, layer(cert, 0));
+    for segment in 0..last {
+        let here = layer(cert, segment);
+        let next = layer(cert, segment + 1);
+        found = checker.found_more(found, segment, here, next);
+    }
+    checker.verdict(
+        found,
+        last,
+        layer(cert, last),
+        &cert.plan,
+        cert.score,
+        bound,
+    )
 }
 
 /// The verdict on a certificate, with this bound in V5, where `ahead` milliseconds of media, at most 120000000, are
@@ -61,25 +85,7 @@ pub fn check_from(
         set,
         ahead,
     };
-    let head = checker.head_verdict(cert.table, cert.segments, cert.rungs, &cert.plan);
-    let last = cert.segments - 1;
-    let mut found = checker.found_first(head, &cert.starts, layer(cert, 0));
-    for segment in 0..last {
-        found = checker.found_more(
-            found,
-            segment,
-            layer(cert, segment),
-            layer(cert, segment + 1),
-        );
-    }
-    checker.verdict(
-        found,
-        last,
-        layer(cert, last),
-        &cert.plan,
-        cert.score,
-        bound,
-    )
+    verdict_on(&checker, cert, bound)
 }
 
 /// The verdict for a film on demand: see `check_from`.
