@@ -25,11 +25,11 @@ use std::marker::Model;
 /// What certificates are tested against: a film, a network, a setup that fits, and the media ahead.
 #[derive(Drop)]
 pub(crate) struct Checker<'a> {
-    pub m: &'a Manifest,
-    pub clock: &'a Clock,
-    pub set: &'a Setup,
+    m: &'a Manifest,
+    clock: &'a Clock,
+    set: &'a Setup,
     /// At most 120000000 ms.
-    pub ahead: u32,
+    ahead: u32,
 }
 
 impl<'a> Model for Checker<'a> {
@@ -49,7 +49,23 @@ pub(crate) struct Found {
     pub claims: Verdict,
 }
 
-impl Checker<'_> {
+impl<'a> Checker<'a> {
+    /// The checker against these. The setup fits the film, and the media ahead are at most 120000000 ms.
+    pub fn new(m: &'a Manifest, clock: &'a Clock, set: &'a Setup, ahead: u32) -> Checker<'a>
+        requires setup { SetupFits set.now m.now }
+        requires ahead { ahead ≤ 120000000 }
+        ensures value { result ≡ task_of m.entry.now clock.entry.now set.entry.now ahead }
+        ensures task { IsTask result }
+    {
+        prove!(m.segments() > 0 && set.weights.count() > 0 && !clock.periods().is_empty());
+        Checker {
+            m,
+            clock,
+            set,
+            ahead,
+        }
+    }
+
     /// The label of segment 0 on a rung.
     fn start(&self, rung: u8) -> Label
         requires { rung < rungs_of self.now.film }

@@ -79,12 +79,7 @@ pub fn check_from(
     ensures sound { result ≡ Yes →
         Certifies (task_of m.now clock.now set.now ahead) cert.now.plan.items cert.now.score bound }
 {
-    let checker = Checker {
-        m,
-        clock,
-        set,
-        ahead,
-    };
+    let checker = Checker::new(m, clock, set, ahead);
     verdict_on(&checker, cert, bound)
 }
 

@@ -1,4 +1,7 @@
-use Rattle.std.proofs.Common.{◌≡◌, ◌∙◌, [], ◌+◌, ◌-◌, ◌<◌, ◌≤◌, length, sym, ap, subst, arith}
+use Rattle.std.proofs.Common.{◌≡◌, ◌∙◌, [], ◌+◌, ◌-◌, ◌<◌, ◌≤◌, length, sym, ap, ap₂, subst, arith, rules, to_z, of_z}
+use mir.Val.{SFits}
+use Rattle.std.specs.Int.{w128}
+use Rattle.std.proofs.lemmas.Int.{to_z-of_z}
 use Rattle.certificate_text.specs.Form.{certificate_parts}
 use Rattle.certificate_check.specs.Scheme.{both}
 use Rattle.certificate_check.specs.Clauses.{counts_verdict, ends_verdict, layer_of, plan_verdict, ranges_verdict, score_verdict, starts_held, starts_verdict}
@@ -78,5 +81,13 @@ returns c =
     let last : c.loop-segment.segment ≡ parts.segments - 1 = omega (arith, past, most) in
     let end : parts.segments - 1 + 1 ≡ parts.segments = omega (arith, some) in
     let stands = subst (λ n. StandsFor g parts n c.loop-segment.found) last c.loop-segment.invariant in
-    let said = subst (λ p. c.verdict.result ≡ both (both c.loop-segment.found.ranges (ranges_verdict 0 (length c.layer-2.result.now) (parts.segments - 1) (layer_of c.layer-2.result.now) (layer_of []))) (both c.loop-segment.found.claims (both (ends_verdict g c.args.bound (length c.layer-2.result.now) (parts.segments - 1) (layer_of c.layer-2.result.now)) (score_verdict g p parts.score)))) c.deref-3.ensures.value c.verdict.ensures in
-    stands_last g parts c.args.bound (parts.segments - 1) c.layer-2.result.now c.loop-segment.found c.verdict.result end c.layer-2.ensures.own stands said
+    let value = c.args.cert.now.score in
+    let fits : SFits w128 value = search rules in
+    let bound = to_z-of_z w128 c.args.bound c.ranges.bound in
+    let last_layer = c.layer-2.result.now in
+    let found = c.loop-segment.found in
+    let n = parts.segments - 1 in
+    stands_last g parts c.args.bound n last_layer found c.verdict.result end c.layer-2.ensures.own stands
+    (c.verdict.ensures
+    ∙ ap (λ b. both (both found.ranges (ranges_verdict 0 (length last_layer) n (layer_of last_layer) (layer_of []))) (both found.claims (both (ends_verdict g b (length last_layer) n (layer_of last_layer)) (score_verdict g c.deref-3.result.now (to_z w128 (of_z w128 value)))))) bound
+    ∙ ap₂ (λ p z. both (both found.ranges (ranges_verdict 0 (length last_layer) n (layer_of last_layer) (layer_of []))) (both found.claims (both (ends_verdict g c.args.bound (length last_layer) n (layer_of last_layer)) (score_verdict g p z)))) c.deref-3.ensures.value (to_z-of_z w128 value fits))
