@@ -10,12 +10,17 @@ use Rattle.clap.specs.declared.error.Error.{Error}
 use Rattle.clap.specs.declared.error.kind.ErrorKind.TheVariants.{OutOfMemory}
 use Rattle.clap.specs.declared.parser.matches.ArgMatches.{ArgMatches}
 use Rattle.clap.proofs.WalkLemmas.{both}
+use Rattle.lab_words.specs.Compare.{compare_app}
 use Rattle.lab_words.specs.Simulate.{simulate_app}
 use Rattle.lab_words.specs.Table.{accepted, is_fault_free, table_app, with_words}
 
 pub simulate_simple : is_simple_and_free simulate_app ≡ true
 unfolding simulate_app table_app with_words
 simulate_simple = refl
+
+pub compare_simple : is_simple_and_free compare_app ≡ true
+unfolding compare_app table_app with_words
+compare_simple = refl
 
 -- the matches of a command that is the simple one b
 pub matched : (a b : App) (ws : List Text) (m : ArgMatches) → a ≡ b → is_simple_and_free b ≡ true → (is_simple_and_free a ≡ true → fault_of a ws ≡ []) → HasMatchesOf a ws m

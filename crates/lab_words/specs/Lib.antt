@@ -5,5 +5,6 @@ pub mod Table
 pub mod Values
 pub mod Settings
 pub mod Simulate
+pub mod Compare
 pub mod Words
 pub mod Limits

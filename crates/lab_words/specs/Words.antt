@@ -2,6 +2,7 @@
 use Rattle.std.specs.Prelude.{Bool, false, List, [], ◌∷◌, Option, Some, None, codes, option_and_then, is_some, if◌then◌else◌}
 use Rattle.std.specs.List.{list_any}
 use Rattle.std.specs.Str.{bytes_eq}
+use Rattle.lab_words.specs.Compare.{compare_app, compare_in}
 use Rattle.lab_words.specs.Simulate.{simulate_app, simulate_in}
 use Rattle.lab_words.specs.Spelling.{Text}
 use Rattle.lab_words.specs.Table.{accepted}
@@ -16,12 +17,15 @@ has_dashes words = list_any (λ w. bytes_eq w (codes "--")) words
 
 -- the command that a word names
 abbrev pub verb_of : Text → Option Verb
-verb_of word = if bytes_eq word (codes "simulate") then Some verb.Simulate else None
+verb_of word =
+    if bytes_eq word (codes "simulate") then Some verb.Simulate
+    else if bytes_eq word (codes "compare") then Some verb.Compare
+    else None
 
 -- what the words behind a command's name ask for
 abbrev pub asked_of : Verb → List Text → Option CommandWords
 asked_of verb.Simulate words = option_and_then simulate_in (accepted simulate_app words)
-asked_of verb.Compare words = None
+asked_of verb.Compare words = option_and_then compare_in (accepted compare_app words)
 asked_of verb.Plan words = None
 asked_of verb.Check words = None
 asked_of verb.Demo words = None

@@ -1,6 +1,7 @@
 //! The words of a command line, read by `clap` and by the rules of this project.
 #![tactic(auto)]
 
+mod compare;
 mod numbers;
 mod rules;
 mod settings;
@@ -16,6 +17,7 @@ ghost use Rattle.lab_words.specs.Command.{view};
 ghost use Rattle.lab_words.specs.Values.{Gives};
 ghost use Rattle.lab_words.specs.Words.{asked_of, begins_with_verb, command_of, has_dashes, verb_of};
 
+use crate::compare::compare_of;
 use crate::simulate::simulate_of;
 use std::alloc::{AllocError, AllocFailed, Global};
 
@@ -132,6 +134,7 @@ fn verb_of(word: &str) -> Option<Verb>
 {
     match word {
         "simulate" => Some(Verb::Simulate),
+        "compare" => Some(Verb::Compare),
         _ => None,
     }
 }
@@ -142,7 +145,8 @@ fn asked_of(alloc: Global, verb: Verb, words: &[String]) -> Result<Command, Word
 {
     match verb {
         Verb::Simulate => simulate_of(alloc, words),
-        Verb::Compare | Verb::Plan | Verb::Check | Verb::Demo => Err(WordsErr::Usage),
+        Verb::Compare => compare_of(alloc, words),
+        Verb::Plan | Verb::Check | Verb::Demo => Err(WordsErr::Usage),
     }
 }
 
