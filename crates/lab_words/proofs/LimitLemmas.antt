@@ -15,8 +15,11 @@ use Rattle.lab_model.specs.Weighing.{IsWeighing, weighing}
 use Rattle.lab_words.specs.Limits.{IsRuleWithin, IsWithinLimits}
 use Rattle.lab_words.specs.Rules.{has_colon, rule_of, rule_of_kind}
 use Rattle.lab_words.specs.Spelling.{Text, all_numbers, in_range, is_number, never_falls, number_of, numbers_of, pieces_of, unless_falling, utilities_of}
-use Rattle.lab_words.specs.Command.{CommandWords, view}
-use Rattle.lab_words.specs.Settings.{SettingsWords, settings_in, utilities_in}
+use Rattle.lab_words.specs.Check.{check_app, check_in}
+use Rattle.lab_words.specs.Command.{CommandWords, blank, view}
+use Rattle.lab_words.specs.Demo.{demo_app, demo_in}
+use Rattle.lab_words.specs.Plan.{plan_app, plan_in}
+use Rattle.lab_words.specs.Settings.{SettingsWords, settings_in, utilities_in, with_settings}
 use Rattle.lab_words.specs.Compare.{at_most, compare_app, compare_in, distinct, few, named_rule, named_rules, rules_in, traces_in}
 use Rattle.lab_words.specs.Simulate.{simulate_app, simulate_in}
 use Rattle.lab_words.specs.Table.{accepted}
@@ -216,16 +219,10 @@ simulate_within rows c h =
     let settings = bound (settings_in rows) _ c rule.2 in
     let seeks = bound (optional (codes "seeks") rows) _ c settings.2 in
     let within = settings_within rows settings.0 settings.1 in
-    let made : CommandWords = record {
-      verb = verb.Simulate;
+    let made : CommandWords = record (with_settings settings.0 (blank verb.Simulate)) {
       manifest = manifest.0;
       traces = trace.0 ∷ [];
       rules = rule.0 ∷ [];
-      buffer_ms = settings.0.buffer_ms;
-      utilities = settings.0.utilities;
-      switch = settings.0.switch;
-      stall = settings.0.stall;
-      startup = settings.0.startup;
       abandon = is_given (codes "abandon") rows;
       seeks = seeks.0;
     } in
@@ -233,8 +230,9 @@ simulate_within rows c h =
     subst IsWithinLimits same (record {
       counts = (refl, refl);
       spoken = alone (λ (r : Text × RuleKind). IsRuleWithin r.1) rule.0 (named_within rows rule.0 rule.1);
-      buffer = within.buffer;
-      weights = within.weights;
+      buffer = λ film. within.buffer;
+      weights = λ film. within.weights;
+      own = tt;
     })
 
 -- ---- rules and traces without repeats
@@ -319,16 +317,10 @@ compare_within rows c h =
     let traces = bound (traces_in rows) _ c seeks.2 in
     let within = settings_within rows settings.0 settings.1 in
     let named' = rules_within rows rules.0 rules.1 in
-    let made : CommandWords = record {
-      verb = verb.Compare;
+    let made : CommandWords = record (with_settings settings.0 (blank verb.Compare)) {
       manifest = manifest.0;
       traces = traces.0;
       rules = rules.0;
-      buffer_ms = settings.0.buffer_ms;
-      utilities = settings.0.utilities;
-      switch = settings.0.switch;
-      stall = settings.0.stall;
-      startup = settings.0.startup;
       abandon = is_given (codes "abandon") rows;
       seeks = seeks.0;
     } in
@@ -336,16 +328,80 @@ compare_within rows c h =
     subst IsWithinLimits same (record {
       counts = (traces_within rows traces.0 traces.1, named'.0);
       spoken = named'.1;
-      buffer = within.buffer;
-      weights = within.weights;
+      buffer = λ film. within.buffer;
+      weights = λ film. within.weights;
+      own = tt;
+    })
+
+no_rules : All (λ (r : Text × RuleKind). IsRuleWithin r.1) []
+no_rules = λ k d lt. absurd (omega arith)
+
+plan_within : (rows : List Row) (c : CommandWords) → plan_in rows ≡ Some c → IsWithinLimits c
+unfolding plan_in
+plan_within rows c h =
+    let manifest = bound (required (codes "manifest") rows) _ c h in
+    let trace = bound (required (codes "trace") rows) _ c manifest.2 in
+    let settings = bound (settings_in rows) _ c trace.2 in
+    let budget = bound (number_in 200000 1 1000000 (codes "budget") rows) _ c settings.2 in
+    let within = settings_within rows settings.0 settings.1 in
+    let made : CommandWords = record (with_settings settings.0 (blank verb.Plan)) {
+      manifest = manifest.0;
+      traces = trace.0 ∷ [];
+      budget = budget.0;
+      as_certificate = is_given (codes "as-certificate") rows;
+    } in
+    let same : made ≡ c = cc (budget.2) in
+    subst IsWithinLimits same (record {
+      counts = (refl, refl);
+      spoken = no_rules;
+      buffer = λ film. within.buffer;
+      weights = λ film. within.weights;
+      own = option_within 200000 1 1000000 (codes "budget") rows budget.0 (lit≤ tt, lit≤ tt) budget.1;
+    })
+
+check_within : (rows : List Row) (c : CommandWords) → check_in rows ≡ Some c → IsWithinLimits c
+unfolding check_in
+check_within rows c h =
+    let manifest = bound (required (codes "manifest") rows) _ c h in
+    let trace = bound (required (codes "trace") rows) _ c manifest.2 in
+    let settings = bound (settings_in rows) _ c trace.2 in
+    let certificate = bound (required (codes "certificate") rows) _ c settings.2 in
+    let within = settings_within rows settings.0 settings.1 in
+    let made : CommandWords = record (with_settings settings.0 (blank verb.Check)) {
+      manifest = manifest.0;
+      traces = trace.0 ∷ [];
+      certificate = Some certificate.0;
+    } in
+    let same : made ≡ c = cc (certificate.2) in
+    subst IsWithinLimits same (record {
+      counts = (refl, refl);
+      spoken = no_rules;
+      buffer = λ film. within.buffer;
+      weights = λ film. within.weights;
+      own = refl;
+    })
+
+demo_within : (rows : List Row) (c : CommandWords) → demo_in rows ≡ Some c → IsWithinLimits c
+unfolding demo_in
+demo_within rows c h =
+    let text = bound (required (codes "number") rows) _ c h in
+    let number = bound (number_of 0 2147483647 text.0) _ c text.2 in
+    let made : CommandWords = record (blank verb.Demo) { number = number.0 } in
+    let same : made ≡ c = cc (number.2) in
+    subst IsWithinLimits same (record {
+      counts = (refl, refl);
+      spoken = no_rules;
+      buffer = λ film. absurd film;
+      weights = λ film. absurd film;
+      own = (number_within 0 2147483647 text.0 number.0 number.1).1;
     })
 
 asked_within : (v : Verb) (words : List Text) (c : CommandWords) → asked_of v words ≡ Some c → IsWithinLimits c
 asked_within verb.Simulate words c h = let rows = went simulate_in (accepted simulate_app words) c h in simulate_within rows.0 c rows.2
 asked_within verb.Compare words c h = let rows = went compare_in (accepted compare_app words) c h in compare_within rows.0 c rows.2
-asked_within verb.Plan words c h = cc
-asked_within verb.Check words c h = cc
-asked_within verb.Demo words c h = cc
+asked_within verb.Plan words c h = let rows = went plan_in (accepted plan_app words) c h in plan_within rows.0 c rows.2
+asked_within verb.Check words c h = let rows = went check_in (accepted check_app words) c h in check_within rows.0 c rows.2
+asked_within verb.Demo words c h = let rows = went demo_in (accepted demo_app words) c h in demo_within rows.0 c rows.2
 
 -- a call that gave what the words behind a command's name ask for
 pub gives_within : (v : Verb) (words : List Text) (r : Result Command WordsErr) → Gives view r (asked_of v words) → IfOk r (λ c. IsWithinLimits (view c))

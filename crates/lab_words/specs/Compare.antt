@@ -6,9 +6,9 @@ use Rattle.clap.specs.Simple.{App}
 use Rattle.clap.specs.Walk.{Row}
 use Rattle.indexmap.specs.IndexSet.{insert_all}
 use Rattle.lab_model.specs.Rules.{RuleKind}
-use Rattle.lab_words.specs.Command.{CommandWords}
+use Rattle.lab_words.specs.Command.{CommandWords, blank}
 use Rattle.lab_words.specs.Rules.{rule_of}
-use Rattle.lab_words.specs.Settings.{settings_in, settings_words}
+use Rattle.lab_words.specs.Settings.{settings_in, settings_words, with_settings}
 use Rattle.lab_words.specs.Spelling.{Text}
 use Rattle.lab_words.specs.Table.{table_app}
 use Rattle.lab_words.specs.Values.{◌>>=◌, is_given, optional, required, several}
@@ -69,16 +69,10 @@ compare_in rows = do
   settings ← settings_in rows
   seeks ← optional (codes "seeks") rows
   traces ← traces_in rows
-  Some (record {
-    verb = verb.Compare;
+  Some (record (with_settings settings (blank verb.Compare)) {
     manifest = manifest;
     traces = traces;
     rules = rules;
-    buffer_ms = settings.buffer_ms;
-    utilities = settings.utilities;
-    switch = settings.switch;
-    stall = settings.stall;
-    startup = settings.startup;
     abandon = is_given (codes "abandon") rows;
     seeks = seeks;
   })

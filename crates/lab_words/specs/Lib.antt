@@ -6,5 +6,8 @@ pub mod Values
 pub mod Settings
 pub mod Simulate
 pub mod Compare
+pub mod Plan
+pub mod Check
+pub mod Demo
 pub mod Words
 pub mod Limits

@@ -134,17 +134,12 @@ fn compare_in(alloc: Global, matches: &ArgMatches<'_>) -> Result<Command, WordsE
     let seeks = optional_file_name(alloc, matches, "seeks")?;
     let traces = traces_in(alloc, matches)?;
     Ok(Command {
-        verb: Verb::Compare,
         manifest,
         traces,
         rules,
-        buffer_ms: settings.buffer_ms,
-        utilities: settings.utilities,
-        switch: settings.switch,
-        stall: settings.stall,
-        startup: settings.startup,
         abandon: is_given(matches, "abandon"),
         seeks,
+        ..settings.command(alloc, Verb::Compare)
     })
 }
 
