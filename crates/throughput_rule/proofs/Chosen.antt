@@ -1,6 +1,6 @@
 -- The rung that the least mean of windows chooses is the model's choice after the history that they stand for.
-use Rattle.std.proofs.Common.{◌≡◌, ◌∙◌, ℕ, zero, suc, ◌+◌, ◌-◌, ◌*◌, ◌/◌, ◌≤◌, ◌<◌, List, [], ◌∷◌, Bool, true, false, cond, length, map, nat_le, sym, refl, ap, add-one, arith}
-use Rattle.std.specs.List.{All, fold, sum}
+use Rattle.std.proofs.Common.{◌≡◌, ◌∙◌, ℕ, zero, suc, ◌-◌, ◌*◌, ◌/◌, ◌≤◌, List, [], ◌∷◌, Bool, false, cond, length, map, nat_le, sym, refl, ap, add-one, arith}
+use Rattle.std.specs.List.{fold, sum}
 use Rattle.std.specs.Prelude.{min}
 use Rattle.std.proofs.Math.Seq.{drop-nil}
 use Rattle.std.proofs.lemmas.Bool.Decides.{nat_tests}

@@ -1,11 +1,10 @@
 -- What windows keep of a history.
-use Rattle.std.proofs.Common.{◌≡◌, ◌∙◌, ℕ, ◌-◌, List, [], ◌∷◌, ◌++◌, length, map, sym, refl, ap}
+use Rattle.std.proofs.Common.{◌≡◌, ◌∙◌, ℕ, ◌-◌, List, [], ◌∷◌, ◌++◌, map, sym, refl, ap}
 use Rattle.std.proofs.Math.Seq.{drop-nil}
-use Rattle.std.specs.List.{All}
 use Rattle.std.proofs.lemmas.List.Elements.{All-nil, All-cons, All-head, All-tail}
 use Rattle.lab_model.specs.Rates.{last_of}
 use Rattle.lab_model.proofs.Histories.{last_of_push}
-use Rattle.throughput_rule.specs.Windows.{Kept, StandsFor, kind_of, told, untold}
+use Rattle.throughput_rule.specs.Windows.{Kept, StandsFor, told, untold}
 
 -- each window stands for the history
 abbrev Keeps : List ℕ → Kept → Type 0

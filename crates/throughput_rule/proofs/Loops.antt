@@ -1,5 +1,5 @@
 -- The end of a loop that writes each element of a Vec.
-use Rattle.std.proofs.Common.{◌≡◌, ◌∙◌, ℕ, ◌≤◌, List, [], ◌++◌, length, map, take, drop, ap, sym, append-nil, arith}
+use Rattle.std.proofs.Common.{◌≡◌, ◌∙◌, ℕ, ◌≤◌, List, ◌++◌, length, map, take, drop, ap, append-nil, arith}
 use Rattle.std.proofs.lemmas.List.{drop_all, length-map, take_all}
 
 -- each element is written, and nothing stands behind them

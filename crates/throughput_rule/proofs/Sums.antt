@@ -1,5 +1,5 @@
 -- The sum of the rates that a window keeps.
-use Rattle.std.proofs.Common.{◌≡◌, ◌∙◌, ℕ, ◌+◌, ◌-◌, ◌*◌, ◌/◌, ◌≤◌, ◌<◌, List, [], ◌∷◌, ◌++◌, Option, Some, None, length, drop, nat_lt, cond, ap, sym, refl, length-append, arith}
+use Rattle.std.proofs.Common.{◌≡◌, ◌∙◌, ℕ, ◌+◌, ◌-◌, ◌*◌, ◌/◌, ◌≤◌, ◌<◌, List, [], ◌∷◌, ◌++◌, Option, None, length, drop, nat_lt, ap, length-append, arith}
 use Rattle.std.specs.List.{All, sum, slice_get}
 use Rattle.std.specs.Option.{unwrap_or}
 use Rattle.std.specs.Bool.{if◌then◌else◌}
@@ -7,7 +7,6 @@ use Rattle.std.proofs.Math.Nat.{div-le_of_le-mul}
 use Rattle.std.proofs.lemmas.Bool.{cond_both}
 use Rattle.std.proofs.lemmas.Bool.Decides.{nat_tests}
 use Rattle.std.proofs.lemmas.List.Sums.{sum_by-append, sum_by-cons, sum_by-le}
-use Rattle.std.proofs.lemmas.List.Elements.{All-drop, All-push}
 use Rattle.lab_model.specs.Rates.{last_of}
 
 -- the sum of rates within their limit

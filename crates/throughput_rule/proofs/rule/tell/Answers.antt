@@ -1,4 +1,4 @@
-use Rattle.std.proofs.Common.{◌≡◌, ◌∙◌, ap, length, set, sym}
+use Rattle.std.proofs.Common.{◌∙◌, ap, length, set, sym}
 use Rattle.std.proofs.lemmas.List.Edits.{map_over_more}
 use Rattle.throughput_rule.specs.Windows.{told}
 use Rattle.throughput_rule.proofs.Loops.{all_written}

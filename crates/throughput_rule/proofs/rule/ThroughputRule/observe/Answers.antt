@@ -1,6 +1,6 @@
 use Rattle.std.proofs.Common.{◌∙◌, ap}
 use Rattle.lab_model.specs.Rules.{throughput}
-use Rattle.throughput_rule.specs.Windows.{StandsFor, kind_of}
+use Rattle.throughput_rule.specs.Windows.{kind_of}
 use Rattle.throughput_rule.proofs.Histories.{stands_told, widths_told}
 use Rattle.throughput_rule.proofs.rule.ThroughputRule.observe.Goals as goal
 
