@@ -1,9 +1,9 @@
 -- Each rule chooses a rung of the film that it is asked about.
-use Rattle.std.proofs.Common.{◌≡◌, ℕ, zero, suc, ◌-◌, ◌<◌, ◌≤◌, List, [], ◌∷◌, length, get_or, Bool, cond, Some, None, ltb, sym, ◌∙◌, ap, add-one, length-append, arith}
-use Rattle.std.specs.List.{All, fold, flat_map, position_or_len}
+use Rattle.std.proofs.Common.{ℕ, zero, suc, ◌-◌, ◌<◌, ◌≤◌, List, [], ◌∷◌, length, get_or, Bool, cond, Some, None, find, ltb, sym, ◌∙◌, ap, add-one, arith}
+use Rattle.std.specs.List.{All, fold, flat_map}
 use Rattle.std.specs.Option.{unwrap_or}
 use Rattle.std.specs.Prelude.{ℤ, int_lt, min, map, slice_index}
-use Rattle.std.proofs.lemmas.Bool.{cond_both, ltb-true}
+use Rattle.std.proofs.lemmas.Bool.{cond_both}
 use Rattle.std.proofs.lemmas.List.FromFn.{length-range_with_len, get_or-range_with_len}
 use Rattle.std.proofs.lemmas.List.Elements.{All-nil, All-cons, All-head, All-tail, All-append, All-map}
 use Rattle.lab_model.specs.declared.setup.Setup.{Setup}
@@ -38,12 +38,13 @@ all_below n k d low =
     let e = get_or-range_with_len 0 n k d here in
     omega (arith, e, here)
 
-pub least_fits : (passes : ℕ → Bool) (rungs : ℕ) → 0 < rungs → least_rung passes rungs < rungs
-least_fits passes rungs some =
-    let place = position_or_len passes (rungs_below rungs) in
-    let all = length-range_with_len 0 rungs in
-    cond_both (ltb place (length (rungs_below rungs))) (Some place) None (λ o. unwrap_or o 0 < rungs)
-    (λ e. let low = ltb-true place (length (rungs_below rungs)) e in omega (arith, low, all)) (λ e. some)
+found_fits : (P : ℕ → Type 0) (passes : ℕ → Bool) (default : ℕ) (qs : List ℕ) → P default → All P qs → P (unwrap_or (find passes qs) default)
+found_fits P passes default [] h all = h
+found_fits P passes default (q ∷ qs) h all =
+    cond_both (passes q) (Some q) (find passes qs) (λ o. P (unwrap_or o default)) (λ e. All-head P q qs all) (λ e. found_fits P passes default qs h (All-tail P q qs all))
+
+pub least_fits : (passes : ℕ → Bool) (count : ℕ) → 0 < count → least_rung passes count < count
+least_fits passes count some = found_fits (λ q. q < count) passes 0 (rungs_below count) some (all_below count)
 
 -- ---- the first list of the greatest score
 
