@@ -15,3 +15,5 @@ pub mod LabelValues
 pub mod LabelsAreValues
 pub mod Prefixes
 pub mod Reached
+pub mod Same
+pub mod Accepts
