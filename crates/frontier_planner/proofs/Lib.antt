@@ -17,3 +17,4 @@ pub mod Prefixes
 pub mod Reached
 pub mod Same
 pub mod Accepts
+pub mod Sound
