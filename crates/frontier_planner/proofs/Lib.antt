@@ -18,3 +18,4 @@ pub mod Reached
 pub mod Same
 pub mod Accepts
 pub mod Sound
+pub mod SmallBuffers
