@@ -8,6 +8,7 @@ pub mod Rounds
 pub mod Grown
 pub mod ReadBack
 pub mod AlongSums
+pub mod AlongLists
 pub mod Along
 pub mod AlongPasses
 pub mod AlongEnds
