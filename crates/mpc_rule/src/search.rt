@@ -1,0 +1,175 @@
+//! The search of RobustMPC: the lists of rungs for the segments that come, in lexicographic order, and what each promises.
+
+ghost use Rattle.std.specs.Prelude.{◌≡◌, ◌+◌, ◌-◌, ◌*◌, ◌<◌, ◌≤◌, ℤ, pos, ◌+ℤ◌, ◌≤ℤ◌, Some, None, IfSome, min};
+ghost use Rattle.lab_model.specs.Film.{rungs_of, segments_of};
+ghost use Rattle.lab_model.specs.Horizon.{foretold_ms};
+ghost use Rattle.lab_model.specs.Weighing.{change_of};
+
+use lab_model::{Context, Manifest, Setup};
+
+/// What a choice is made from.
+pub(crate) struct Outlook<'a> {
+    pub(crate) film: &'a Manifest,
+    pub(crate) setup: &'a Setup,
+    pub(crate) context: &'a Context,
+    /// The rate that is reckoned with, in bits per second.
+    pub(crate) rate: u64,
+}
+
+/// The list in hand: rungs for the segments that come, and what they promise.
+#[derive(Clone, Copy)]
+pub(crate) struct Draft {
+    /// The rungs, of which the first `count` are chosen.
+    pub(crate) rungs: [u8; 5],
+    pub(crate) count: u8,
+    /// The level after these segments, in milliseconds.
+    pub(crate) level: u32,
+    /// The score so far, in thousandths of a point.
+    pub(crate) score: i64,
+}
+
+impl Outlook<'_> {
+    ghost use Rattle.mpc_rule.specs.Search.{IsDraft, IsOutlook, best_after, extended, greatest_from, ladder_of, loss_of, rung_before, segment_after, start_of, wait_of, weights_of};
+
+    /// The list of no rungs.
+    pub(crate) fn start(&self) -> Draft
+        requires { IsOutlook self.now }
+        ensures value { result ≡ start_of self.now }
+        ensures draft { IsDraft self.now result (min 5 (segments_of self.now.film.now - self.now.context.now.next)) }
+    {
+        Draft {
+            rungs: [0; 5],
+            count: 0,
+            level: self.context.level,
+            score: 0,
+        }
+    }
+
+    /// The segment for which a list has no rung yet.
+    fn segment_after(&self, draft: &Draft) -> u16
+        requires outlook { IsOutlook self.now }
+        requires draft { IsDraft self.now draft.now 1 }
+        ensures value { result ≡ segment_after self.now draft.now }
+        ensures segment { result < segments_of self.now.film.now }
+    {
+        self.context.next + draft.count as u16
+    }
+
+    /// The rung before that segment, where there is one.
+    fn rung_before(&self, draft: &Draft) -> Option<u8>
+        requires outlook { IsOutlook self.now }
+        requires draft { IsDraft self.now draft.now 1 }
+        ensures value { result ≡ rung_before self.now draft.now }
+        ensures rung { IfSome result (λ rung. rung < ladder_of self.now) }
+    {
+        if draft.count == 0 {
+            self.context.last
+        } else {
+            Some(draft.rungs[draft.count as usize - 1])
+        }
+    }
+
+    /// What a change to a rung weighs, by the utilities of its segment.
+    fn change(&self, seg: u16, before: Option<u8>, rung: u8) -> u32
+        requires outlook { IsOutlook self.now }
+        requires segment { seg < segments_of self.now.film.now }
+        requires before { IfSome before (λ q. q < ladder_of self.now) }
+        requires rung { rung < ladder_of self.now }
+        ensures value { result ≡ change_of (weights_of self.now) seg before rung }
+        ensures limit { result ≤ 1000000 }
+    {
+        let weights = &self.setup.weights;
+        match before {
+            None => 0,
+            Some(q) => weights.utility(seg, rung).abs_diff(weights.utility(seg, q)),
+        }
+    }
+
+    /// The milliseconds in which a segment is foretold to come.
+    fn wait(&self, seg: u16, rung: u8) -> u64
+        requires outlook { IsOutlook self.now }
+        requires segment { seg < segments_of self.now.film.now }
+        requires rung { rung < ladder_of self.now }
+        ensures value { result ≡ foretold_ms self.now.film.now self.now.rate seg rung }
+        ensures limit { result ≤ 200000000000 }
+    {
+        (1000 * self.film.size(seg, rung) as u64 + self.rate - 1) / self.rate
+    }
+
+    /// What one more rung takes from the score by its change and by its stall, where its segment is foretold to come
+    /// in `wait` milliseconds.
+    fn loss(&self, draft: &Draft, rung: u8, wait: u64) -> u64
+        requires outlook { IsOutlook self.now }
+        requires draft { IsDraft self.now draft.now 1 }
+        requires rung { rung < ladder_of self.now }
+        requires wait { wait ≤ 200000000000 }
+        ensures value { result ≡ loss_of self.now draft.now rung wait }
+        ensures limit { result ≤ 200001000000000000 }
+    {
+        let weights = &self.setup.weights;
+        let change = self.change(self.segment_after(draft), self.rung_before(draft), rung);
+        let stall = wait.saturating_sub(draft.level as u64);
+        weights.switch() as u64 * change as u64 + weights.stall() as u64 * stall
+    }
+
+    /// The list with one more rung.
+    fn extended(&self, draft: Draft, rung: u8) -> Draft
+        requires outlook { IsOutlook self.now }
+        requires draft { IsDraft self.now draft 1 }
+        requires rung { rung < ladder_of self.now }
+        ensures { result ≡ extended self.now draft rung }
+    {
+        let seg_ms = self.film.seg_ms();
+        let seg = self.segment_after(&draft);
+        let wait = self.wait(seg, rung);
+        let left = (draft.level as u64).saturating_sub(wait) as u32;
+        let mut longer = draft;
+        longer.rungs[draft.count as usize] = rung;
+        longer.count += 1;
+        longer.level = (left + seg_ms).min(self.setup.buffer_ms - seg_ms);
+        longer.score += 1000 * self.setup.weights.utility(seg, rung) as i64;
+        longer.score -= self.loss(&draft, rung, wait) as i64;
+        longer
+    }
+
+    /// The greatest utilities of `count` segments from `seg` on.
+    fn greatest_from(&self, seg: u16, count: u8) -> u64
+        requires outlook { IsOutlook self.now }
+        requires segments { seg + count ≤ segments_of self.now.film.now }
+        ensures value { result ≡ greatest_from (weights_of self.now) seg count }
+        ensures limit { result ≤ 1000000 * count }
+    {
+        let weights = &self.setup.weights;
+        let top = weights.count() - 1;
+        let mut sum = 0;
+        for i in 0..count {
+            sum += weights.utility(seg + i as u16, top) as u64;
+        }
+        sum
+    }
+
+    /// The best list so far, after the lists that complete this one by `more` rungs, in lexicographic order: the first of the
+    /// greatest score. A list is left where its score and the greatest utilities to come are at most the best score so far.
+    pub(crate) fn best_after(&self, draft: Draft, more: u8, best: Option<Draft>) -> Option<Draft>
+        requires outlook { IsOutlook self.now }
+        requires draft { IsDraft self.now draft more }
+        requires best { IfSome best (λ b. IsDraft self.now b 0) }
+        ensures value { result ≡ best_after self.now more draft best }
+        ensures draft { IfSome result (λ b. IsDraft self.now b 0) }
+    {
+        if let Some(kept) = best {
+            let to_come = 1000 * self.greatest_from(self.context.next + draft.count as u16, more) as i64;
+            if draft.score + to_come <= kept.score {
+                return best;
+            }
+        }
+        if more == 0 {
+            return Some(draft);
+        }
+        let mut best = best;
+        for rung in 0..self.film.rungs() {
+            best = self.best_after(self.extended(draft, rung), more - 1, best);
+        }
+        best
+    }
+}
