@@ -31,7 +31,8 @@ greatest_low passes (suc n) =
 pub greatest_fits : (passes : ℕ → Bool) (rungs : ℕ) → 0 < rungs → greatest_rung passes rungs < rungs
 greatest_fits passes rungs some = let low = greatest_low passes rungs in omega (arith, low)
 
-all_below : (n : ℕ) → All (λ q. q < n) (rungs_below n)
+-- the rungs below a number are below it
+pub all_below : (n : ℕ) → All (λ q. q < n) (rungs_below n)
 all_below n k d low =
     let few = length-range_with_len 0 n in
     let here : k < n = omega (arith, few, low) in
@@ -47,7 +48,8 @@ least_fits passes rungs some =
 
 -- ---- the first list of the greatest score
 
-best_keeps : (P : List ℕ → Type 0) (score : List ℕ → ℤ) (best : List ℕ) (lists : List (List ℕ)) → P best → All P lists → P (fold (λ best l. cond (int_lt (score best) (score l)) l best) best lists)
+-- what is so of each list is so of the best
+pub best_keeps : (P : List ℕ → Type 0) (score : List ℕ → ℤ) (best : List ℕ) (lists : List (List ℕ)) → P best → All P lists → P (fold (λ best l. cond (int_lt (score best) (score l)) l best) best lists)
 best_keeps P score best [] h all = h
 best_keeps P score best (l ∷ ls) h all =
     best_keeps P score (cond (int_lt (score best) (score l)) l best) ls
@@ -62,7 +64,8 @@ best_fits P score (l ∷ ls) h all = best_keeps P score l ls (All-head P l ls al
 abbrev AreBelow : ℕ → List ℕ → Type 0
 AreBelow rungs l = All (λ q. q < rungs) l
 
-flat_fits : (P : List ℕ → Type 0) (f : ℕ → List (List ℕ)) (Q : ℕ → Type 0) (rs : List ℕ) → ((r : ℕ) → Q r → All P (f r)) → All Q rs → All P (flat_map f rs)
+-- what is so of all that each item gives is so of all together
+pub flat_fits : {X : Type 0} (P : X → Type 0) (f : ℕ → List X) (Q : ℕ → Type 0) (rs : List ℕ) → ((r : ℕ) → Q r → All P (f r)) → All Q rs → All P (flat_map f rs)
 flat_fits P f Q [] each all = All-nil P
 flat_fits P f Q (r ∷ rs) each all = All-append P (f r) (flat_map f rs) (each r (All-head Q r rs all)) (flat_fits P f Q rs each (All-tail Q r rs all))
 

@@ -11,8 +11,10 @@ use Rattle.std.proofs.lemmas.List.Elements.{All-nil, All-cons, All-head, All-tai
 use Rattle.lab_model.specs.declared.setup.Setup.{Setup}
 use Rattle.lab_model.specs.Film.{Film}
 use Rattle.lab_model.specs.Weighing.{utility_of, change_of}
-use Rattle.lab_model.specs.Horizon.{foretold_ms, horizon_score}
-use Rattle.lab_model.specs.Choice.{best_of, lists_of, rungs_below}
+use Rattle.lab_model.specs.Horizon.{foretold_ms, horizon_score, next_level}
+use Rattle.lab_model.specs.Ladder.{rungs_below}
+use Rattle.lab_model.specs.Mpc.{best_list, lists_of}
+use Rattle.lab_model.proofs.Choices.{best_keeps, flat_fits}
 use Rattle.mpc_rule.specs.declared.search.Outlook.{Outlook}
 use Rattle.mpc_rule.specs.declared.search.Draft.{Draft}
 use Rattle.mpc_rule.specs.Search.{better, best_after, completions, extended, first_rung, gain_of, ladder_of, rung_before, segment_after, start_of, weights_of}
@@ -45,8 +47,8 @@ horizon_none f s rate segment level before = omega (arith, ints)
 
 horizon_more : (f : Film) (s : Setup) (rate segment level : ℕ) (before : Option ℕ) (r : ℕ) (rs : List ℕ)
     → horizon_score f s rate segment level before (r ∷ rs)
-    ≡ (pos (1000 * utility_of s.weights segment r) -ℤ pos (s.weights.switch * change_of s.weights segment before r + s.weights.stall * (foretold_ms f rate segment r - level)))
-    +ℤ horizon_score f s rate (segment + 1) (min (s.buffer_ms - f.seg_ms) ((level - foretold_ms f rate segment r) + f.seg_ms)) (Some r) rs
+    ≡ (pos (1000 * utility_of s.weights segment r) -ℤ pos (s.weights.switch * change_of s.weights segment before r + s.weights.stall * (foretold_ms f rate (record { segment = segment; rung = r }) - level)))
+    +ℤ horizon_score f s rate (segment + 1) (next_level f s.buffer_ms level (foretold_ms f rate (record { segment = segment; rung = r }))) (Some r) rs
 horizon_more f s rate segment level before r rs = omega (arith, ints)
 
 -- the score that a list in hand comes to along rungs
@@ -142,35 +144,27 @@ module _ (score : List ℕ → ℤ) (hand : List ℕ → Draft) (P : List ℕ �
       let k = All-head P l ls all in
       ap (λ (b : Option Draft). fold better b (map hand ls)) (better_hand best l h k) ∙ best_hands (chosen best l) ls (chosen_fits best l h k) (All-tail P l ls all)
 
-  best_fits : (best : List ℕ) (ls : List (List ℕ)) → P best → All P ls → P (fold chosen best ls)
-  best_fits best [] h all = h
-  best_fits best (l ∷ ls) h all = best_fits (chosen best l) ls (chosen_fits best l h (All-head P l ls all)) (All-tail P l ls all)
-
   -- the first rung of the best list in hand is that of the best list
   best_first : (ls : List (List ℕ)) → ((l : List ℕ) → P l → slice_index (hand l).rungs 0 ≡ slice_index l 0) → All P ls
-      → first_rung (fold better None (map hand ls)) ≡ slice_index (best_of score ls) 0
+      → first_rung (fold better None (map hand ls)) ≡ slice_index (best_list score ls) 0
   unfolding chosen
   best_first [] first all = refl
   best_first (l ∷ ls) first all =
       let h = All-head P l ls all in let rest = All-tail P l ls all in
-      ap first_rung (best_hands l ls h rest) ∙ first (fold chosen l ls) (best_fits l ls h rest)
+      ap first_rung (best_hands l ls h rest) ∙ first (fold chosen l ls) (best_keeps P score l ls h rest)
 
 -- ---- all lists have their length
-
-flat_all : {X : Type 0} (P : X → Type 0) (Q : ℕ → Type 0) (f : ℕ → List X) (rs : List ℕ) → ((r : ℕ) → Q r → All P (f r)) → All Q rs → All P (flat_map f rs)
-flat_all P Q f [] each all = All-nil P
-flat_all P Q f (r ∷ rs) each all = All-append P (f r) (flat_map f rs) (each r (All-head Q r rs all)) (flat_all P Q f rs each (All-tail Q r rs all))
 
 lists_long : (count n : ℕ) → All (λ l. length l ≡ n) (lists_of count n)
 unfolding lists_of
 lists_long count zero = All-cons (λ l. length l ≡ 0) [] [] refl (All-nil (λ l. length l ≡ 0))
 lists_long count (suc n) =
-    flat_all (λ l. length l ≡ suc n) (λ r. Unit {0}) (λ r. map (λ rs. r ∷ rs) (lists_of count n)) (rungs_below count)
+    flat_fits (λ l. length l ≡ suc n) (λ r. map (λ rs. r ∷ rs) (lists_of count n)) (λ r. Unit {0}) (rungs_below count)
     (λ r u. All-map (λ l. length l ≡ suc n) (λ rs. r ∷ rs) (lists_of count n) (λ k d h. ap suc (lists_long count n k d h))) (λ k d h. tt)
 
 -- the first rung of the best completion of no rungs is that of the best list
 pub best_is : (o : Outlook) (n : ℕ) → 0 < n → n ≤ 5
-    → first_rung (best_after o n (start_of o) None) ≡ slice_index (best_of (score_along o (start_of o)) (lists_of (ladder_of o) n)) 0
+    → first_rung (best_after o n (start_of o) None) ≡ slice_index (best_list (score_along o (start_of o)) (lists_of (ladder_of o) n)) 0
 best_is o n some few =
     ap (λ (ds : List Draft). first_rung (fold better None ds)) (completions_along o n (start_of o))
     ∙ best_first (score_along o (start_of o)) (along o (start_of o)) (λ l. length l ≡ n)

@@ -1,11 +1,11 @@
 -- The search of RobustMPC: a list of rungs in hand, the lists that complete it in lexicographic order, and the best of them.
-use Rattle.std.specs.Prelude.{◌≡◌, ℕ, zero, suc, ◌+◌, ◌-◌, ◌*◌, ◌≤◌, ◌<◌, ◌==◌, List, [], ◌∷◌, length, min, Option, Some, None, slice_index, slice_set, if◌then◌else◌, ℤ, pos, ◌+ℤ◌, ◌-ℤ◌, ◌≤ℤ◌, int_lt, fold, IfSome}
+use Rattle.std.specs.Prelude.{◌≡◌, ℕ, zero, suc, ◌+◌, ◌-◌, ◌*◌, ◌≤◌, ◌<◌, ◌==◌, List, [], ◌∷◌, length, min, Option, Some, None, slice_index, slice_set, if◌then◌else◌, ℤ, pos, ◌+ℤ◌, ◌-ℤ◌, ◌≤ℤ◌, int_lt, fold, IfSome, Bool, true}
 use Rattle.std.specs.List.{All, flat_map}
 use Rattle.lab_model.specs.Film.{IsFilm, IsWithin, rungs_of, segments_of}
 use Rattle.lab_model.specs.Fit.{SetupFits}
 use Rattle.lab_model.specs.Weighing.{IsWeighing, Weighing, change_of, utility_of}
-use Rattle.lab_model.specs.Horizon.{foretold_ms}
-use Rattle.lab_model.specs.Choice.{rungs_below}
+use Rattle.lab_model.specs.Horizon.{foretold_ms, next_level}
+use Rattle.lab_model.specs.Ladder.{rungs_below}
 use Rattle.mpc_rule.specs.declared.search.Outlook.{Outlook}
 use Rattle.mpc_rule.specs.declared.search.Draft.{Draft}
 
@@ -31,7 +31,7 @@ rung_before o d = if d.count == 0 then o.context.now.last else Some (slice_index
 
 -- the milliseconds in which that segment is foretold to come on a rung
 abbrev pub wait_of : Outlook → Draft → ℕ → ℕ
-wait_of o d rung = foretold_ms o.film.now o.rate (segment_after o d) rung
+wait_of o d rung = foretold_ms o.film.now o.rate (record { segment = segment_after o d; rung = rung })
 
 -- what one more rung takes from the score by its change and by its stall, where its segment comes in so many milliseconds
 abbrev pub loss_of : Outlook → Draft → ℕ → ℕ → ℕ
@@ -47,7 +47,7 @@ unfoldable pub extended : Outlook → Draft → ℕ → Draft
 extended o d rung = record {
   rungs = slice_set d.rungs d.count rung;
   count = d.count + 1;
-  level = min (o.setup.now.buffer_ms - o.film.now.seg_ms) ((d.level - wait_of o d rung) + o.film.now.seg_ms);
+  level = next_level o.film.now o.setup.now.buffer_ms d.level (wait_of o d rung);
   score = d.score +ℤ gain_of o d rung;
 }
 
@@ -74,6 +74,11 @@ first_rung (Some d) = slice_index d.rungs 0
 unfoldable pub greatest_from : Weighing → ℕ → ℕ → ℕ
 greatest_from w segment zero = 0
 greatest_from w segment (suc n) = utility_of w segment (w.count - 1) + greatest_from w (segment + 1) n
+
+-- a list in hand and the greatest utilities of so many segments to come have a greater score than the best list so far
+abbrev pub could_beat : Outlook → ℕ → Draft → Option Draft → Bool
+could_beat o n d None = true
+could_beat o n d (Some best) = int_lt best.score (d.score +ℤ pos (1000 * greatest_from (weights_of o) (segment_after o d) n))
 
 -- what an outlook is made of fits together
 pub record IsOutlook (o : Outlook) : Type 0 where

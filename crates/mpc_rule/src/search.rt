@@ -1,11 +1,11 @@
 //! The search of RobustMPC: the lists of rungs for the segments that come, in lexicographic order, and what each promises.
 
-ghost use Rattle.std.specs.Prelude.{◌≡◌, ◌+◌, ◌-◌, ◌*◌, ◌<◌, ◌≤◌, ℤ, pos, ◌+ℤ◌, ◌≤ℤ◌, Some, None, IfSome, min};
+ghost use Rattle.std.specs.Prelude.{◌≡◌, ℕ, ◌+◌, ◌-◌, ◌*◌, ◌<◌, ◌≤◌, ℤ, pos, ◌+ℤ◌, ◌≤ℤ◌, Some, None, IfSome, min};
 ghost use Rattle.lab_model.specs.Film.{rungs_of, segments_of};
 ghost use Rattle.lab_model.specs.Horizon.{foretold_ms};
 ghost use Rattle.lab_model.specs.Weighing.{change_of};
 
-use lab_model::{Context, Manifest, Setup};
+use lab_model::{Context, Manifest, Setup, ceil_div};
 
 /// What a choice is made from.
 pub(crate) struct Outlook<'a> {
@@ -29,7 +29,7 @@ pub(crate) struct Draft {
 }
 
 impl Outlook<'_> {
-    ghost use Rattle.mpc_rule.specs.Search.{IsDraft, IsOutlook, best_after, extended, greatest_from, ladder_of, loss_of, rung_before, segment_after, start_of, wait_of, weights_of};
+    ghost use Rattle.mpc_rule.specs.Search.{IsDraft, IsOutlook, best_after, could_beat, extended, greatest_from, ladder_of, loss_of, rung_before, segment_after, start_of, wait_of, weights_of};
 
     /// The list of no rungs.
     pub(crate) fn start(&self) -> Draft
@@ -90,10 +90,10 @@ impl Outlook<'_> {
         requires outlook { IsOutlook self.now }
         requires segment { seg < segments_of self.now.film.now }
         requires rung { rung < ladder_of self.now }
-        ensures value { result ≡ foretold_ms self.now.film.now self.now.rate seg rung }
+        ensures value { result ≡ foretold_ms self.now.film.now self.now.rate (record { segment = seg; rung = rung }) }
         ensures limit { result ≤ 200000000000 }
     {
-        (1000 * self.film.size(seg, rung) as u64 + self.rate - 1) / self.rate
+        ceil_div(1000 * self.film.size(seg, rung) as u128, self.rate as u128) as u64
     }
 
     /// What one more rung takes from the score by its change and by its stall, where its segment is foretold to come
@@ -117,18 +117,20 @@ impl Outlook<'_> {
         requires outlook { IsOutlook self.now }
         requires draft { IsDraft self.now draft 1 }
         requires rung { rung < ladder_of self.now }
-        ensures { result ≡ extended self.now draft rung }
+        ensures value { result ≡ extended self.now draft rung }
+        ensures draft { (n : ℕ) → IsDraft self.now draft (n + 1) → IsDraft self.now result n }
     {
         let seg_ms = self.film.seg_ms();
         let seg = self.segment_after(&draft);
         let wait = self.wait(seg, rung);
         let left = (draft.level as u64).saturating_sub(wait) as u32;
+        let gain = 1000 * self.setup.weights.utility(seg, rung) as i64
+            - self.loss(&draft, rung, wait) as i64;
         let mut longer = draft;
         longer.rungs[draft.count as usize] = rung;
         longer.count += 1;
         longer.level = (left + seg_ms).min(self.setup.buffer_ms - seg_ms);
-        longer.score += 1000 * self.setup.weights.utility(seg, rung) as i64;
-        longer.score -= self.loss(&draft, rung, wait) as i64;
+        longer.score += gain;
         longer
     }
 
@@ -148,20 +150,28 @@ impl Outlook<'_> {
         sum
     }
 
+    /// Whether a list and the greatest utilities of `more` segments to come have a greater score than the best list so far.
+    fn could_beat(&self, draft: &Draft, more: u8, best: Option<Draft>) -> bool
+        requires outlook { IsOutlook self.now }
+        requires draft { IsDraft self.now draft.now more }
+        ensures { result ≡ could_beat self.now more draft.now best }
+    {
+        let Some(kept) = best else {
+            return true;
+        };
+        let most = 1000 * self.greatest_from(self.context.next + draft.count as u16, more) as i64;
+        kept.score < draft.score + most
+    }
+
     /// The best list so far, after the lists that complete this one by `more` rungs, in lexicographic order: the first of the
     /// greatest score. A list is left where its score and the greatest utilities to come are at most the best score so far.
     pub(crate) fn best_after(&self, draft: Draft, more: u8, best: Option<Draft>) -> Option<Draft>
         requires outlook { IsOutlook self.now }
         requires draft { IsDraft self.now draft more }
-        requires best { IfSome best (λ b. IsDraft self.now b 0) }
-        ensures value { result ≡ best_after self.now more draft best }
-        ensures draft { IfSome result (λ b. IsDraft self.now b 0) }
+        ensures { result ≡ best_after self.now more draft best }
     {
-        if let Some(kept) = best {
-            let to_come = 1000 * self.greatest_from(self.context.next + draft.count as u16, more) as i64;
-            if draft.score + to_come <= kept.score {
-                return best;
-            }
+        if !self.could_beat(&draft, more, best) {
+            return best;
         }
         if more == 0 {
             return Some(draft);
