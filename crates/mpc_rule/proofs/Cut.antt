@@ -1,8 +1,8 @@
 -- A list is left where no completion has a greater score than the best so far.
-use Rattle.std.proofs.Common.{◌≡◌, ◌∙◌, ℕ, zero, suc, ◌+◌, ◌-◌, ◌*◌, ◌<◌, ◌≤◌, List, [], ◌∷◌, length, get_or, Option, Some, None, Bool, true, false, cond, refl, sym, ap, arith, inl, inr, true≢false}
+use Rattle.std.proofs.Common.{◌≡◌, ◌∙◌, ℕ, zero, suc, ◌+◌, ◌-◌, ◌*◌, ◌<◌, ◌≤◌, List, [], ◌∷◌, length, get_or, Option, Some, None, Bool, true, false, cond, refl, sym, ap, arith, inl, inr}
 use Rattle.std.specs.Prelude.{ℤ, pos, ◌+ℤ◌, ◌-ℤ◌, ◌≤ℤ◌, ◌<ℤ◌, int_lt, max, fold}
 use Rattle.std.specs.List.{All, flat_map}
-use Rattle.std.proofs.lemmas.Int.{ints}
+use Rattle.std.proofs.lemmas.Int.{by_lt_z, ints}
 use Rattle.std.proofs.lemmas.Grind.{fold-append}
 use Rattle.std.proofs.lemmas.List.{flat_map_more}
 use Rattle.std.proofs.lemmas.List.Elements.{All-nil, All-cons, All-head, All-tail, All-append}
@@ -13,7 +13,7 @@ use Rattle.lab_model.proofs.Choices.{all_below, flat_fits}
 use Rattle.lab_model.proofs.Rungs.{rungs_more}
 use Rattle.mpc_rule.specs.declared.search.Outlook.{Outlook}
 use Rattle.mpc_rule.specs.declared.search.Draft.{Draft}
-use Rattle.mpc_rule.specs.Search.{IsOutlook, better, best_after, completions, could_beat, extended, gain_of, greatest_from, ladder_of, segment_after, weights_of}
+use Rattle.mpc_rule.specs.Search.{IsOutlook, better, best_after, completions, CouldBeat, extended, gain_of, greatest_from, ladder_of, segment_after, weights_of}
 
 -- the utility of a rung is at most that of the highest
 rises : (w : Weighing) → IsWeighing w → (segment : ℕ) → segment < max 1 w.rows → (k rung : ℕ) → rung + k + 1 ≡ w.count → utility_of w segment rung ≤ utility_of w segment (w.count - 1)
@@ -81,8 +81,8 @@ completions_under o (suc n) d is within =
 not_over : (a b : ℤ) → b ≤ℤ a → int_lt a b ≡ false
 not_over a b h = grind (arith, ints)
 
-under : (a b : ℤ) → int_lt a b ≡ false → b ≤ℤ a
-under a b h = grind (arith, ints)
+over : (a b : ℤ) → a <ℤ b → int_lt a b ≡ true
+over a b h = grind (arith, ints)
 
 kept_under : (best : Draft) (ds : List Draft) → All (IsUnder best.score) ds → fold better (Some best) ds ≡ Some best
 kept_under best [] all = refl
@@ -92,17 +92,18 @@ kept_under best (d ∷ ds) all =
 
 -- where a list could not beat the best so far, its completions change nothing
 pub cut_keeps : (o : Outlook) (n : ℕ) (d : Draft) (best : Option Draft) → IsOutlook o → segment_after o d + n ≤ segments_of o.film.now
-    → could_beat o n d best ≡ false → best ≡ best_after o n d best
-cut_keeps o n d None is within loses = absurd (true≢false loses)
+    → (CouldBeat o n d best → ⊥) → best ≡ best_after o n d best
+cut_keeps o n d None is within loses = absurd (loses tt)
 cut_keeps o n d (Some best) is within loses =
-    let low = under best.score (bound o n d) loses in
+    let low = by_lt_z best.score (bound o n d) (λ less. absurd (loses less)) (λ low. low) in
     sym (kept_under best (completions o n d) (λ k e h. let below = completions_under o n d is within k e h in omega (arith, ints, below, low)))
 
 -- where a whole list beats the best so far, it is the best
-pub whole_beats : (o : Outlook) (d : Draft) (best : Option Draft) → could_beat o 0 d best ≡ true → Some d ≡ best_after o 0 d best
+pub whole_beats : (o : Outlook) (d : Draft) (best : Option Draft) → CouldBeat o 0 d best → Some d ≡ best_after o 0 d best
 unfolding completions
 whole_beats o d None beats = refl
-whole_beats o d (Some best) beats = sym (ap (λ (b : Bool). Some (cond b d best)) (ap (int_lt best.score) (sym (bound_none o d)) ∙ beats))
+whole_beats o d (Some best) beats =
+    let e = bound_none o d in sym (ap (λ (b : Bool). Some (cond b d best)) (over best.score d.score (omega (arith, ints, e, beats))))
 
 -- after all lists with a rung below the next one
 pub rungs_best : (o : Outlook) (n : ℕ) (d : Draft) (best now : Option Draft) (rung : ℕ)
@@ -130,7 +131,3 @@ pub greatest_more : (w : Weighing) (segment n : ℕ) → 0 < n → greatest_from
 unfolding greatest_from
 greatest_more w segment zero some = absurd (omega (arith, some))
 greatest_more w segment (suc n) some = let same : suc n - 1 ≡ n = omega arith in rw same refl
-
--- the test of two scores is whether a list could beat the best so far
-pub could_beat_is : (o : Outlook) (n : ℕ) (d kept : Draft) (best : Option Draft) {a b : ℤ} → best ≡ Some kept → a ≡ kept.score → b ≡ bound o n d → int_lt a b ≡ could_beat o n d best
-could_beat_is o n d kept best is p q = (λ i. int_lt (p i) (q i)) ∙ sym (ap (could_beat o n d) is)

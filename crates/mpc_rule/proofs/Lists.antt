@@ -1,5 +1,5 @@
 -- The best of all completions of the empty list is the first list of the greatest horizon score.
-use Rattle.std.proofs.Common.{◌≡◌, ◌∙◌, ℕ, zero, suc, ◌+◌, ◌-◌, ◌*◌, ◌<◌, ◌≤◌, List, [], ◌∷◌, ◌++◌, length, get_or, set, Option, Some, None, Bool, true, false, cond, refl, sym, ap, arith, add-one, length-set}
+use Rattle.std.proofs.Common.{◌≡◌, ◌∙◌, ℕ, zero, suc, ◌+◌, ◌-◌, ◌*◌, ◌<◌, ◌≤◌, List, [], ◌∷◌, ◌++◌, length, get_or, set, Option, Some, None, Bool, true, false, cond, refl, sym, ap, arith, add-one, add-zero, length-set}
 use Rattle.std.specs.Prelude.{ℤ, pos, ◌+ℤ◌, ◌-ℤ◌, ◌≤ℤ◌, int_lt, min, map, slice_index, fold}
 use Rattle.std.specs.List.{All, flat_map}
 use Rattle.std.proofs.Math.Dec.{eqb-suc-zero}
@@ -17,7 +17,7 @@ use Rattle.lab_model.specs.Mpc.{best_list, lists_of}
 use Rattle.lab_model.proofs.Choices.{best_keeps, flat_fits}
 use Rattle.mpc_rule.specs.declared.search.Outlook.{Outlook}
 use Rattle.mpc_rule.specs.declared.search.Draft.{Draft}
-use Rattle.mpc_rule.specs.Search.{better, best_after, completions, extended, first_rung, gain_of, ladder_of, rung_before, segment_after, start_of, weights_of}
+use Rattle.mpc_rule.specs.Search.{better, best_after, best_rung, completions, extended, first_rung, gain_of, ladder_of, rung_before, segment_after, start_of, weights_of}
 
 -- ---- the completions are the lists, each added to the list in hand
 
@@ -163,13 +163,13 @@ lists_long count (suc n) =
     (λ r u. All-map (λ l. length l ≡ suc n) (λ rs. r ∷ rs) (lists_of count n) (λ k d h. ap suc (lists_long count n k d h))) (λ k d h. tt)
 
 -- the first rung of the best completion of no rungs is that of the best list
-pub best_is : (o : Outlook) (n : ℕ) → 0 < n → n ≤ 5
-    → first_rung (best_after o n (start_of o) None) ≡ slice_index (best_list (score_along o (start_of o)) (lists_of (ladder_of o) n)) 0
+pub best_is : (o : Outlook) (n : ℕ) → 0 < n → n ≤ 5 → first_rung (best_after o n (start_of o) None) ≡ best_rung o n
 best_is o n some few =
     ap (λ (ds : List Draft). first_rung (fold better None ds)) (completions_along o n (start_of o))
     ∙ best_first (score_along o (start_of o)) (along o (start_of o)) (λ l. length l ≡ n)
     (λ l h. score_is o l (start_of o) (omega (arith, h)) ∙ nothing (score_along o (start_of o) l))
     (lists_of (ladder_of o) n) (λ l h. first_is o l (start_of o) refl (omega arith) (omega (arith, h))) (lists_long (ladder_of o) n)
+    ∙ ap (λ (segment : ℕ). slice_index (best_list (horizon_score o.film.now o.setup.now o.rate segment o.context.now.level o.context.now.last) (lists_of (ladder_of o) n)) 0) (add-zero o.context.now.next)
   where
     nothing : (z : ℤ) → pos 0 +ℤ z ≡ z
     nothing z = omega (arith, ints)

@@ -1,10 +1,11 @@
 -- The search of RobustMPC: a list of rungs in hand, the lists that complete it in lexicographic order, and the best of them.
-use Rattle.std.specs.Prelude.{◌≡◌, ℕ, zero, suc, ◌+◌, ◌-◌, ◌*◌, ◌≤◌, ◌<◌, ◌==◌, List, [], ◌∷◌, length, min, Option, Some, None, slice_index, slice_set, if◌then◌else◌, ℤ, pos, ◌+ℤ◌, ◌-ℤ◌, ◌≤ℤ◌, int_lt, fold, IfSome, Bool, true}
+use Rattle.std.specs.Prelude.{◌≡◌, ℕ, zero, suc, ◌+◌, ◌-◌, ◌*◌, ◌≤◌, ◌<◌, ◌==◌, List, [], ◌∷◌, length, min, Option, Some, None, slice_index, slice_set, if◌then◌else◌, ℤ, pos, ◌+ℤ◌, ◌-ℤ◌, ◌≤ℤ◌, int_lt, fold, IfSome, ◌<ℤ◌}
 use Rattle.std.specs.List.{All, flat_map}
 use Rattle.lab_model.specs.Film.{IsFilm, IsWithin, rungs_of, segments_of}
 use Rattle.lab_model.specs.Fit.{SetupFits}
 use Rattle.lab_model.specs.Weighing.{IsWeighing, Weighing, change_of, utility_of}
-use Rattle.lab_model.specs.Horizon.{foretold_ms, next_level}
+use Rattle.lab_model.specs.Horizon.{foretold_ms, horizon_score, next_level}
+use Rattle.lab_model.specs.Mpc.{best_list, lists_of}
 use Rattle.lab_model.specs.Ladder.{rungs_below}
 use Rattle.mpc_rule.specs.declared.search.Outlook.{Outlook}
 use Rattle.mpc_rule.specs.declared.search.Draft.{Draft}
@@ -70,15 +71,20 @@ abbrev pub first_rung : Option Draft → ℕ
 first_rung None = 0
 first_rung (Some d) = slice_index d.rungs 0
 
+-- the first rung of the first list of so many rungs with the greatest horizon score
+abbrev pub best_rung : Outlook → ℕ → ℕ
+best_rung o n =
+    let c = o.context.now in slice_index (best_list (horizon_score o.film.now o.setup.now o.rate c.next c.level c.last) (lists_of (ladder_of o) n)) 0
+
 -- the greatest utilities of so many segments, from one on
 unfoldable pub greatest_from : Weighing → ℕ → ℕ → ℕ
 greatest_from w segment zero = 0
 greatest_from w segment (suc n) = utility_of w segment (w.count - 1) + greatest_from w (segment + 1) n
 
 -- a list in hand and the greatest utilities of so many segments to come have a greater score than the best list so far
-abbrev pub could_beat : Outlook → ℕ → Draft → Option Draft → Bool
-could_beat o n d None = true
-could_beat o n d (Some best) = int_lt best.score (d.score +ℤ pos (1000 * greatest_from (weights_of o) (segment_after o d) n))
+abbrev pub CouldBeat : Outlook → ℕ → Draft → Option Draft → Type 0
+CouldBeat o n d None = Unit {0}
+CouldBeat o n d (Some best) = best.score <ℤ (d.score +ℤ pos (1000 * greatest_from (weights_of o) (segment_after o d) n))
 
 -- what an outlook is made of fits together
 pub record IsOutlook (o : Outlook) : Type 0 where

@@ -1,6 +1,6 @@
 //! The search of RobustMPC: the lists of rungs for the segments that come, in lexicographic order, and what each promises.
 
-ghost use Rattle.std.specs.Prelude.{◌≡◌, ℕ, ◌+◌, ◌-◌, ◌*◌, ◌<◌, ◌≤◌, ℤ, pos, ◌+ℤ◌, ◌≤ℤ◌, Some, None, IfSome, min};
+ghost use Rattle.std.specs.Prelude.{◌≡◌, ℕ, ◌+◌, ◌-◌, ◌*◌, ◌<◌, ◌≤◌, ℤ, pos, ◌+ℤ◌, ◌≤ℤ◌, Some, None, IfSome, min, ◌↔◌, IsTrue};
 ghost use Rattle.lab_model.specs.Film.{rungs_of, segments_of};
 ghost use Rattle.lab_model.specs.Horizon.{foretold_ms};
 ghost use Rattle.lab_model.specs.Weighing.{change_of};
@@ -8,6 +8,7 @@ ghost use Rattle.lab_model.specs.Weighing.{change_of};
 use lab_model::{Context, Manifest, Setup, ceil_div};
 
 /// What a choice is made from.
+#[derive(Clone, Copy)]
 pub(crate) struct Outlook<'a> {
     pub(crate) film: &'a Manifest,
     pub(crate) setup: &'a Setup,
@@ -29,7 +30,7 @@ pub(crate) struct Draft {
 }
 
 impl Outlook<'_> {
-    ghost use Rattle.mpc_rule.specs.Search.{IsDraft, IsOutlook, best_after, could_beat, extended, greatest_from, ladder_of, loss_of, rung_before, segment_after, start_of, wait_of, weights_of};
+    ghost use Rattle.mpc_rule.specs.Search.{CouldBeat, IsDraft, IsOutlook, best_after, best_rung, extended, greatest_from, ladder_of, loss_of, rung_before, segment_after, start_of, wait_of, weights_of};
 
     /// The list of no rungs.
     pub(crate) fn start(&self) -> Draft
@@ -154,7 +155,7 @@ impl Outlook<'_> {
     fn could_beat(&self, draft: &Draft, more: u8, best: Option<Draft>) -> bool
         requires outlook { IsOutlook self.now }
         requires draft { IsDraft self.now draft.now more }
-        ensures { result ≡ could_beat self.now more draft.now best }
+        ensures { IsTrue result ↔ CouldBeat self.now more draft.now best }
     {
         let Some(kept) = best else {
             return true;
@@ -181,5 +182,18 @@ impl Outlook<'_> {
             best = self.best_after(self.extended(draft, rung), more - 1, best);
         }
         best
+    }
+
+    /// The first rung of the first list of `length` rungs with the greatest score.
+    pub(crate) fn best_rung(&self, length: u8) -> u8
+        requires outlook { IsOutlook self.now }
+        requires some { 0 < length }
+        requires segments { length ≤ min 5 (segments_of self.now.film.now - self.now.context.now.next) }
+        ensures { result ≡ best_rung self.now length }
+    {
+        match self.best_after(self.start(), length, None) {
+            None => 0,
+            Some(best) => best.rungs[0],
+        }
     }
 }

@@ -1,21 +1,20 @@
-use Rattle.std.proofs.Common.{◌≡◌, ◌∙◌, ◌+◌, ◌-◌, ap, sym, subst, arith, ℕ, suc, Option}
+use Rattle.std.proofs.Common.{◌≡◌, ◌∙◌, ◌+◌, ◌-◌, ap, sym, subst, arith, true≢false, ℕ, suc}
 use Rattle.std.specs.Prelude.{fold}
 use Rattle.std.specs.List.{flat_map}
 use Rattle.lab_model.specs.Ladder.{rungs_below}
 use Rattle.mpc_rule.specs.declared.search.Draft.{Draft}
-use Rattle.mpc_rule.specs.Search.{IsDraft, best_after, better, completions, extended, could_beat}
+use Rattle.mpc_rule.specs.Search.{CouldBeat, IsDraft, best_after, better, completions, extended}
 use Rattle.mpc_rule.proofs.Cut.{all_best, cut_keeps, rungs_best, whole_beats}
 use Rattle.mpc_rule.proofs.search.Outlook.+best_after.Goals as goal
 
 pub returns-then-not-could_beat : goal.returns-then-not-could_beat
-returns-then-not-could_beat t c =
-    cut_keeps c.args.self.now c.args.more c.args.draft c.args.best c.requires.outlook c.requires.draft.segments (sym c.could_beat.ensures ∙ c.if-not-could_beat.true)
+returns-then-not-could_beat t c = cut_keeps c.args.self.now c.args.more c.args.draft c.args.best c.requires.outlook c.requires.draft.segments
+    (λ beats. true≢false (sym (c.could_beat.ensures.1 beats) ∙ c.if-not-could_beat.true))
 
 pub returns-then-more-eq0 : goal.returns-then-more-eq0
 returns-then-more-eq0 t c =
-    let beats = sym c.could_beat.ensures ∙ c.if-not-could_beat.false in
-    let at = ap (λ (n : ℕ). could_beat c.args.self.now n c.args.draft c.args.best) c.if-more-eq0.true in
-    rw c.if-more-eq0.true (whole_beats c.args.self.now c.args.draft c.args.best (sym at ∙ beats))
+    let beats : CouldBeat c.args.self.now c.args.more c.args.draft c.args.best = c.could_beat.ensures.0 c.if-not-could_beat.false in
+    rw c.if-more-eq0.true (whole_beats c.args.self.now c.args.draft c.args.best (rw c.if-more-eq0.true at beats))
 
 pub best_after-best-requires : goal.best_after-best-requires
 best_after-best-requires t c =
