@@ -87,11 +87,14 @@ throughput_fits : (windows : List ℕ) (f : Film) (history : List ℕ) → 0 < r
 throughput_fits windows f [] some = some
 throughput_fits windows f (c ∷ cs) some = greatest_fits _ (rungs_of f) some
 
+-- the first rung of the best list is a rung of the ladder
+pub best_list_fits : (score : List ℕ → ℤ) (count n : ℕ) → 0 < count → slice_index (best_list score (lists_of count n)) 0 < count
+best_list_fits score count n some = first_fits count _ some (best_fits (AreBelow count) score (lists_of count n) (All-nil (λ q. q < count)) (lists_fit count n))
+
 mpc_fits : (horizon : ℕ) (f : Film) (s : Setup) (x : Context) (history : List ℕ) → 0 < rungs_of f → mpc_choice horizon f s x history < rungs_of f
 mpc_fits horizon f s x [] some = some
 mpc_fits horizon f s x (c ∷ cs) some =
-    let n = min horizon (segments_of f - x.next) in
-    first_fits (rungs_of f) _ some (best_fits (AreBelow (rungs_of f)) (horizon_score f s (robust_rate (c ∷ cs)) x.next x.level x.last) (lists_of (rungs_of f) n) (All-nil (λ q. q < rungs_of f)) (lists_fit (rungs_of f) n))
+    best_list_fits (horizon_score f s (robust_rate (c ∷ cs)) x.next x.level x.last) (rungs_of f) (min horizon (segments_of f - x.next)) some
 
 pub choice_fits : (k : RuleKind) (f : Film) (s : Setup) (x : Context) (history : List ℕ) → IsFilm f → KindFits k f → x.next < segments_of f → choice k f s x history < rungs_of f
 choice_fits (fixed q) f s x history is fits next = fits

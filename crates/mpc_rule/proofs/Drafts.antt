@@ -20,13 +20,15 @@ pub extended_is : (o : Outlook) (d : Draft) (r level : ℕ) (score : ℤ) → le
 unfolding extended
 extended_is o d r level score l s = λ i. record { rungs = set d.rungs d.count r; count = d.count + 1; level = l i; score = s i }
 
-pub draft_grows : (o : Outlook) (d : Draft) (r n : ℕ) → r < ladder_of o → o.film.now.seg_ms ≤ o.setup.now.buffer_ms → IsGain (gain_of o d r) → IsDraft o d (n + 1) → IsDraft o (extended o d r) n
-unfolding extended
-draft_grows o d r n rung room gain is = record {
+-- and it has room for one rung less
+pub draft_grows : (o : Outlook) (d : Draft) (r n level : ℕ) (score : ℤ) → level ≡ next_level o.film.now o.setup.now.buffer_ms d.level (wait_of o d r) → score ≡ d.score +ℤ gain_of o d r
+    → r < ladder_of o → o.film.now.seg_ms ≤ o.setup.now.buffer_ms → IsGain (gain_of o d r) → IsDraft o d (n + 1)
+    → IsDraft o (record { rungs = set d.rungs d.count r; count = d.count + 1; level = level; score = score }) n
+draft_grows o d r n level score l s rung room gain is = record {
   count = omega (arith, is.count);
   segments = omega (arith, is.segments);
   rungs = All-set (λ q. q < ladder_of o) d.rungs d.count r rung is.rungs;
-  level = omega arith;
-  least = let l = is.least in let g = gain.least in omega (arith, ints, l, g);
-  most = let m = is.most in let g = gain.most in omega (arith, ints, m, g);
+  level = omega (arith, l);
+  least = let before = is.least in let more = gain.least in omega (arith, ints, s, before, more);
+  most = let before = is.most in let more = gain.most in omega (arith, ints, s, before, more);
 }

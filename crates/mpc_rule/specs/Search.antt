@@ -91,6 +91,7 @@ pub record IsOutlook (o : Outlook) : Type 0 where
   pub film : IsFilm o.film.now
   pub weights : IsWeighing (weights_of o)
   pub setup : SetupFits o.setup.now o.film.now
+  pub rungs : o.rungs ≡ ladder_of o
   pub segment : o.context.now.next < segments_of o.film.now
   pub level : o.context.now.level ≤ o.setup.now.buffer_ms - o.film.now.seg_ms
   pub last : IfSome o.context.now.last (λ rung. rung < ladder_of o)

@@ -27,6 +27,11 @@ pub enum MpcErr {
 }
 
 impl From<AllocError> for MpcErr {
+    ghost use Rattle.std.specs.Prelude.{◌≡◌};
+    ghost use Rattle.mpc_rule.specs.declared.MpcErr.TheVariants.{Memory};
+
+    ghost from_gives = { λ _ e. e ≡ Memory };
+
     fn from(_refused: AllocError) -> MpcErr {
         MpcErr::Memory
     }
@@ -57,8 +62,7 @@ impl RobustMpc {
     pub fn new(alloc: Global, horizon: u8) -> Result<RobustMpc, MpcErr>
         ensures kind { IfOk result (λ r. r.horizon ≡ horizon) }
         ensures stands { IfOk result (λ r. StandsFor r []) }
-        ensures ok { IfOk result (λ r. IsWithin 1 5 horizon) }
-        ensures bad { result ≡ Err MpcErr.BadHorizon → IsWithin 1 5 horizon → ⊥ }
+        ensures bad { (result ≡ Err MpcErr.BadHorizon) ↔ (¬ IsWithin 1 5 horizon) }
     {
         if horizon == 0 || horizon > 5 {
             return Err(MpcErr::BadHorizon);
@@ -105,6 +109,7 @@ impl Rule for RobustMpc {
             film: m,
             setup: set,
             context: c,
+            rungs: set.weights.count(),
             rate: self.rate_ahead(),
         };
         let to_come = m.segments() - c.next;

@@ -1,6 +1,6 @@
 //! The rings of the last rates and errors.
 
-ghost use Rattle.std.specs.Prelude.{◌≡◌, ◌+◌, ◌*◌, ◌/◌, ◌<◌, ◌≤◌, length};
+ghost use Rattle.std.specs.Prelude.{◌≡◌, ◌+◌, ◌*◌, ◌/◌, ◌<◌, ◌≤◌, length, take};
 ghost use Rattle.std.specs.Int.{abs_diff};
 ghost use Rattle.lab_model.specs.Film.{IsWithin};
 ghost use Rattle.lab_model.specs.Rates.{greatest, harmonic_of};
@@ -9,6 +9,18 @@ ghost use Rattle.mpc_rule.specs.Recall.{IsRing};
 use circular_buffer::HeapCircularBuffer;
 use lab_model::harmonic;
 
+/// The numbers of a ring, in order, in the first places of an array.
+fn array_of(ring: &HeapCircularBuffer<u64>) -> [u64; 5]
+    requires { length ring.now.items ≤ 5 }
+    ensures { take (length ring.now.items) result ≡ ring.now.items }
+{
+    let (front, back) = ring.as_slices();
+    let mut numbers = [0; 5];
+    numbers[..front.len()].copy_from_slice(front);
+    numbers[front.len()..front.len() + back.len()].copy_from_slice(back);
+    numbers
+}
+
 /// The harmonic value of the rates in a ring.
 pub(crate) fn harmonic_in(ring: &HeapCircularBuffer<u64>) -> u64
     requires ring { IsRing 1 10000000000 ring.now }
@@ -16,12 +28,8 @@ pub(crate) fn harmonic_in(ring: &HeapCircularBuffer<u64>) -> u64
     ensures value { result ≡ harmonic_of ring.now.items }
     ensures limits { IsWithin 1 10000000000 result }
 {
-    let (front, back) = ring.as_slices();
-    let mut rates = [0; 5];
-    let count = front.len() + back.len();
-    rates[..front.len()].copy_from_slice(front);
-    rates[front.len()..count].copy_from_slice(back);
-    harmonic(&rates[..count])
+    let rates = array_of(ring);
+    harmonic(&rates[..ring.len()])
 }
 
 /// The error, in thousandths, of foretelling a rate by the harmonic value of the rates in a ring.

@@ -13,6 +13,8 @@ pub(crate) struct Outlook<'a> {
     pub(crate) film: &'a Manifest,
     pub(crate) setup: &'a Setup,
     pub(crate) context: &'a Context,
+    /// The number of rungs, each with its utility.
+    pub(crate) rungs: u8,
     /// The rate that is reckoned with, in bits per second.
     pub(crate) rate: u64,
 }
@@ -142,11 +144,9 @@ impl Outlook<'_> {
         ensures value { result ≡ greatest_from (weights_of self.now) seg count }
         ensures limit { result ≤ 1000000 * count }
     {
-        let weights = &self.setup.weights;
-        let top = weights.count() - 1;
         let mut sum = 0;
         for i in 0..count {
-            sum += weights.utility(seg + i as u16, top) as u64;
+            sum += self.setup.weights.utility(seg + i as u16, self.rungs - 1) as u64;
         }
         sum
     }
@@ -178,7 +178,7 @@ impl Outlook<'_> {
             return Some(draft);
         }
         let mut best = best;
-        for rung in 0..self.film.rungs() {
+        for rung in 0..self.rungs {
             best = self.best_after(self.extended(draft, rung), more - 1, best);
         }
         best

@@ -29,8 +29,8 @@ loop-rung-preserved t c =
 pub returns : goal.returns
 returns t c =
     let o = c.args.self.now in
-    let all : c.loop-rung.rung ≡ c.rungs-rung-end.result = omega arith in
+    let all : c.loop-rung.rung ≡ o.rungs = omega arith in
     let same : suc (c.args.more - 1) ≡ c.args.more = omega arith in
     c.loop-rung.invariant
-    ∙ ap (λ (k : ℕ). fold better c.args.best (flat_map (λ q. completions o (c.args.more - 1) (extended o c.args.draft q)) (rungs_below k))) (all ∙ c.rungs-rung-end.ensures.value)
+    ∙ ap (λ (k : ℕ). fold better c.args.best (flat_map (λ q. completions o (c.args.more - 1) (extended o c.args.draft q)) (rungs_below k))) (all ∙ c.requires.outlook.rungs)
     ∙ all_best o (c.args.more - 1) c.args.draft c.args.best ∙ ap (λ (k : ℕ). best_after o k c.args.draft c.args.best) same
