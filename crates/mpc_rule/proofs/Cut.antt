@@ -1,11 +1,11 @@
 -- A list is left where no completion has a greater score than the best so far.
-use Rattle.std.proofs.Common.{◌≡◌, ◌∙◌, ℕ, zero, suc, ◌+◌, ◌-◌, ◌*◌, ◌<◌, ◌≤◌, List, [], ◌∷◌, length, get_or, Option, Some, None, Bool, true, false, cond, refl, sym, ap, arith, inl, inr}
-use Rattle.std.specs.Prelude.{ℤ, pos, ◌+ℤ◌, ◌-ℤ◌, ◌≤ℤ◌, ◌<ℤ◌, int_lt, max, fold}
+use Rattle.std.proofs.Common.{◌≡◌, ◌∙◌, ℕ, zero, suc, ◌+◌, ◌-◌, ◌*◌, ◌<◌, ◌≤◌, List, [], ◌∷◌, Option, Some, None, Bool, true, false, cond, refl, sym, ap, arith, inl, inr}
+use Rattle.std.specs.Prelude.{ℤ, pos, ◌+ℤ◌, ◌≤ℤ◌, ◌<ℤ◌, int_lt, max, fold}
 use Rattle.std.specs.List.{All, flat_map}
 use Rattle.std.proofs.lemmas.Int.{by_lt_z, ints}
 use Rattle.std.proofs.lemmas.Grind.{fold-append}
 use Rattle.std.proofs.lemmas.List.{flat_map_more}
-use Rattle.std.proofs.lemmas.List.Elements.{All-nil, All-cons, All-head, All-tail, All-append}
+use Rattle.std.proofs.lemmas.List.Elements.{All-nil, All-cons, All-head, All-tail}
 use Rattle.lab_model.specs.Film.{segments_of}
 use Rattle.lab_model.specs.Ladder.{rungs_below}
 use Rattle.lab_model.specs.Weighing.{Weighing, IsWeighing, utility_of}
@@ -32,11 +32,11 @@ utility_most : (o : Outlook) → IsOutlook o → (segment rung : ℕ) → segmen
 utility_most o is segment rung within low =
     let w = weights_of o in let count = is.setup.rungs in
     let at : (s : ℕ) → s < max 1 w.rows → utility_of w s rung ≤ utility_of w s (w.count - 1) =
-        λ s row. rises w is.weights s row (w.count - 1 - rung) rung (omega (arith, low, count)) in
+    λ s row. rises w is.weights s row (w.count - 1 - rung) rung (omega (arith, low, count)) in
     elim is.setup.rows [
-    | inl none ↦ let here = one_row w segment rung none in let top = one_row w segment (w.count - 1) none in
-        let first = at 0 (omega arith) in omega (arith, here, top, first)
-    | inr all ↦ at segment (omega (arith, all, within))
+      | inl none ↦ let here = one_row w segment rung none in let top = one_row w segment (w.count - 1) none in
+          let first = at 0 (omega arith) in omega (arith, here, top, first)
+      | inr all ↦ at segment (omega (arith, all, within))
     ]
 
 -- one more rung adds at most the greatest utility of its segment

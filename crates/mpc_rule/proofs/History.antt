@@ -1,6 +1,6 @@
 -- What RobustMPC keeps stays what its history says, and its choice is the history's.
-use Rattle.std.proofs.Common.{◌≡◌, ◌≢◌, ◌∙◌, ℕ, ◌+◌, ◌-◌, ◌*◌, ◌/◌, ◌<◌, ◌≤◌, List, [], ◌∷◌, ◌++◌, length, drop, refl, sym, ap, arith, append_assoc, append-nil, length-append, length-drop, drop-drop, max}
-use Rattle.std.specs.Prelude.{min, slice_index}
+use Rattle.std.proofs.Common.{◌≡◌, ◌∙◌, ℕ, ◌+◌, ◌-◌, ◌*◌, ◌/◌, ◌<◌, ◌≤◌, List, [], ◌∷◌, ◌++◌, length, drop, sym, ap, arith, append_assoc, append-nil, length-append, length-drop, drop-drop, max}
+use Rattle.std.specs.Prelude.{slice_index}
 use Rattle.std.specs.Int.{abs_diff}
 use Rattle.std.specs.List.{All, fold}
 use Rattle.std.proofs.lemmas.List.{drop-append-le}
@@ -8,7 +8,7 @@ use Rattle.std.proofs.lemmas.List.Elements.{All-nil, All-cons, All-append, All-h
 use Rattle.circular_buffer.specs.Buffer.{Buffer, buffer, keep_last}
 use Rattle.lab_model.specs.declared.setup.Setup.{Setup}
 use Rattle.lab_model.specs.declared.context.Context.{Context}
-use Rattle.lab_model.specs.Film.{Film, IsWithin, rungs_of}
+use Rattle.lab_model.specs.Film.{Film, IsWithin}
 use Rattle.lab_model.specs.Horizon.{horizon_score}
 use Rattle.lab_model.specs.Mpc.{best_list, lists_ahead, mpc_choice}
 use Rattle.lab_model.specs.Rates.{error_after, errors_from, errors_of, greatest, harmonic_of, last_of, robust_rate}
@@ -22,7 +22,7 @@ ring_push low high ring n is within = record {
   capacity = is.capacity;
   count = let cut = length-drop (length (ring.items ++ n ∷ []) - ring.capacity) (ring.items ++ n ∷ []) in let five = is.capacity in omega (arith, cut, five);
   numbers = All-drop (IsWithin low high) (length (ring.items ++ n ∷ []) - ring.capacity) (ring.items ++ n ∷ [])
-  (All-append (IsWithin low high) ring.items (n ∷ []) is.numbers (All-cons (IsWithin low high) n [] within (All-nil (IsWithin low high))));
+      (All-append (IsWithin low high) ring.items (n ∷ []) is.numbers (All-cons (IsWithin low high) n [] within (All-nil (IsWithin low high))));
 }
 
 -- its numbers are the last 5, with the new one
@@ -75,7 +75,7 @@ stands_more old now (c ∷ cs) x e s some is rates errors =
     record {
       rates = rates ∙ ap (λ (r : List ℕ). last_of 5 (r ++ x ∷ [])) s.rates ∙ keep_again 5 (c ∷ cs) x;
       errors = errors ∙ (λ i. last_of 5 (s.errors i ++ error i ∷ [])) ∙ keep_again 5 (errors_of (c ∷ cs)) (error_after (c ∷ cs) x)
-      ∙ ap (last_of 5) (sym (errors_from_more (c ∷ []) cs x));
+          ∙ ap (last_of 5) (sym (errors_from_more (c ∷ []) cs x));
     }
 
 -- ---- the choice

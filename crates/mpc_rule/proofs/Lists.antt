@@ -1,13 +1,13 @@
 -- The best of all completions of the empty list is the first list of the greatest horizon score.
-use Rattle.std.proofs.Common.{◌≡◌, ◌∙◌, ℕ, zero, suc, ◌+◌, ◌-◌, ◌*◌, ◌<◌, ◌≤◌, List, [], ◌∷◌, ◌++◌, length, get_or, set, Option, Some, None, Bool, true, false, cond, refl, sym, ap, arith, add-one, add-zero, length-set}
-use Rattle.std.specs.Prelude.{ℤ, pos, ◌+ℤ◌, ◌-ℤ◌, ◌≤ℤ◌, int_lt, min, map, slice_index, fold}
+use Rattle.std.proofs.Common.{◌≡◌, ◌∙◌, ℕ, zero, suc, ◌+◌, ◌-◌, ◌*◌, ◌<◌, ◌≤◌, List, [], ◌∷◌, ◌++◌, length, Option, Some, None, Bool, true, false, cond, refl, sym, ap, arith, add-one, add-zero, length-set}
+use Rattle.std.specs.Prelude.{ℤ, pos, ◌+ℤ◌, ◌-ℤ◌, int_lt, map, slice_index, fold}
 use Rattle.std.specs.List.{All, flat_map}
 use Rattle.std.proofs.Math.Dec.{eqb-suc-zero}
 use Rattle.std.proofs.lemmas.Int.{ints}
 use Rattle.std.proofs.lemmas.Bool.{cond_both}
 use Rattle.std.proofs.lemmas.List.{map-append, get_or-set_same, get_or-set_other}
 use Rattle.std.proofs.lemmas.Simd.{map-map}
-use Rattle.std.proofs.lemmas.List.Elements.{All-nil, All-cons, All-head, All-tail, All-append, All-map}
+use Rattle.std.proofs.lemmas.List.Elements.{All-nil, All-cons, All-head, All-tail, All-map}
 use Rattle.lab_model.specs.declared.setup.Setup.{Setup}
 use Rattle.lab_model.specs.Film.{Film}
 use Rattle.lab_model.specs.Weighing.{utility_of, change_of}
@@ -17,7 +17,7 @@ use Rattle.lab_model.specs.Mpc.{best_list, lists_of}
 use Rattle.lab_model.proofs.Choices.{best_keeps, flat_fits}
 use Rattle.mpc_rule.specs.declared.search.Outlook.{Outlook}
 use Rattle.mpc_rule.specs.declared.search.Draft.{Draft}
-use Rattle.mpc_rule.specs.Search.{better, best_after, best_rung, completions, extended, first_rung, gain_of, ladder_of, rung_before, segment_after, start_of, weights_of}
+use Rattle.mpc_rule.specs.Search.{better, best_after, best_rung, completions, extended, first_rung, gain_of, ladder_of, rung_before, segment_after, start_of}
 
 -- ---- the completions are the lists, each added to the list in hand
 

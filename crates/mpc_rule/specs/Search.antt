@@ -1,5 +1,5 @@
 -- The search of RobustMPC: a list of rungs in hand, the lists that complete it in lexicographic order, and the best of them.
-use Rattle.std.specs.Prelude.{◌≡◌, ℕ, zero, suc, ◌+◌, ◌-◌, ◌*◌, ◌≤◌, ◌<◌, ◌==◌, List, [], ◌∷◌, length, min, Option, Some, None, slice_index, slice_set, if◌then◌else◌, ℤ, pos, ◌+ℤ◌, ◌-ℤ◌, ◌≤ℤ◌, int_lt, fold, IfSome, ◌<ℤ◌}
+use Rattle.std.specs.Prelude.{◌≡◌, ℕ, zero, suc, ◌+◌, ◌-◌, ◌*◌, ◌≤◌, ◌<◌, ◌==◌, List, [], ◌∷◌, Option, Some, None, slice_index, slice_set, if◌then◌else◌, ℤ, pos, ◌+ℤ◌, ◌-ℤ◌, ◌≤ℤ◌, int_lt, fold, IfSome, ◌<ℤ◌}
 use Rattle.std.specs.List.{All, flat_map}
 use Rattle.lab_model.specs.Film.{IsFilm, IsWithin, rungs_of, segments_of}
 use Rattle.lab_model.specs.Fit.{SetupFits}

@@ -116,3 +116,6 @@ impl Rule for RobustMpc {
         outlook.best_rung(to_come.min(self.horizon as u16) as u8)
     }
 }
+
+#[cfg(test)]
+mod tests;

@@ -1,4 +1,4 @@
-use Rattle.std.proofs.Common.{◌≡◌, ◌∙◌, ◌+◌, ◌-◌, ap, sym, arith}
+use Rattle.std.proofs.Common.{◌≡◌, ◌∙◌, ◌+◌, ◌-◌, ap, arith}
 use Rattle.lab_model.specs.Weighing.{utility_of}
 use Rattle.mpc_rule.specs.Search.{greatest_from, weights_of}
 use Rattle.mpc_rule.proofs.Cut.{greatest_more, greatest_none}
