@@ -117,7 +117,7 @@ fn plain_score(row: &Row, place: u32) -> i64 {
     let end = (next as usize + horizon as usize).min(SIZES.len());
     let (mut level, mut before, mut unit, mut score) = (level as u64, last, 81, 0i64);
     for segment in next as usize..end {
-        let rung = (place / unit % 3) as usize;
+        let rung = (place / unit.max(1) % 3) as usize;
         let wait = (1000 * SIZES[segment][rung] as u64).div_ceil(rate.max(1));
         let change = match before {
             Some(q) if q < 3 => utilities[rung].abs_diff(utilities[q as usize]),
@@ -131,7 +131,7 @@ fn plain_score(row: &Row, place: u32) -> i64 {
             .saturating_sub(i64::try_from(lost).unwrap_or(i64::MAX));
         level = level.saturating_sub(wait).saturating_add(1000).min(7000);
         before = Some(rung as u8);
-        unit = (unit / 3).max(1);
+        unit /= 3;
     }
     score
 }
