@@ -7,7 +7,7 @@ use Rattle.lab_model.specs.declared.trace.Period.{Period}
 use Rattle.lab_model.specs.Cycle.{IsTrace}
 use Rattle.lab_model.specs.Film.{Film, IsFilm, rungs_of, size_of}
 use Rattle.lab_model.specs.Fit.{SetupFits}
-use Rattle.lab_model.specs.Weighing.{IsWeighing, change_of, utility_of}
+use Rattle.lab_model.specs.Weighing.{IsWeighing, Weighing, change_of, utility_of}
 use Rattle.network_clock.specs.Network.{done_at}
 use Rattle.player_core.specs.Available.{all_ahead, available_at}
 
@@ -62,9 +62,13 @@ next_label g segment q l r =
       v = (l.v +ℤ pos (1000 * utility_of g.setup.weights segment r)) -ℤ pos (g.setup.weights.switch * change_of g.setup.weights segment (Some q) r);
     }
 
--- the value that a label comes to at the end, in thousandths of a point
+-- the value that a label comes to at the end under these weights, in thousandths of a point
+abbrev pub value_at_end : Weighing → Label → ℤ
+value_at_end w l = l.v -ℤ pos (w.stall * l.p)
+
+-- the same for a task
 abbrev pub end_value : Task → Label → ℤ
-end_value g l = l.v -ℤ pos (g.setup.weights.stall * l.p)
+end_value g l = value_at_end g.setup.weights l
 
 -- the label of a segment along a rung list
 unfoldable pub label_at : Task → List ℕ → ℕ → Label

@@ -1,2 +1,11 @@
 pub mod Labels
+pub mod Near
 pub mod Parts
+pub mod Frontier
+pub mod Grid
+pub mod Grown
+pub mod Read
+pub mod Covers
+pub mod Valid
+pub mod Along
+pub mod ValueLaw

@@ -1,6 +1,15 @@
 //! The planner: the best rung list that a network allowed, by labels that no other dominates.
 #![tactic(auto)]
 
+mod label;
 mod plan;
+mod values;
 
+pub use label::{
+    Grid, dominates, end_value, next_from, next_label, round_label, start_from, start_label,
+};
 pub use plan::{Chain, Plan, PlanErr};
+pub use values::labels_are_values;
+
+#[cfg(test)]
+mod tests;

@@ -14,8 +14,12 @@ use Rattle.lab_model.specs.Weighing.{IsWeighing, weighing}
 use Rattle.lab_words.specs.Limits.{IsRuleWithin, IsWithinLimits}
 use Rattle.lab_words.specs.Rules.{has_colon, rule_of, rule_of_kind}
 use Rattle.lab_words.specs.Spelling.{Text, all_numbers, in_range, is_number, never_falls, number_of, numbers_of, pieces_of, unless_falling, utilities_of}
-use Rattle.lab_words.specs.Table.{accepted, simulate_app}
-use Rattle.lab_words.specs.Words.{CommandWords, Gives, SettingsWords, asked_of, is_given, view, number_in, number_or, optional, required, rule_in, settings_in, simulate_in, utilities_in, ◌>>=◌}
+use Rattle.lab_words.specs.Command.{CommandWords, view}
+use Rattle.lab_words.specs.Settings.{SettingsWords, settings_in, utilities_in}
+use Rattle.lab_words.specs.Simulate.{simulate_app, simulate_in}
+use Rattle.lab_words.specs.Table.{accepted}
+use Rattle.lab_words.specs.Values.{Gives, is_given, number_in, number_or, optional, required, rule_in, ◌>>=◌}
+use Rattle.lab_words.specs.Words.{asked_of}
 use Rattle.lab_words.specs.declared.Command.{Command}
 use Rattle.lab_words.specs.declared.Verb.{Verb}
 use Rattle.lab_words.specs.declared.Verb.TheVariants as verb

@@ -1,0 +1,3 @@
+//! Tests, with answers from outside.
+
+mod values;
