@@ -10,34 +10,26 @@ use Rattle.lab_model.specs.Film.{segments_of}
 use Rattle.lab_model.specs.Ladder.{rungs_below}
 use Rattle.lab_model.specs.Weighing.{Weighing, IsWeighing, utility_of}
 use Rattle.lab_model.proofs.Choices.{all_below, flat_fits}
+use Rattle.lab_model.proofs.Rows.{utility_rises}
 use Rattle.lab_model.proofs.Rungs.{rungs_more}
 use Rattle.mpc_rule.specs.declared.search.Outlook.{Outlook}
 use Rattle.mpc_rule.specs.declared.search.Draft.{Draft}
 use Rattle.mpc_rule.specs.Search.{IsOutlook, better, best_after, completions, CouldBeat, extended, gain_of, greatest_from, ladder_of, segment_after, weights_of}
 
 -- the utility of a rung is at most that of the highest
-rises : (w : Weighing) → IsWeighing w → (segment : ℕ) → segment < max 1 w.rows → (k rung : ℕ) → rung + k + 1 ≡ w.count → utility_of w segment rung ≤ utility_of w segment (w.count - 1)
+rises : (w : Weighing) → IsWeighing w → (segment : ℕ) → (0 < w.rows → segment < w.rows) → (k rung : ℕ) → rung + k + 1 ≡ w.count → utility_of w segment rung ≤ utility_of w segment (w.count - 1)
 rises w is segment row zero rung e = let same : w.count - 1 ≡ rung = omega (arith, e) in rw same (omega arith)
 rises w is segment row (suc k) rung e =
-    let step = is.rise.along segment rung row (omega (arith, e)) in
+    let step = utility_rises w segment rung is (omega (arith, e), row) in
     let more = rises w is segment row k (rung + 1) (omega (arith, e)) in
     omega (arith, step, more)
-
--- where one row is every segment's, the utility is that of the first segment
-one_row : (w : Weighing) (segment rung : ℕ) → w.rows ≡ 0 → utility_of w segment rung ≡ utility_of w 0 rung
-one_row w segment rung none = rw none refl
 
 utility_most : (o : Outlook) → IsOutlook o → (segment rung : ℕ) → segment < segments_of o.film.now → rung < ladder_of o
     → utility_of (weights_of o) segment rung ≤ utility_of (weights_of o) segment ((weights_of o).count - 1)
 utility_most o is segment rung within low =
-    let w = weights_of o in let count = is.setup.rungs in
-    let at : (s : ℕ) → s < max 1 w.rows → utility_of w s rung ≤ utility_of w s (w.count - 1) =
-    λ s row. rises w is.weights s row (w.count - 1 - rung) rung (omega (arith, low, count)) in
-    elim is.setup.rows [
-      | inl none ↦ let here = one_row w segment rung none in let top = one_row w segment (w.count - 1) none in
-          let first = at 0 (omega arith) in omega (arith, here, top, first)
-      | inr all ↦ at segment (omega (arith, all, within))
-    ]
+    let w = weights_of o in let fits = is.setup.utilities in let count = fits.rungs in
+    let row : 0 < w.rows → segment < w.rows = λ some. elim fits.rows [ inl none ↦ absurd (omega (arith, some, none)) | inr all ↦ omega (arith, all, within) ] in
+    rises w is.weights segment row (w.count - 1 - rung) rung (omega (arith, low, count))
 
 -- one more rung adds at most the greatest utility of its segment
 gain_most : (o : Outlook) (d : Draft) (rung : ℕ) → IsOutlook o → segment_after o d < segments_of o.film.now → rung < ladder_of o

@@ -1,5 +1,5 @@
 -- The search of RobustMPC: a list of rungs in hand, the lists that complete it in lexicographic order, and the best of them.
-use Rattle.std.specs.Prelude.{◌≡◌, ℕ, zero, suc, ◌+◌, ◌-◌, ◌*◌, ◌≤◌, ◌<◌, ◌==◌, List, [], ◌∷◌, Option, Some, None, slice_index, slice_set, if◌then◌else◌, ℤ, pos, ◌+ℤ◌, ◌-ℤ◌, ◌≤ℤ◌, int_lt, fold, IfSome, ◌<ℤ◌}
+use Rattle.std.specs.Prelude.{◌≡◌, ℕ, zero, suc, ◌+◌, ◌-◌, ◌*◌, ◌≤◌, ◌<◌, ◌==◌, List, [], ◌∷◌, min, Option, Some, None, slice_index, slice_set, if◌then◌else◌, ℤ, pos, ◌+ℤ◌, ◌-ℤ◌, ◌≤ℤ◌, int_lt, fold, IfSome, ◌<ℤ◌}
 use Rattle.std.specs.List.{All, flat_map}
 use Rattle.lab_model.specs.Film.{IsFilm, IsWithin, rungs_of, segments_of}
 use Rattle.lab_model.specs.Fit.{SetupFits}
@@ -30,9 +30,17 @@ segment_after o d = o.context.now.next + d.count
 abbrev pub rung_before : Outlook → Draft → Option ℕ
 rung_before o d = if d.count == 0 then o.context.now.last else Some (slice_index d.rungs (d.count - 1))
 
--- the milliseconds in which that segment is foretold to come on a rung
+-- how many segments can be looked at, of the at most 5 that fit a list in hand
+abbrev pub segments_ahead : Outlook → ℕ
+segments_ahead o = min 5 (segments_of o.film.now - o.context.now.next)
+
+-- the milliseconds in which a segment is foretold to come on a rung
+abbrev pub wait_at : Outlook → ℕ → ℕ → ℕ
+wait_at o segment rung = foretold_ms o.film.now o.rate (record { segment = segment; rung = rung })
+
+-- the same of the segment for which a list in hand has no rung yet
 abbrev pub wait_of : Outlook → Draft → ℕ → ℕ
-wait_of o d rung = foretold_ms o.film.now o.rate (record { segment = segment_after o d; rung = rung })
+wait_of o d rung = wait_at o (segment_after o d) rung
 
 -- what one more rung takes from the score by its change and by its stall, where its segment comes in so many milliseconds
 abbrev pub loss_of : Outlook → Draft → ℕ → ℕ → ℕ

@@ -1,9 +1,8 @@
 //! The search of RobustMPC: the lists of rungs for the segments that come, in lexicographic order, and what each promises.
 
-ghost use Rattle.std.specs.Prelude.{◌≡◌, ℕ, ◌+◌, ◌-◌, ◌*◌, ◌<◌, ◌≤◌, ℤ, pos, ◌+ℤ◌, ◌≤ℤ◌, Some, None, IfSome, min, ◌↔◌, IsTrue};
-ghost use Rattle.lab_model.specs.Film.{rungs_of, segments_of};
-ghost use Rattle.lab_model.specs.Horizon.{foretold_ms};
-ghost use Rattle.lab_model.specs.Weighing.{change_of};
+ghost use Rattle.std.specs.Prelude.{◌≡◌, ℕ, ◌+◌, ◌*◌, ◌<◌, ◌≤◌, ◌↔◌, IfSome, IsTrue};
+ghost use Rattle.lab_model.specs.Film.{segments_of};
+ghost use Rattle.mpc_rule.specs.Search.{CouldBeat, IsDraft, IsOutlook, best_after, best_rung, extended, greatest_from, ladder_of, loss_of, rung_before, segment_after, segments_ahead, start_of, wait_at, weights_of};
 
 use lab_model::{Context, Manifest, Setup, ceil_div};
 
@@ -32,13 +31,11 @@ pub(crate) struct Draft {
 }
 
 impl Outlook<'_> {
-    ghost use Rattle.mpc_rule.specs.Search.{CouldBeat, IsDraft, IsOutlook, best_after, best_rung, extended, greatest_from, ladder_of, loss_of, rung_before, segment_after, start_of, wait_of, weights_of};
-
     /// The list of no rungs.
     pub(crate) fn start(&self) -> Draft
         requires { IsOutlook self.now }
         ensures value { result ≡ start_of self.now }
-        ensures draft { IsDraft self.now result (min 5 (segments_of self.now.film.now - self.now.context.now.next)) }
+        ensures draft { IsDraft self.now result (segments_ahead self.now) }
     {
         Draft {
             rungs: [0; 5],
@@ -72,28 +69,12 @@ impl Outlook<'_> {
         }
     }
 
-    /// What a change to a rung weighs, by the utilities of its segment.
-    fn change(&self, seg: u16, before: Option<u8>, rung: u8) -> u32
-        requires outlook { IsOutlook self.now }
-        requires segment { seg < segments_of self.now.film.now }
-        requires before { IfSome before (λ q. q < ladder_of self.now) }
-        requires rung { rung < ladder_of self.now }
-        ensures value { result ≡ change_of (weights_of self.now) seg before rung }
-        ensures limit { result ≤ 1000000 }
-    {
-        let weights = &self.setup.weights;
-        match before {
-            None => 0,
-            Some(q) => weights.utility(seg, rung).abs_diff(weights.utility(seg, q)),
-        }
-    }
-
     /// The milliseconds in which a segment is foretold to come.
     fn wait(&self, seg: u16, rung: u8) -> u64
         requires outlook { IsOutlook self.now }
         requires segment { seg < segments_of self.now.film.now }
         requires rung { rung < ladder_of self.now }
-        ensures value { result ≡ foretold_ms self.now.film.now self.now.rate (record { segment = seg; rung = rung }) }
+        ensures value { result ≡ wait_at self.now seg rung }
         ensures limit { result ≤ 200000000000 }
     {
         ceil_div(1000 * self.film.size(seg, rung) as u128, self.rate as u128) as u64
@@ -110,7 +91,7 @@ impl Outlook<'_> {
         ensures limit { result ≤ 200001000000000000 }
     {
         let weights = &self.setup.weights;
-        let change = self.change(self.segment_after(draft), self.rung_before(draft), rung);
+        let change = weights.change(self.segment_after(draft), self.rung_before(draft), rung);
         let stall = wait.saturating_sub(draft.level as u64);
         weights.switch() as u64 * change as u64 + weights.stall() as u64 * stall
     }
@@ -188,7 +169,7 @@ impl Outlook<'_> {
     pub(crate) fn best_rung(&self, length: u8) -> u8
         requires outlook { IsOutlook self.now }
         requires some { 0 < length }
-        requires segments { length ≤ min 5 (segments_of self.now.film.now - self.now.context.now.next) }
+        requires segments { length ≤ segments_ahead self.now }
         ensures { result ≡ best_rung self.now length }
     {
         match self.best_after(self.start(), length, None) {

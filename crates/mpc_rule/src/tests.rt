@@ -57,6 +57,7 @@ fn mpc_by_hand(rt: HostRuntime) -> Result<(), Fail> {
                 && m.seg_ms() == 1000
                 && m.segments() == 3
                 && level <= 9000
+                && set.buffer_ms == 10_000
         );
         assert_eq!(rt; rule.choose(&m, &set, &context), wanted, "at {level}");
     }
@@ -145,7 +146,7 @@ fn plain_rung(row: &Row) -> u8 {
             (best, most) = (place, score);
         }
     }
-    (best / 81) as u8
+    (best / 81 % 3) as u8
 }
 
 #[test]
@@ -163,9 +164,17 @@ fn choices(rt: HostRuntime) -> Result<(), Fail> {
         let set = setup(alloc, 8000, &utilities, changes)?;
         let context = Context { level, next, last };
         assert!(rt;
-            set.fits(&m) && rule.fits(&m) && next < 5 && level <= 7000 && last.unwrap_or(0) < 3
+            set.fits(&m)
+                && rule.fits(&m)
+                && next < 5
+                && level <= 7000
+                && set.buffer_ms == 8000
+                && last.unwrap_or(0) < 3
         );
         assert!(rt; !rule.rates.is_empty());
+        if let Some(before) = last {
+            assert!(rt; before < m.rungs());
+        }
         assert_eq!(rt; rule.rate_ahead(), rate, "after {kbps:?}");
         assert_eq!(rt; rule.choose(&m, &set, &context), rung, "after {kbps:?}");
         assert_eq!(rt; plain_rung(row), rung, "after {kbps:?}");

@@ -11,7 +11,7 @@ loop-i-preserved c =
     let left : c.args.count - i - 1 ≡ c.args.count - (i + 1) = omega arith in
     let next : c.args.seg + i + 1 ≡ c.args.seg + (i + 1) = omega arith in
     let rest : greatest_from w (c.args.seg + i + 1) (c.args.count - i - 1) ≡ greatest_from w (c.args.seg + (i + 1)) (c.args.count - (i + 1)) = λ k. greatest_from w (next k) (left k) in
-    let top : c.args.self.now.rungs - 1 ≡ w.count - 1 = let all = c.requires.outlook.rungs in let fits = c.requires.outlook.setup.rungs in omega (arith, all, fits) in
+    let top : c.args.self.now.rungs - 1 ≡ w.count - 1 = let all = c.requires.outlook.rungs in let fits = c.requires.outlook.setup.utilities.rungs in omega (arith, all, fits) in
     let utility = c.utility.ensures.value ∙ ap (λ q. utility_of w (c.args.seg + i) q) top in
     record { sum = omega (arith, more, rest, utility); limit = omega arith }
 
