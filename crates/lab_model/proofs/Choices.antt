@@ -31,7 +31,8 @@ greatest_low passes (suc n) =
 pub greatest_fits : (passes : ℕ → Bool) (rungs : ℕ) → 0 < rungs → greatest_rung passes rungs < rungs
 greatest_fits passes rungs some = let low = greatest_low passes rungs in omega (arith, low)
 
-all_below : (n : ℕ) → All (λ q. q < n) (rungs_below n)
+-- the rungs below a number are below it
+pub all_below : (n : ℕ) → All (λ q. q < n) (rungs_below n)
 all_below n k d low =
     let few = length-range_with_len 0 n in
     let here : k < n = omega (arith, few, low) in
@@ -48,7 +49,8 @@ least_fits passes count some = found_fits (λ q. q < count) passes 0 (rungs_belo
 
 -- ---- the first list of the greatest score
 
-best_keeps : (P : List ℕ → Type 0) (score : List ℕ → ℤ) (best : List ℕ) (lists : List (List ℕ)) → P best → All P lists → P (fold (λ best l. cond (int_lt (score best) (score l)) l best) best lists)
+-- what is so of each list is so of the best
+pub best_keeps : (P : List ℕ → Type 0) (score : List ℕ → ℤ) (best : List ℕ) (lists : List (List ℕ)) → P best → All P lists → P (fold (λ best l. cond (int_lt (score best) (score l)) l best) best lists)
 best_keeps P score best [] h all = h
 best_keeps P score best (l ∷ ls) h all =
     best_keeps P score (cond (int_lt (score best) (score l)) l best) ls
@@ -63,7 +65,8 @@ best_fits P score (l ∷ ls) h all = best_keeps P score l ls (All-head P l ls al
 abbrev AreBelow : ℕ → List ℕ → Type 0
 AreBelow rungs l = All (λ q. q < rungs) l
 
-flat_fits : (P : List ℕ → Type 0) (f : ℕ → List (List ℕ)) (Q : ℕ → Type 0) (rs : List ℕ) → ((r : ℕ) → Q r → All P (f r)) → All Q rs → All P (flat_map f rs)
+-- what is so of all that each item gives is so of all together
+pub flat_fits : {X : Type 0} (P : X → Type 0) (f : ℕ → List X) (Q : ℕ → Type 0) (rs : List ℕ) → ((r : ℕ) → Q r → All P (f r)) → All Q rs → All P (flat_map f rs)
 flat_fits P f Q [] each all = All-nil P
 flat_fits P f Q (r ∷ rs) each all = All-append P (f r) (flat_map f rs) (each r (All-head Q r rs all)) (flat_fits P f Q rs each (All-tail Q r rs all))
 
@@ -85,11 +88,14 @@ throughput_fits : (windows : List ℕ) (f : Film) (history : List ℕ) → 0 < r
 throughput_fits windows f [] some = some
 throughput_fits windows f (c ∷ cs) some = greatest_fits _ (rungs_of f) some
 
+-- the first rung of the best list is a rung of the ladder
+pub best_list_fits : (score : List ℕ → ℤ) (count n : ℕ) → 0 < count → slice_index (best_list score (lists_of count n)) 0 < count
+best_list_fits score count n some = first_fits count _ some (best_fits (AreBelow count) score (lists_of count n) (All-nil (λ q. q < count)) (lists_fit count n))
+
 mpc_fits : (horizon : ℕ) (f : Film) (s : Setup) (x : Context) (history : List ℕ) → 0 < rungs_of f → mpc_choice horizon f s x history < rungs_of f
 mpc_fits horizon f s x [] some = some
 mpc_fits horizon f s x (c ∷ cs) some =
-    let n = min horizon (segments_of f - x.next) in
-    first_fits (rungs_of f) _ some (best_fits (AreBelow (rungs_of f)) (horizon_score f s (robust_rate (c ∷ cs)) x.next x.level x.last) (lists_of (rungs_of f) n) (All-nil (λ q. q < rungs_of f)) (lists_fit (rungs_of f) n))
+    best_list_fits (horizon_score f s (robust_rate (c ∷ cs)) x.next x.level x.last) (rungs_of f) (min horizon (segments_of f - x.next)) some
 
 pub choice_fits : (k : RuleKind) (f : Film) (s : Setup) (x : Context) (history : List ℕ) → IsFilm f → KindFits k f → x.next < segments_of f → choice k f s x history < rungs_of f
 choice_fits (fixed q) f s x history is fits next = fits
