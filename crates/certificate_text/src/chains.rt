@@ -6,7 +6,9 @@ ghost use Rattle.frontier_planner.specs.Parts.{chain_parts};
 ghost use Rattle.certificate_text.specs.Form.{names_per};
 ghost use Rattle.certificate_text.specs.Reading.{behind, chain_at, chains_at, end_at, label_at, labels_at, layer_at, nothing_at, numbers_of_label_at, place_of};
 
-use crate::fields::{bad_line, known_at, number_at, push_numbers, signed_at, stop_before, word_at};
+use crate::fields::{
+    bad_line, known_at, number_at, push, push_numbers, signed_at, stop_before, word_at,
+};
 use frontier_planner::Chain;
 use lab_model::{InputFault, Label};
 use std::alloc::Global;
@@ -23,6 +25,7 @@ pub(crate) struct Spot<'a> {
 }
 
 /// The three numbers of a label, before so many names.
+#[tactic(auto, unfolding(crate::specs::Reading::numbers_of_label_at))]
 fn numbers_of_label_at(row: u32, per: usize, bytes: &[u8]) -> Result<(Label, &[u8]), InputFault>
     ensures { Gives (λ x. (x.0, x.1.now)) result (numbers_of_label_at row per bytes.now) }
 {
@@ -33,6 +36,7 @@ fn numbers_of_label_at(row: u32, per: usize, bytes: &[u8]) -> Result<(Label, &[u
 }
 
 /// Appends a label with so many names.
+#[tactic(auto, unfolding(crate::specs::Reading::label_at))]
 fn push_label<'a>(
     chain: &mut Chain,
     row: u32,
@@ -43,7 +47,7 @@ fn push_label<'a>(
         (behind (chain_parts chain.old) (label_at row per bytes.now)) }
 {
     let (label, rest) = numbers_of_label_at(row, per, bytes)?;
-    chain.labels.push(label).map_err(|_| InputFault::Memory)?;
+    push(&mut chain.labels, label)?;
     push_numbers(&mut chain.names, row, 7, per, rest)
 }
 
@@ -67,6 +71,7 @@ fn push_labels<'a>(
 }
 
 /// The line before the labels of a chain: how many they are.
+#[tactic(auto, unfolding(crate::specs::Reading::layer_at))]
 fn layer_at<'a>(segment: u32, rung: u32, at: Spot<'a>) -> Result<(u32, &'a [u8]), InputFault>
     ensures count { Gives (λ x. (x.0, x.1.now)) result
         (layer_at at.entry.row segment rung at.entry.left at.entry.rest.now) }
@@ -84,6 +89,7 @@ fn layer_at<'a>(segment: u32, rung: u32, at: Spot<'a>) -> Result<(u32, &'a [u8])
 }
 
 /// The chain of a segment and rung, whose labels have so many names each.
+#[tactic(auto, unfolding(crate::specs::Reading::chain_at))]
 fn chain_at<'a>(
     alloc: Global,
     per: usize,
@@ -146,13 +152,14 @@ pub(crate) fn chains_at<'a>(
         let rung = (number + i) % rungs;
         let per = names_per(segments, rungs, segment);
         let (chain, behind) = chain_at(alloc, per, segment, rung, spot)?;
-        chains.push(chain).map_err(|_| InputFault::Memory)?;
+        push(&mut chains, chain)?;
         spot = behind;
     }
     Ok((chains, spot))
 }
 
 /// The last line, behind which nothing stands.
+#[tactic(auto, unfolding(crate::specs::Reading::end_at))]
 pub(crate) fn end_at(at: Spot<'_>) -> Result<(), InputFault>
     requires { at.row ≤ 4000000000 }
     ensures { Gives (λ done. done) result (end_at (place_of at.entry)) }

@@ -36,6 +36,7 @@ impl<'a> Model for Lines<'a> {
 
 impl<'a> Lines<'a> {
     /// Reads the lines before the first layer. It is refused exactly where a bad line is among them.
+    #[tactic(auto, unfolding(crate::specs::Walk::begun))]
     pub fn begin(alloc: Global, bytes: &'a [u8]) -> Result<Lines<'a>, InputFault>
         ensures { Gives (λ lines. lines) result (begun bytes.now) }
     {
@@ -53,6 +54,7 @@ impl<'a> Lines<'a> {
     ///
     /// It is refused exactly where the lines that it reads hold the first bad line; then every later call answers
     /// the same. After `Memory` the reader stands where it stood.
+    #[tactic(auto, unfolding(crate::specs::Walk::layer_of))]
     pub fn next_layer(&mut self) -> Result<Option<Layer>, InputFault>
         ensures { Steps self.old result self.new }
     {
@@ -137,6 +139,7 @@ impl<'a> Lines<'a> {
 }
 
 /// The certificate that the bytes spell. It is refused exactly where they are no spelling, with the first bad line.
+#[tactic(auto, unfolding(crate::specs::Reading::certificate_of))]
 pub fn read_certificate(alloc: Global, bytes: &[u8]) -> Result<Certificate, InputFault>
     ensures exact { Gives certificate_parts result (certificate_of bytes.now) }
 {
