@@ -117,40 +117,36 @@ fn chain_at<'a>(
 }
 
 /// How many names stand behind each label of a segment.
-fn names_per(segments: u32, rungs: u32, segment: u32) -> usize
+pub(crate) fn names_per(segments: usize, rungs: usize, segment: usize) -> usize
     requires { segment < segments }
     ensures { result ≡ names_per segments rungs segment }
 {
-    if segment + 1 == segments {
-        0
-    } else {
-        rungs as usize
-    }
+    if segment + 1 == segments { 0 } else { rungs }
 }
 
 /// So many chains from the one with this number on.
 pub(crate) fn chains_at<'a>(
     alloc: Global,
-    segments: u16,
-    rungs: u8,
+    segments: u32,
+    rungs: u32,
     number: u32,
     count: u32,
     at: Spot<'a>,
 ) -> Result<(Vec<Chain>, Spot<'a>), InputFault>
-    requires rungs { 1 ≤ rungs }
+    requires rungs { IsWithin 1 16 rungs }
+    requires segments { segments ≤ 2000 }
     requires number { number + count ≤ segments * rungs }
     requires room { at.row + at.left + count ≤ 3000000000 }
     ensures chains { Gives (λ x. (map chain_parts x.0.items, place_of x.1)) result
         (chains_at segments rungs number count (place_of at.entry)) }
     ensures room { IfOk result (λ x. x.1.row + x.1.left ≡ at.entry.row + at.entry.left + count) }
 {
-    let (segments, rungs) = (u32::from(segments), u32::from(rungs));
     let mut chains = Vec::new(alloc);
     let mut spot = at;
     for i in 0..count {
         let segment = (number + i) / rungs;
         let rung = (number + i) % rungs;
-        let per = names_per(segments, rungs, segment);
+        let per = names_per(segments as usize, rungs as usize, segment as usize);
         let (chain, behind) = chain_at(alloc, per, segment, rung, spot)?;
         push(&mut chains, chain)?;
         spot = behind;

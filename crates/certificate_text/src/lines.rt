@@ -7,7 +7,7 @@ ghost use Rattle.frontier_planner.specs.Parts.{CertificateParts};
 ghost use Rattle.certificate_text.specs.Form.{IsCertificate, certificate_parts};
 ghost use Rattle.certificate_text.specs.Reading.{certificate_of};
 ghost use Rattle.certificate_text.specs.Spelling.{spelling};
-ghost use Rattle.certificate_text.specs.Walk.{Steps, Walk, begun, standing};
+ghost use Rattle.certificate_text.specs.Walk.{Steps, Walk, after_fault, begun, standing};
 
 use crate::certificate::{Certificate, Layer};
 use crate::chains::{Spot, chains_at, end_at};
@@ -67,16 +67,9 @@ impl<'a> Lines<'a> {
                 Err(fault) => Err(self.keep(fault)),
             };
         }
-        let rungs = self.head.rungs;
-        let number = u32::from(self.segment) * u32::from(rungs);
-        let read = chains_at(
-            self.alloc,
-            self.head.segments,
-            rungs,
-            number,
-            u32::from(rungs),
-            self.spot,
-        );
+        let (segments, rungs) = (u32::from(self.head.segments), u32::from(self.head.rungs));
+        let number = u32::from(self.segment) * rungs;
+        let read = chains_at(self.alloc, segments, rungs, number, rungs, self.spot);
         match read {
             Ok((chains, spot)) => {
                 self.segment += 1;
@@ -88,7 +81,10 @@ impl<'a> Lines<'a> {
     }
 
     /// Keeps a refusal for later calls.
-    fn keep(&mut self, fault: InputFault) -> InputFault {
+    fn keep(&mut self, fault: InputFault) -> InputFault
+        ensures fault { result ≡ fault }
+        ensures after { self.new ≡ after_fault self.old fault }
+    {
         if let InputFault::Refused(refusal) = fault {
             self.refused = Some(refusal);
         }
@@ -144,8 +140,8 @@ pub fn read_certificate(alloc: Global, bytes: &[u8]) -> Result<Certificate, Inpu
     ensures exact { Gives certificate_parts result (certificate_of bytes.now) }
 {
     let (head, spot) = head_at(alloc, bytes)?;
-    let count = u32::from(head.segments) * u32::from(head.rungs);
-    let (chains, spot) = chains_at(alloc, head.segments, head.rungs, 0, count, spot)?;
+    let (segments, rungs) = (u32::from(head.segments), u32::from(head.rungs));
+    let (chains, spot) = chains_at(alloc, segments, rungs, 0, segments * rungs, spot)?;
     end_at(spot)?;
     Ok(Certificate { chains, ..head })
 }

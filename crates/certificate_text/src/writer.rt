@@ -3,11 +3,12 @@ ghost use Rattle.std.specs.Prelude.{◌≡◌, ◌≤◌, ◌∷◌, ◌++◌, �
 ghost use Rattle.std.specs.Fmt.{decimal, signed_decimal};
 ghost use Rattle.lab_io.specs.Piece.{fields_line, later_fields};
 ghost use Rattle.lab_io.specs.Sink.{Puts};
-ghost use Rattle.lab_model.specs.Film.{rungs_of, segments_of};
+ghost use Rattle.lab_model.specs.Film.{IsWithin, rungs_of, segments_of};
 ghost use Rattle.frontier_planner.specs.Parts.{chain_parts, plan_parts};
 ghost use Rattle.certificate_text.specs.Form.{AreChains, IsCertificate};
 ghost use Rattle.certificate_text.specs.Spelling.{chain_lines, chains_lines, head_lines, label_fields, label_lines, layer_fields, lines_text, spelling, table_lines, version_text};
 
+use crate::chains::names_per;
 use frontier_planner::{Chain, Plan};
 use lab_io::Piece::{Number, Word};
 use lab_io::{PutErr, Sink, put_fields, put_line, put_number, put_pieces, put_text};
@@ -179,7 +180,8 @@ fn put_chains<O: Sink>(
     rungs: usize,
     chains: &[Chain],
 ) -> Result<(), PutErr>
-    requires rungs { 1 ≤ rungs }
+    requires rungs { IsWithin 1 16 rungs }
+    requires segments { segments ≤ 2000 }
     requires count { length chains.now ≡ segments * rungs }
     requires chains { AreChains segments rungs 0 (map chain_parts chains.now) }
     ensures { Puts (O.seen out.old) (lines_text (chains_lines segments rungs 0 (map chain_parts chains.now)))
@@ -187,7 +189,7 @@ fn put_chains<O: Sink>(
 {
     for (number, chain) in chains.iter().enumerate() {
         let segment = number / rungs;
-        let per = if segment + 1 == segments { 0 } else { rungs };
+        let per = names_per(segments, rungs, segment);
         put_chain(out, per, segment, number % rungs, chain)?;
     }
     Ok(())
