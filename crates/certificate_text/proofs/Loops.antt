@@ -7,7 +7,8 @@ use Rattle.certificate_text.specs.Form.{names_per}
 use Rattle.certificate_text.specs.Fields.{◌>>=◌, Read, number_at, numbers_at, prepended, stop_before}
 use Rattle.certificate_text.specs.Reading.{Place, Walks, behind, chain_at, chains_at, joined, label_at, labels_at}
 
-abbrev given : {X : Type 0} → X → Result X Refusal
+-- an answer that holds a value
+abbrev pub given : {X : Type 0} → X → Result X Refusal
 given x = Ok x
 
 -- what an answer holds
