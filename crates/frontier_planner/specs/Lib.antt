@@ -7,3 +7,5 @@ pub mod Grown
 pub mod Read
 pub mod Covers
 pub mod Valid
+pub mod Sweep
+pub mod Planned

@@ -1,10 +1,19 @@
 //! The planner: the best rung list that a network allowed, by labels that no other dominates.
 #![tactic(auto)]
 
+mod grow;
 mod label;
+mod names;
 mod plan;
+mod planner;
+mod read;
+mod staircase;
 
 pub use label::{
     Grid, dominates, end_value, next_from, next_label, round_label, start_from, start_label,
 };
-pub use plan::{Chain, Plan, PlanErr};
+pub use plan::{Chain, CoarsePlan, Plan, PlanErr};
+pub use planner::{plan, plan_from};
+
+#[cfg(test)]
+mod tests;

@@ -1,6 +1,7 @@
 //! What a plan is.
 
 use lab_model::Label;
+use std::alloc::{AllocError, AllocFailed};
 
 /// The labels of one segment and rung, in order.
 #[derive(Drop)]
@@ -29,6 +30,15 @@ pub struct Plan {
     pub chains: Vec<Chain>,
 }
 
+/// The plan on a grid, which need not be the best.
+#[derive(Drop)]
+pub struct CoarsePlan {
+    /// The plan that is read off the coarse frontiers.
+    pub plan: Plan,
+    /// What no rung list comes to more than, in thousandths of a point.
+    pub bound: i128,
+}
+
 /// Why there is no plan.
 #[derive(Clone, Copy, PartialEq, Eq, Debug)]
 pub enum PlanErr {
@@ -39,4 +49,16 @@ pub enum PlanErr {
     },
     /// Memory was wanting.
     Memory,
+}
+
+impl From<AllocError> for PlanErr {
+    fn from(_refused: AllocError) -> PlanErr {
+        PlanErr::Memory
+    }
+}
+
+impl<T: Drop> From<AllocFailed<T>> for PlanErr {
+    fn from(_refused: AllocFailed<T>) -> PlanErr {
+        PlanErr::Memory
+    }
 }

@@ -1,0 +1,163 @@
+//! Growing the frontiers of a segment from those of the segment before.
+
+ghost use Rattle.std.specs.Prelude.{◌≡◌, ℕ, ◌+◌, ◌-◌, ◌*◌, ◌<◌, ◌≤◌, IfOk, List, map, length};
+ghost use Rattle.std.specs.List.{All};
+ghost use Rattle.lab_model.specs.Film.{rungs_of, segments_of};
+ghost use Rattle.lab_model.specs.Fit.{SetupFits};
+ghost use Rattle.frontier_planner.specs.Frontier.{undominated};
+ghost use Rattle.frontier_planner.specs.Grid.{IsGrid, rounded};
+ghost use Rattle.frontier_planner.specs.Grown.{grown};
+ghost use Rattle.frontier_planner.specs.Labels.{next_label, task_of};
+ghost use Rattle.frontier_planner.specs.Read.{labels_of};
+ghost use Rattle.frontier_planner.specs.Sweep.{sweep_cmp};
+
+use crate::label::{Grid, next_from, round_label, start_from};
+use crate::plan::PlanErr;
+use crate::staircase::Staircase;
+use lab_model::{Label, Manifest, Setup};
+use network_clock::Clock;
+use std::alloc::{AllocError, AllocFailed, Global};
+use std::cmp::Ordering;
+
+/// The order of the sweep: by finish time, then delay, then falling value.
+fn sweep_order(a: &Label, b: &Label) -> Ordering
+    ensures { result ≡ sweep_cmp a.now b.now }
+{
+    a.t.cmp(&b.t).then(a.p.cmp(&b.p)).then(b.v.cmp(&a.v))
+}
+
+/// The labels of a list in the order of the sweep that no earlier one dominates.
+fn sweep(alloc: Global, labels: &[Label]) -> Result<Vec<Label>, AllocError>
+    ensures { IfOk result (λ v. v.items ≡ undominated labels.now) }
+{
+    let mut kept = Vec::new(alloc);
+    let mut staircase = Staircase::new(alloc);
+    for l in labels {
+        if !staircase.covers(l.p, l.v) {
+            staircase.add(l.p, l.v)?;
+            kept.push(*l)?;
+        }
+    }
+    Ok(kept)
+}
+
+/// The distinct labels of a list that no different one dominates, in order.
+fn undominated(alloc: Global, labels: Vec<Label>) -> Result<Vec<Label>, AllocError>
+    ensures { IfOk result (λ v. v.items ≡ undominated labels.items) }
+{
+    let mut candidates = labels;
+    candidates.sort_unstable_by(sweep_order);
+    sweep(alloc, &candidates)
+}
+
+/// The rounded successors, to a segment on a rung, of labels of the segment before with their rungs.
+fn successors(
+    alloc: Global,
+    m: &Manifest,
+    clock: &Clock,
+    set: &Setup,
+    ahead: u32,
+    grid: Grid,
+    seg: u16,
+    before: &[(u8, Label)],
+    rung: u8,
+) -> Result<Vec<Label>, AllocError> {
+    let mut made = Vec::with_capacity(alloc, before.len())?;
+    for (old_rung, old) in before {
+        let next = next_from(m, clock, set, ahead, seg, *old_rung, *old, rung);
+        made.push(round_label(grid, next))?;
+    }
+    Ok(made)
+}
+
+/// The coarse frontier of a segment and a rung, from the labels of the segment before.
+fn frontier(
+    alloc: Global,
+    m: &Manifest,
+    clock: &Clock,
+    set: &Setup,
+    ahead: u32,
+    grid: Grid,
+    seg: u16,
+    before: &[(u8, Label)],
+    rung: u8,
+) -> Result<Vec<Label>, AllocError> {
+    if seg == 0 {
+        let start = start_from(m, clock, set, ahead, rung);
+        let mut only = Vec::new(alloc);
+        only.push(round_label(grid, start))?;
+        return Ok(only);
+    }
+    let candidates = successors(alloc, m, clock, set, ahead, grid, seg, before, rung)?;
+    undominated(alloc, candidates)
+}
+
+/// The frontiers of one segment.
+#[derive(Drop)]
+pub struct Layer {
+    /// The labels with their rungs, by rung, then place.
+    pub labels: Vec<(u8, Label)>,
+    /// The chains by rung.
+    pub chains: Vec<Vec<Label>>,
+}
+
+/// The frontiers of a segment, from the labels of the segment before. Its labels may be so many as are left of
+/// the budget.
+fn grown_layer(
+    alloc: Global,
+    m: &Manifest,
+    clock: &Clock,
+    set: &Setup,
+    ahead: u32,
+    grid: Grid,
+    seg: u16,
+    before: &[(u8, Label)],
+    left: u32,
+) -> Result<Layer, PlanErr> {
+    let mut labels = Vec::new(alloc);
+    let mut chains = Vec::new(alloc);
+    for rung in 0..m.rungs() {
+        let chain = frontier(alloc, m, clock, set, ahead, grid, seg, before, rung)?;
+        if chain.len() > left as usize - labels.len() {
+            return Err(PlanErr::BudgetSpent { segment: seg });
+        }
+        for l in &chain {
+            labels.push((rung, *l))?;
+        }
+        chains.push(chain)?;
+    }
+    Ok(Layer { labels, chains })
+}
+
+/// The frontiers of all segments, which may have as many labels as the budget.
+pub fn layers(
+    alloc: Global,
+    m: &Manifest,
+    clock: &Clock,
+    set: &Setup,
+    ahead: u32,
+    grid: Grid,
+    budget: u32,
+) -> Result<Vec<Layer>, PlanErr> {
+    let mut grown: Vec<Layer> = Vec::new(alloc);
+    let mut left = budget;
+    for seg in 0..m.segments() {
+        let next = match grown.last() {
+            Some(before) => grown_layer(
+                alloc,
+                m,
+                clock,
+                set,
+                ahead,
+                grid,
+                seg,
+                &before.labels,
+                left,
+            )?,
+            None => grown_layer(alloc, m, clock, set, ahead, grid, seg, &[], left)?,
+        };
+        left -= next.labels.len() as u32;
+        grown.push(next)?;
+    }
+    Ok(grown)
+}

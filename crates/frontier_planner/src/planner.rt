@@ -1,0 +1,73 @@
+//! The planner.
+
+ghost use Rattle.std.specs.Prelude.{◌≤◌, ◌×◌};
+ghost use Rattle.lab_model.specs.Fit.{SetupFits};
+ghost use Rattle.player_core.specs.Available.{all_ahead};
+ghost use Rattle.frontier_planner.specs.Grid.{IsGrid};
+ghost use Rattle.frontier_planner.specs.Labels.{task_of};
+ghost use Rattle.frontier_planner.specs.Planned.{CoarseAnswer, PlanAnswer};
+
+use crate::grow::layers;
+use crate::label::{Grid, end_value};
+use crate::names::{chains, starts};
+use crate::plan::{CoarsePlan, Plan, PlanErr};
+use crate::read::{best_end, list_value, rungs_to};
+use lab_model::{Manifest, Setup};
+use network_clock::Clock;
+use std::alloc::Global;
+
+/// The plan on a grid, where `ahead` milliseconds of media, at most 120000000, are there at instant 0. The
+/// frontiers may have as many labels as the budget, 1 to 1000000: `BudgetSpent` names the first segment at whose
+/// end they have more.
+pub fn plan_from(
+    alloc: Global,
+    m: &Manifest,
+    clock: &Clock,
+    set: &Setup,
+    ahead: u32,
+    grid: Grid,
+    budget: u32,
+) -> Result<CoarsePlan, PlanErr>
+    requires setup { SetupFits set.now m.now }
+    requires ahead { ahead ≤ 120000000 }
+    requires grid { IsGrid grid }
+    requires budget { (1 ≤ budget) × (budget ≤ 1000000) }
+    ensures { CoarseAnswer grid (task_of m.now clock.now set.now ahead) budget result }
+{
+    let layers = layers(alloc, m, clock, set, ahead, grid, budget)?;
+    let last = m.segments() - 1;
+    let end = best_end(set, &layers[last as usize].labels);
+    let rungs = rungs_to(alloc, m, clock, set, ahead, grid, &layers, last, end)?;
+    let plan = Plan {
+        table: set.weights.rows() != 0,
+        score: list_value(m, clock, set, ahead, &rungs),
+        rungs,
+        labels: layers.iter().map(|layer| layer.labels.len() as u32).sum(),
+        starts: starts(alloc, m, clock, set, ahead, &layers[0].chains)?,
+        chains: chains(alloc, m, clock, set, ahead, &layers)?,
+    };
+    Ok(CoarsePlan {
+        plan,
+        bound: end_value(set, end.1),
+    })
+}
+
+/// So many milliseconds of media ahead that all of a film is there at instant 0.
+const ALL_AHEAD: u32 = 120_000_000;
+
+/// The plan of a film on demand: the best rung list, with its frontiers. They may have as many labels as the
+/// budget, 1 to 1000000: `BudgetSpent` names the first segment at whose end they have more.
+pub fn plan(
+    alloc: Global,
+    m: &Manifest,
+    clock: &Clock,
+    set: &Setup,
+    budget: u32,
+) -> Result<Plan, PlanErr>
+    requires setup { SetupFits set.now m.now }
+    requires budget { (1 ≤ budget) × (budget ≤ 1000000) }
+    ensures { PlanAnswer (task_of m.now clock.now set.now all_ahead) budget result }
+{
+    let exact = Grid { time: 1, value: 1 };
+    Ok(plan_from(alloc, m, clock, set, ALL_AHEAD, exact, budget)?.plan)
+}
