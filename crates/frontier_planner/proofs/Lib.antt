@@ -4,3 +4,5 @@ pub mod Kept
 pub mod Inherits
 pub mod Path
 pub mod Covered
+pub mod Steps
+pub mod Sweep

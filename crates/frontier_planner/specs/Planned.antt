@@ -5,10 +5,10 @@ use Rattle.lab_model.specs.declared.label.Label.{Label}
 use Rattle.lab_model.specs.Film.{rungs_of, segments_of}
 use Rattle.player_core.specs.Value.{live_value_of}
 use Rattle.frontier_planner.specs.declared.label.Grid.{Grid}
-use Rattle.frontier_planner.specs.declared.plan.CoarsePlan.{CoarsePlan}
-use Rattle.frontier_planner.specs.declared.plan.Plan.{Plan}
-use Rattle.frontier_planner.specs.declared.plan.PlanErr.{PlanErr}
-use Rattle.frontier_planner.specs.declared.plan.PlanErr.TheVariants as fault
+use Rattle.frontier_planner.specs.declared.plans.CoarsePlan.{CoarsePlan}
+use Rattle.frontier_planner.specs.declared.plans.Plan.{Plan}
+use Rattle.frontier_planner.specs.declared.plans.PlanErr.{PlanErr}
+use Rattle.frontier_planner.specs.declared.plans.PlanErr.TheVariants as fault
 use Rattle.frontier_planner.specs.Labels.{AreRungs, Task}
 use Rattle.frontier_planner.specs.Near.{IsNear}
 use Rattle.frontier_planner.specs.Frontier.{frontier}

@@ -2,6 +2,8 @@
 
 ghost use Rattle.std.specs.Prelude.{◌≡◌, ℕ, ◌+◌, ◌-◌, ◌*◌, ◌<◌, ◌≤◌, IfOk, List, map, length};
 ghost use Rattle.std.specs.List.{All};
+ghost use Rattle.std.specs.List.Sorted.{IsSortedBy};
+ghost use Rattle.std.specs.Ordering.{is_lt};
 ghost use Rattle.lab_model.specs.Film.{rungs_of, segments_of};
 ghost use Rattle.lab_model.specs.Fit.{SetupFits};
 ghost use Rattle.frontier_planner.specs.Frontier.{undominated};
@@ -12,11 +14,11 @@ ghost use Rattle.frontier_planner.specs.Read.{labels_of};
 ghost use Rattle.frontier_planner.specs.Sweep.{sweep_cmp};
 
 use crate::label::{Grid, next_from, round_label, start_from};
-use crate::plan::PlanErr;
+use crate::plans::PlanErr;
 use crate::staircase::Staircase;
 use lab_model::{Label, Manifest, Setup};
 use network_clock::Clock;
-use std::alloc::{AllocError, AllocFailed, Global};
+use std::alloc::Global;
 use std::cmp::Ordering;
 
 /// The order of the sweep: by finish time, then delay, then falling value.
@@ -27,14 +29,15 @@ fn sweep_order(a: &Label, b: &Label) -> Ordering
 }
 
 /// The labels of a list in the order of the sweep that no earlier one dominates.
-fn sweep(alloc: Global, labels: &[Label]) -> Result<Vec<Label>, AllocError>
+fn sweep(alloc: Global, labels: &[Label]) -> Result<Vec<Label>, PlanErr>
+    requires { IsSortedBy (λ a b. is_lt (sweep_cmp a b)) labels.now }
     ensures { IfOk result (λ v. v.items ≡ undominated labels.now) }
 {
     let mut kept = Vec::new(alloc);
     let mut staircase = Staircase::new(alloc);
     for l in labels {
-        if !staircase.covers(l.p, l.v) {
-            staircase.add(l.p, l.v)?;
+        if !staircase.covers(*l) {
+            staircase.add(*l)?;
             kept.push(*l)?;
         }
     }
@@ -42,11 +45,11 @@ fn sweep(alloc: Global, labels: &[Label]) -> Result<Vec<Label>, AllocError>
 }
 
 /// The distinct labels of a list that no different one dominates, in order.
-fn undominated(alloc: Global, labels: Vec<Label>) -> Result<Vec<Label>, AllocError>
+fn undominated(alloc: Global, labels: Vec<Label>) -> Result<Vec<Label>, PlanErr>
     ensures { IfOk result (λ v. v.items ≡ undominated labels.items) }
 {
     let mut candidates = labels;
-    candidates.sort_unstable_by(sweep_order);
+    candidates.sort_unstable_by(|a, b| sweep_order(a, b));
     sweep(alloc, &candidates)
 }
 
@@ -61,7 +64,7 @@ fn successors(
     seg: u16,
     before: &[(u8, Label)],
     rung: u8,
-) -> Result<Vec<Label>, AllocError> {
+) -> Result<Vec<Label>, PlanErr> {
     let mut made = Vec::with_capacity(alloc, before.len())?;
     for (old_rung, old) in before {
         let next = next_from(m, clock, set, ahead, seg, *old_rung, *old, rung);
@@ -81,7 +84,7 @@ fn frontier(
     seg: u16,
     before: &[(u8, Label)],
     rung: u8,
-) -> Result<Vec<Label>, AllocError> {
+) -> Result<Vec<Label>, PlanErr> {
     if seg == 0 {
         let start = start_from(m, clock, set, ahead, rung);
         let mut only = Vec::new(alloc);

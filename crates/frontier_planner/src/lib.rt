@@ -4,16 +4,16 @@
 mod grow;
 mod label;
 mod names;
-mod plan;
 mod planner;
+mod plans;
 mod read;
 mod staircase;
 
 pub use label::{
     Grid, dominates, end_value, next_from, next_label, round_label, start_from, start_label,
 };
-pub use plan::{Chain, CoarsePlan, Plan, PlanErr};
 pub use planner::{plan, plan_from};
+pub use plans::{Chain, CoarsePlan, Plan, PlanErr};
 
 #[cfg(test)]
 mod tests;

@@ -2,7 +2,7 @@
 
 use crate::grow::Layer;
 use crate::label::{dominates, next_from, start_from};
-use crate::plan::Chain;
+use crate::plans::Chain;
 use lab_model::{Label, Manifest, Setup};
 use network_clock::Clock;
 use std::alloc::{AllocError, AllocFailed, Global};

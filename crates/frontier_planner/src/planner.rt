@@ -1,6 +1,6 @@
 //! The planner.
 
-ghost use Rattle.std.specs.Prelude.{◌≤◌, ◌×◌};
+ghost use Rattle.std.specs.Prelude.{◌≤◌};
 ghost use Rattle.lab_model.specs.Fit.{SetupFits};
 ghost use Rattle.player_core.specs.Available.{all_ahead};
 ghost use Rattle.frontier_planner.specs.Grid.{IsGrid};
@@ -10,7 +10,7 @@ ghost use Rattle.frontier_planner.specs.Planned.{CoarseAnswer, PlanAnswer};
 use crate::grow::layers;
 use crate::label::{Grid, end_value};
 use crate::names::{chains, starts};
-use crate::plan::{CoarsePlan, Plan, PlanErr};
+use crate::plans::{CoarsePlan, Plan, PlanErr};
 use crate::read::{best_end, list_value, rungs_to};
 use lab_model::{Manifest, Setup};
 use network_clock::Clock;

@@ -1,23 +1,15 @@
-//! Staircases: delays and values that were met, of which only those count that no other is as good as.
+//! Staircases: of labels that were met, those that count for delay and value.
 
-ghost use Rattle.std.specs.Prelude.{◌↔◌, ◌≤◌, ◌×◌, ◌⊎◌, ℕ, ℤ, [], ◌≡◌, ◌≤ℤ◌, IfOk, IsTrue};
-ghost use Rattle.frontier_planner.specs.Sweep.{IsUnder};
+ghost use Rattle.std.specs.Prelude.{◌↔◌, ◌≤◌, ◌⊎◌, ℕ, ℤ, [], ◌≡◌, ◌≤ℤ◌, IfOk, IsTrue};
+ghost use Rattle.frontier_planner.specs.Sweep.{HasUnder};
 
-use std::alloc::{AllocError, Global};
+use lab_model::Label;
+use std::alloc::{AllocFailed, Global};
 
-/// A delay and a value.
-#[derive(Clone, Copy, PartialEq, Eq, Debug)]
-pub struct Step {
-    /// The delay, in milliseconds.
-    pub p: u64,
-    /// The value, in thousandths of a point.
-    pub v: i64,
-}
-
-/// The steps, along which delays and values rise.
+/// Labels along which delays and values rise.
 #[derive(Drop)]
 pub struct Staircase {
-    pub steps: Vec<Step>,
+    pub steps: Vec<Label>,
 }
 
 impl Staircase {
@@ -31,19 +23,19 @@ impl Staircase {
     }
 
     /// Whether some step has no greater delay and no less a value.
-    pub fn covers(&self, p: u64, v: i64) -> bool
-        ensures { IsTrue result ↔ IsUnder self.now.steps.items p v }
+    pub fn covers(&self, l: Label) -> bool
+        ensures { IsTrue result ↔ HasUnder self.now.steps.items l.p l.v }
     {
-        self.steps.iter().any(|s| s.p <= p && s.v >= v)
+        self.steps.iter().any(|s| s.p <= l.p && s.v >= l.v)
     }
 
-    /// Adds a step that no other is as good as.
-    pub fn add(&mut self, p: u64, v: i64) -> Result<(), AllocError>
-        ensures { IfOk result (λ _. (q : ℕ) (w : ℤ)
-            → IsUnder self.new.steps.items q w
-            ↔ (IsUnder self.old.steps.items q w ⊎ ((p ≤ q) × (w ≤ℤ v)))) }
+    /// Adds a label as a step.
+    pub fn add(&mut self, l: Label) -> Result<(), AllocFailed<Label>>
+        ensures { IfOk result (λ _. (p : ℕ) (v : ℤ)
+            → HasUnder self.new.steps.items p v
+            ↔ (HasUnder self.old.steps.items p v ⊎ ((l.p ≤ p) × (v ≤ℤ l.v)))) }
     {
-        self.steps.push(Step { p, v })?;
+        self.steps.push(l)?;
         Ok(())
     }
 }
