@@ -6,3 +6,5 @@ pub mod Path
 pub mod Covered
 pub mod Steps
 pub mod Sweep
+pub mod Rounds
+pub mod Grown

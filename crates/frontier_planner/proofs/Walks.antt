@@ -1,10 +1,12 @@
 -- What stands in mapped, joined and filtered lists, and among the rungs below a number.
-use Rattle.std.proofs.Common.{◌≡◌, ◌∙◌, ℕ, zero, suc, ◌+◌, ◌<◌, ◌≤◌, ◌⊎◌, inl, inr, ⊎_elim, List, [], ◌∷◌, ◌++◌, map, Bool, true, refl, sym, ap, subst, arith, add-one}
-use Rattle.std.specs.List.{Contains, filter, flat_map}
-use Rattle.std.proofs.lemmas.Bool.{cases_lt, cond_both, cond-true}
+use Rattle.std.proofs.Common.{◌≡◌, ◌∙◌, ℕ, zero, suc, ◌+◌, ◌<◌, ◌≤◌, ◌⊎◌, inl, inr, ⊎_elim, List, [], ◌∷◌, ◌++◌, map, Bool, true, false, Some, refl, sym, ap, subst, arith, add-one}
+use Rattle.std.specs.List.{Contains, filter, find, flat_map}
+use Rattle.std.proofs.lemmas.Bool.{cases_Bool, cases_lt, cond_both, cond-false, cond-true, false≢true}
 use Rattle.std.proofs.lemmas.List.Elements.{Contains-append_cases, Contains-append_left, Contains-append_right, Contains-push, Contains-push_cases}
+use Rattle.lab_model.specs.declared.label.Label.{Label}
 use Rattle.lab_model.specs.Choice.{rungs_below}
 use Rattle.lab_model.proofs.Rungs.{rungs_more, rungs_none}
+use Rattle.frontier_planner.specs.Frontier.{by_rung}
 
 module _ {X : Type 0} where
   -- an empty list has nothing
@@ -82,3 +84,47 @@ from_rungs zero q h = absurd (none_at q (subst (λ qs. Contains qs q) rungs_none
 from_rungs (suc n) q h =
     let more = ap rungs_below (sym (add-one n)) ∙ rungs_more n in
     ⊎_elim (λ before. let low = from_rungs n q before in omega (arith, low)) (λ (e : n ≡ q). omega (arith, e)) (Contains-push_cases (rungs_below n) n q (subst (λ qs. Contains qs q) more h))
+
+-- ---- the labels of a segment, by rung, then place
+
+module _ (n : ℕ) (chain : ℕ → List Label) where
+  -- a label of a rung's chain stands there with its rung
+  pub in_by_rung : (q : ℕ) (l : Label) → q < n → Contains (chain q) l → Contains (by_rung n chain) (q, l)
+  in_by_rung q l low h = in_flat_map (λ r. map (λ m. (r, m)) (chain r)) (rungs_below n) q (q, l) (in_rungs n q low) (in_map (λ m. (q, m)) (chain q) l h)
+
+  -- and nothing else does
+  pub from_by_rung : (c : ℕ × Label) → Contains (by_rung n chain) c → (c.0 < n) × Contains (chain c.0) c.1
+  from_by_rung c h =
+      let one = from_flat_map (λ r. map (λ m. (r, m)) (chain r)) (rungs_below n) c h in
+      let two = from_map (λ m. (one.0, m)) (chain one.0) c one.2 in
+      subst (λ (x : ℕ × Label). (x.0 < n) × Contains (chain x.0) x.1) two.2 (from_rungs n one.0 one.1, two.1)
+
+-- ---- the first element that passes
+
+module _ {X : Type 0} where
+  -- where one passes, the first that does is found
+  pub find_found : (p : X → Bool) (xs : List X) (x : X) → Contains xs x → p x ≡ true → (y : X) × (find p xs ≡ Some y) × Contains xs y × (p y ≡ true)
+  find_found p [] x h passes = absurd (none_at x h)
+  find_found p (y ∷ ys) x h passes =
+      ⊎_elim (λ (yes : p y ≡ true). (y, cond-true (p y) (Some y) (find p ys) yes, at_head y ys, yes))
+      (λ (no : p y ≡ false).
+      ⊎_elim (λ (e : y ≡ x). absurd (false≢true (sym no ∙ ap p e ∙ passes)))
+      (λ rest. let r = find_found p ys x rest passes in (r.0, cond-false (p y) (Some y) (find p ys) no ∙ r.1, at_tail y ys r.0 r.2, r.3)) (first_or_rest y ys x h))
+      (cases_Bool (p y))
+
+-- functions that agree on the elements give the same lists
+module _ {X Y : Type 0} where
+  pub map_same : (f h : X → Y) (xs : List X) → ((x : X) → Contains xs x → f x ≡ h x) → map f xs ≡ map h xs
+  map_same f h [] same = refl
+  map_same f h (x ∷ xs) same =
+      ap (λ y. y ∷ map f xs) (same x (at_head x xs)) ∙ ap (λ ys. h x ∷ ys) (map_same f h xs (λ z there. same z (at_tail x xs z there)))
+
+  pub flat_map_same : (f h : X → List Y) (xs : List X) → ((x : X) → Contains xs x → f x ≡ h x) → flat_map f xs ≡ flat_map h xs
+  flat_map_same f h [] same = refl
+  flat_map_same f h (x ∷ xs) same =
+      ap (λ ys. ys ++ flat_map f xs) (same x (at_head x xs)) ∙ ap (λ ys. h x ++ ys) (flat_map_same f h xs (λ z there. same z (at_tail x xs z there)))
+
+-- chains that agree on the rungs below a number have the same labels there
+pub by_rung_same : (n : ℕ) (a b : ℕ → List Label) → ((q : ℕ) → q < n → a q ≡ b q) → by_rung n a ≡ by_rung n b
+by_rung_same n a b same =
+    flat_map_same (λ q. map (λ l. (q, l)) (a q)) (λ q. map (λ l. (q, l)) (b q)) (rungs_below n) (λ q there. ap (λ ls. map (λ l. (q, l)) ls) (same q (from_rungs n q there)))

@@ -1,0 +1,42 @@
+-- Rounding: the rounded label dominates the label, and is near it; on the grid 1, 1 it is the label.
+use Rattle.std.proofs.Common.{◌≡◌, ◌∙◌, ℕ, suc, ◌+◌, ◌-◌, ◌*◌, ◌/◌, ◌%◌, ◌<◌, ◌≤◌, refl, ap, arith}
+use Rattle.std.specs.Prelude.{ℤ, pos, negsuc, neg_ℤ, ◌+ℤ◌, ◌-ℤ◌, ◌≤ℤ◌}
+use Rattle.std.proofs.Math.Nat.{div-one, div-mul-le_self}
+use Rattle.std.proofs.lemmas.Nat.{div-add-mod'}
+use Rattle.std.proofs.lemmas.Int.{ints}
+use Rattle.std.proofs.lemmas.Grind.{div_ceil_times}
+use Rattle.std.specs.Int.{div_ceil}
+use Rattle.lab_model.specs.declared.label.Label.{Label}
+use Rattle.frontier_planner.specs.declared.label.Grid.{Grid}
+use Rattle.frontier_planner.specs.Labels.{Dominates}
+use Rattle.frontier_planner.specs.Grid.{IsGrid, exact, multiple_above, multiple_below, rounded}
+
+-- a multiple below is no greater, and a multiple of 1 is the number
+pub below_low : (step n : ℕ) → 1 ≤ step → multiple_below step n ≤ n
+below_low step n some = omega arith
+
+pub below_one : (n : ℕ) → multiple_below 1 n ≡ n
+below_one n = omega arith
+
+-- a multiple above is no less, and less than a step away
+pub above_high : (step : ℕ) (v : ℤ) → 1 ≤ step → (v ≤ℤ multiple_above step v) × (multiple_above step v ≤ℤ (v +ℤ pos step))
+above_high step (pos n) some = let t = div_ceil_times n step some in (omega (arith, ints, t.0), omega (arith, ints, t.1))
+above_high step (negsuc n) some = let low : multiple_below step (suc n) ≤ suc n = omega arith in let near : suc n ≤ multiple_below step (suc n) + step = omega arith in (omega (arith, ints, low), omega (arith, ints, near))
+
+pub above_one : (v : ℤ) → multiple_above 1 v ≡ v
+above_one (pos n) = let t = div_ceil_times n 1 (omega arith) in let low = t.0 in let high = t.1 in ap pos (omega (arith, low, high))
+above_one (negsuc n) = let e = below_one (suc n) in ap (λ m. neg_ℤ (pos m)) e
+
+-- the rounded label dominates the label
+pub round_dominates : (d : Grid) → IsGrid d → (l : Label) → Dominates (rounded d l) l
+round_dominates d is l = let time = is.time.0 in let value = is.value.0 in (below_low d.time l.t time, below_low d.time l.p time, (above_high d.value l.v value).0)
+
+-- on the grid 1, 1 nothing changes
+pub round_exact : (l : Label) → rounded exact l ≡ l
+round_exact l =
+    ap (λ (n : ℕ). record { t = n; p = multiple_below 1 l.p; v = multiple_above 1 l.v }) (below_one l.t) ∙ ap (λ (n : ℕ). record { t = l.t; p = n; v = multiple_above 1 l.v }) (below_one l.p)
+    ∙ ap (λ (n : ℤ). record { t = l.t; p = l.p; v = n }) (above_one l.v)
+
+-- it is a grid
+pub exact_fits : IsGrid exact
+exact_fits = record { time = (omega arith, omega arith); value = (omega arith, omega arith) }
