@@ -2,7 +2,7 @@
 use Rattle.std.specs.Prelude.{ℕ, ◌+◌, ◌-◌, ◌*◌, ◌%◌, ◌==◌, ◌&&◌, Bool, nat_le, nat_lt, Option, Some, None, if◌then◌else◌}
 use Rattle.lab_model.specs.Film.{Film, bitrate_of, rungs_of, size_of}
 use Rattle.lab_model.specs.Rates.{rate_of}
-use Rattle.lab_model.specs.Choice.{greatest_rung}
+use Rattle.lab_model.specs.Ladder.{greatest_rung}
 use Rattle.abandonment.specs.declared.Progress.{Progress}
 
 -- the rate at which the download runs, in bits per second

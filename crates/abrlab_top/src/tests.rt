@@ -103,7 +103,7 @@ fn ran_over(
     files: Vec<(String, Vec<u8>)>,
     failing: Faults,
 ) -> Result<Answer, Fail> {
-    let mut shelf = MemShelf::new(files, Vec::from_slice(alloc, failing.fetches)?);
+    let mut shelf = MemShelf::new(alloc, files, Vec::from_slice(alloc, failing.fetches)?);
     let mut out = MemSink::new(alloc, Vec::from_slice(alloc, failing.puts)?);
     let mut err = MemSink::new(alloc, Vec::from_slice(alloc, failing.notes)?);
     let status = run(alloc, &words(alloc, line)?, &mut shelf, &mut out, &mut err);

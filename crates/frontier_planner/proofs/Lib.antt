@@ -8,3 +8,9 @@ pub mod Steps
 pub mod Sweep
 pub mod Rounds
 pub mod Grown
+pub mod AlongSums
+pub mod Along
+pub mod AlongPasses
+pub mod AlongEnds
+pub mod LabelValues
+pub mod LabelsAreValues

@@ -9,3 +9,5 @@ pub mod Covers
 pub mod Valid
 pub mod Sweep
 pub mod Planned
+pub mod Along
+pub mod ValueLaw

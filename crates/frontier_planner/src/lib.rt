@@ -8,12 +8,14 @@ mod planner;
 mod plans;
 mod read;
 mod staircase;
+mod values;
 
 pub use label::{
     Grid, dominates, end_value, next_from, next_label, round_label, start_from, start_label,
 };
 pub use planner::{plan, plan_from};
 pub use plans::{Chain, CoarsePlan, Plan, PlanErr};
+pub use values::labels_are_values;
 
 #[cfg(test)]
 mod tests;

@@ -33,13 +33,13 @@ answered_cut a b t s put.Memory q = (part_cut a.written b.written t s q.0, q.1)
 pub puts_more : (a b c : Seen) (t s : Text) (r q : Result (Unit {0}) PutErr) (u : Unit {0}) → r ≡ Ok u → Puts a t b r → Puts b s c q → Puts a (t ++ s) c q
 puts_more a b c t s r q u e x y =
     let xx = rw e at x in
-    record { faults = omega arith; wants = omega arith; answered = answered_more a b c t s q x.faults x.wants xx.answered y.answered }
+    record { faults = omega arith; wants = omega arith; sure = y.sure ∙ x.sure; steady = λ h. y.steady (x.sure ∙ h) ∙ x.steady h; answered = answered_more a b c t s q x.faults x.wants xx.answered y.answered }
 
 -- a text that failed, where more was to come
 pub puts_cut : (a b : Seen) (t s : Text) (r q : Result (Unit {0}) PutErr) (e : PutErr) → r ≡ Err e → q ≡ Err e → Puts a t b r → Puts a (t ++ s) b q
 puts_cut a b t s r q e h k x =
     let xx = rw h at x in
-    record { faults = x.faults; wants = x.wants; answered = rw k (answered_cut a b t s e xx.answered) }
+    record { faults = x.faults; wants = x.wants; sure = x.sure; steady = x.steady; answered = rw k (answered_cut a b t s e xx.answered) }
 
 -- the same, of an answer that is known by what it holds, as at the exit of a `?`
 pub puts_failed : (a b : Seen) (t s : Text) (r q : Result (Unit {0}) PutErr) (e : PutErr) → r ≡ Err e → IsErrAnd q (λ y. y ≡ e) → Puts a t b r → Puts a (t ++ s) b q
@@ -51,7 +51,7 @@ same_written (Some w) = ap Some (sym (append-nil w))
 
 -- nothing was put
 pub puts_none : (a : Seen) (q : Result (Unit {0}) PutErr) → q ≡ Ok tt → Puts a [] a q
-puts_none a q e = record { faults = omega arith; wants = omega arith; answered = rw e (same_written a.written) }
+puts_none a q e = record { faults = omega arith; wants = omega arith; sure = refl; steady = λ h. refl; answered = rw e (same_written a.written) }
 
 -- the same text in another form
 pub puts_as : (a b : Seen) (t s : Text) (r : Result (Unit {0}) PutErr) → t ≡ s → Puts a t b r → Puts a s b r

@@ -1,11 +1,11 @@
 //! Real files and streams. What they hold is not told; their failures are counted.
-ghost use Rattle.std.specs.Prelude.{◌≡◌, ◌≤◌, [], ℕ, List, length, IsOk, IsErrOf, IfOk, IfErr, is_err, if◌then◌else◌};
-ghost use Rattle.lab_io.specs.Edge.{file_shelved, stream_seen};
-ghost use Rattle.lab_io.specs.Memory.{one_more};
-ghost use Rattle.lab_io.specs.Shelf.{Fetched, fetched_as};
+ghost use Rattle.std.specs.Prelude.{◌≡◌, ◌≤◌, [], ℕ, length, IsOk, IsErrOf, IfOk, IfErr, is_err, if◌then◌else◌};
+ghost use Rattle.lab_io.specs.Edge.{FileCalls, file_shelved, stream_seen};
+ghost use Rattle.lab_io.specs.Memory.{one_more, told_calls};
+ghost use Rattle.lab_io.specs.Shelf.{Fetches, fetched_as};
 ghost use Rattle.lab_io.specs.Sink.{Puts};
 
-use crate::memory::raised;
+use crate::memory::{note_call, raised};
 use crate::{FetchErr, PutErr, Shelf, Sink};
 use std::alloc::Global;
 use std::io::{Read, Write};
@@ -13,25 +13,31 @@ use std::marker::Model;
 use std::rt::Files;
 use std::{fs, io};
 
-/// The files of a runtime. It counts the calls that answered an `Err`; this is its count of every name.
+/// The files of a runtime. It counts the calls that answered an `Err`; this is its count of every name, and no name
+/// is sure.
 #[derive(Drop)]
 pub struct FileShelf<'r, R: Files> {
     rt: &'r R,
     failures: u64,
+    asked: Vec<(String, u64)>,
 }
 
 impl<'r, R: Files> Model for FileShelf<'r, R> {
-    ghost Value = { ℕ };
+    ghost Value = { FileCalls };
 
-    ghost view = { λ s. s.failures };
+    ghost view = { λ s. record { failures = s.failures; asked = told_calls s.asked.items } };
 }
 
 impl<'r, R: Files> FileShelf<'r, R> {
     /// The files that `rt` reaches, with no failure yet. It takes no memory.
-    pub fn new(rt: &'r R) -> FileShelf<'r, R>
-        ensures { result ≡ 0 }
+    pub fn new(alloc: Global, rt: &'r R) -> FileShelf<'r, R>
+        ensures { result ≡ record { failures = 0; asked = [] } }
     {
-        FileShelf { rt, failures: 0 }
+        FileShelf {
+            rt,
+            failures: 0,
+            asked: Vec::new(alloc),
+        }
     }
 }
 
@@ -67,12 +73,14 @@ impl<'r, R: Files> Shelf for FileShelf<'r, R> {
 
     /// The count rises exactly at an `Err`, whichever it is.
     fn fetch(&mut self, alloc: Global, name: &str, most: u64) -> Result<Vec<u8>, FetchErr>
-        ensures files { (file_shelved self.new).files ≡ (file_shelved self.old).files }
-        ensures faults { (other : List ℕ) → (file_shelved self.old).faults other ≤ (file_shelved self.new).faults other }
-        ensures fetched { Fetched (file_shelved self.old) name.now most (file_shelved self.new) (fetched_as result) }
-        ensures counts { self.new ≡ (if is_err result then one_more self.old else self.old) }
+        ensures fetches { Fetches (file_shelved self.old) name.now most (file_shelved self.new) (fetched_as result) }
+        ensures counts { self.new.failures ≡ (if is_err result then one_more self.old.failures else self.old.failures) }
     {
-        let answer = read_first(self.rt, alloc, name, most);
+        let answer = if note_call(alloc, &mut self.asked, name, most) {
+            read_first(self.rt, alloc, name, most)
+        } else {
+            Err(FetchErr::Memory)
+        };
         self.failures = counted(self.failures, answer.is_err());
         answer
     }
@@ -145,7 +153,7 @@ mod tests {
 
     #[test]
     fn a_file_that_is_lacking(rt: HostRuntime) -> Result<(), Fail> {
-        let mut shelf = FileShelf::new(&rt);
+        let mut shelf = FileShelf::new(rt.alloc(), &rt);
         let file = shelf.fetch(rt.alloc(), "no/such/file", 10);
         assert!(rt; matches!(file, Err(FetchErr::Failed)));
         assert_eq!(rt; shelf.failures, 1);

@@ -1,8 +1,8 @@
 //! Where files come from and where text goes, each with the causes of its failures.
 #![tactic(auto)]
 
-ghost use Rattle.std.specs.Prelude.{◌≡◌, ◌≤◌, [], ℕ, List, IsOk, IsErrOf};
-ghost use Rattle.lab_io.specs.Shelf.{Fetched, Shelved, fetched_as};
+ghost use Rattle.std.specs.Prelude.{◌≡◌, [], IsOk, IsErrOf};
+ghost use Rattle.lab_io.specs.Shelf.{Fetches, Shelved, fetched_as};
 ghost use Rattle.lab_io.specs.Sink.{Puts, Seen};
 
 mod edge;
@@ -27,18 +27,18 @@ pub enum FetchErr {
 
 /// Where files come from.
 pub trait Shelf {
-    /// The files, where the shelf tells them, and for each name a count of faults.
+    /// The files, where the shelf tells them; for each name a count of faults, and whether it is sure, which says
+    /// that its count never rises; and the names and limits that were asked for, in order.
     ghost shelved: { Self → Shelved };
 
     /// The first `most` bytes of the file of this name, all of it where it is shorter.
     ///
-    /// No call changes the files, and no count of faults falls. `Failed` comes only where the count of this
-    /// name rose in this call: it is then greater than before, or stands at the last value of a `u64`.
-    /// A name that told files lack is a failure.
+    /// No call changes the files or what is sure, and no count of faults falls; that of a sure name stays.
+    /// `Failed` comes only where the count of this name rose in this call: it is then greater than before, or
+    /// stands at the last value of a `u64`. A name that told files lack is a failure. What was asked for grows by
+    /// this name and limit, but may stay as it was after `Memory`.
     fn fetch(&mut self, alloc: Global, name: &str, most: u64) -> Result<Vec<u8>, FetchErr>
-        ensures files { (shelved self.new).files ≡ (shelved self.old).files }
-        ensures faults { (other : List ℕ) → (shelved self.old).faults other ≤ (shelved self.new).faults other }
-        ensures fetched { Fetched (shelved self.old) name.now most (shelved self.new) (fetched_as result) };
+        ensures { Fetches (shelved self.old) name.now most (shelved self.new) (fetched_as result) };
 }
 
 /// Why a piece was not taken.
@@ -52,14 +52,16 @@ pub enum PutErr {
 
 /// Where text goes.
 pub trait Sink {
-    /// The bytes written, where the sink tells them, and its counts of faults and of wants of memory.
+    /// The bytes written, where the sink tells them, its counts of faults and of wants of memory, and whether it
+    /// is sure, which says that its count of faults never rises.
     ghost seen: { Self → Seen };
 
     /// Puts a piece at the end of what was written.
     ///
     /// After `Ok` all of it stands there. After `Failed` a prefix of it does, and the count of faults rose.
     /// After `Memory` nothing of it does, and the count of wants rose. A count that rose is greater than before,
-    /// or stands at the last value of a `u64`; none falls. An empty piece always gives `Ok`.
+    /// or stands at the last value of a `u64`; none falls. No call changes whether the sink is sure, and the count
+    /// of faults of a sure one stays. An empty piece always gives `Ok`.
     fn put(&mut self, bytes: &[u8]) -> Result<(), PutErr>
         ensures puts { Puts (seen self.old) bytes.now (seen self.new) result }
         ensures memory { IsErrOf result PutErr.Memory → (seen self.new).written ≡ (seen self.old).written }

@@ -1,7 +1,7 @@
 //! A shelf and sinks in memory, with failures that are known beforehand.
-ghost use Rattle.std.specs.Prelude.{◌≡◌, ◌≤◌, ◌↔◌, [], ◌++◌, ℕ, List, true, if◌then◌else◌, option_map, take, IfErr, IfOk, IsErrOf, IsOk};
-ghost use Rattle.lab_io.specs.Memory.{MemFiles, MemPuts, MemText, SurePuts, SureText, after_fetch, fetch_fails, file_of, is_failing, mem_seen, mem_shelved, one_more, sure_seen, told_files};
-ghost use Rattle.lab_io.specs.Shelf.{Fetched, fetched_as};
+ghost use Rattle.std.specs.Prelude.{◌≡◌, ◌↔◌, [], ◌++◌, ◌∷◌, true, if◌then◌else◌, option_map, take, IfErr, IfOk, IsErrOf, IsOk, IsTrue};
+ghost use Rattle.lab_io.specs.Memory.{MemFetches, MemFiles, MemPuts, MemText, SurePuts, SureText, file_of, is_failing, mem_seen, mem_shelved, one_more, sure_seen, told_calls, told_files};
+ghost use Rattle.lab_io.specs.Shelf.{Fetches, fetched_as};
 ghost use Rattle.lab_io.specs.Sink.{Puts};
 
 use crate::{FetchErr, PutErr, Shelf, Sink};
@@ -29,12 +29,13 @@ pub struct MemShelf {
     calls: u64,
     failed: u64,
     lacking: u64,
+    asked: Vec<(String, u64)>,
 }
 
 impl Model for MemShelf {
     ghost Value = { MemFiles };
 
-    ghost view = { λ s. record { files = told_files s.files.items; failing = s.failing.items; calls = s.calls; failed = s.failed; lacking = s.lacking } };
+    ghost view = { λ s. record { files = told_files s.files.items; failing = s.failing.items; calls = s.calls; failed = s.failed; lacking = s.lacking; asked = told_calls s.asked.items } };
 }
 
 // The file of this name.
@@ -58,11 +59,26 @@ fn first_bytes(alloc: Global, file: &[u8], most: u64) -> Result<Vec<u8>, FetchEr
     Vec::from_slice(alloc, &file[..kept]).map_err(|_| FetchErr::Memory)
 }
 
+// Whether memory sufficed for the name and the limit, which then stand at the end.
+pub(crate) fn note_call(
+    alloc: Global,
+    asked: &mut Vec<(String, u64)>,
+    name: &str,
+    most: u64,
+) -> bool
+    ensures { told_calls asked.new.items ≡ (if result then told_calls asked.old.items ++ (name.now, most) ∷ [] else told_calls asked.old.items) }
+{
+    let Ok(name) = String::from_str(alloc, name) else {
+        return false;
+    };
+    asked.push((name, most)).is_ok()
+}
+
 impl MemShelf {
     /// A shelf with these files, each with its name, whose calls with a number in `failing` fail.
     /// Where a name stands twice, its first file counts. It takes no memory.
-    pub fn new(files: Vec<(String, Vec<u8>)>, failing: Vec<u64>) -> MemShelf
-        ensures { result ≡ record { files = told_files files.items; failing = failing.items; calls = 0; failed = 0; lacking = 0 } }
+    pub fn new(alloc: Global, files: Vec<(String, Vec<u8>)>, failing: Vec<u64>) -> MemShelf
+        ensures { result ≡ record { files = told_files files.items; failing = failing.items; calls = 0; failed = 0; lacking = 0; asked = [] } }
     {
         MemShelf {
             files,
@@ -70,6 +86,7 @@ impl MemShelf {
             calls: 0,
             failed: 0,
             lacking: 0,
+            asked: Vec::new(alloc),
         }
     }
 }
@@ -78,17 +95,19 @@ impl Shelf for MemShelf {
     ghost shelved = { mem_shelved };
 
     /// It fails exactly where the number of the call stands in `failing` or the name is lacking; else it answers
-    /// the bytes, or that memory was lacking.
+    /// the bytes. Or it answers that memory was lacking: for what it was asked, and then all is as before and the
+    /// call has no number, or for the bytes of a call that doesn't fail.
     ///
     /// The count of a name that it holds is the number of calls so far whose number stood in `failing`. To that of
-    /// a name that it lacks all other calls for such names are added.
+    /// a name that it lacks all other calls for such names are added. Where `failing` is empty it is sure of just
+    /// the names that it holds, else of none.
     fn fetch(&mut self, alloc: Global, name: &str, most: u64) -> Result<Vec<u8>, FetchErr>
-        ensures files { (mem_shelved self.new).files ≡ (mem_shelved self.old).files }
-        ensures faults { (other : List ℕ) → (mem_shelved self.old).faults other ≤ (mem_shelved self.new).faults other }
-        ensures fetched { Fetched (mem_shelved self.old) name.now most (mem_shelved self.new) (fetched_as result) }
-        ensures after { self.new ≡ after_fetch self.old name.now }
-        ensures fails { IsErrOf result FetchErr.Failed ↔ fetch_fails self.old name.now ≡ true }
+        ensures fetches { Fetches (mem_shelved self.old) name.now most (mem_shelved self.new) (fetched_as result) }
+        ensures exact { MemFetches self.old name.now most self.new (fetched_as result) }
     {
+        if !note_call(alloc, &mut self.asked, name, most) {
+            return Err(FetchErr::Memory);
+        }
         self.calls = raised(self.calls);
         if stands_in(&self.failing, self.calls) {
             self.failed = raised(self.failed);
@@ -110,7 +129,7 @@ fn append(written: &mut Vec<u8>, bytes: &[u8]) -> bool
 }
 
 /// What was written, in memory. Each call of `put` has a number, from 1 on, and fails where that number was named
-/// beforehand and the piece is not empty.
+/// beforehand and the piece is not empty. It is sure where none was named.
 #[derive(Drop)]
 pub struct MemSink {
     written: Vec<u8>,
@@ -182,7 +201,7 @@ impl Sink for MemSink {
     }
 }
 
-/// What was written, in memory. No call of it fails, but for want of memory.
+/// What was written, in memory. No call of it fails, but for want of memory, so it is sure.
 #[derive(Drop)]
 pub struct SureSink {
     written: Vec<u8>,

@@ -16,7 +16,7 @@ fn text(file: &Result<Vec<u8>, FetchErr>) -> Result<&[u8], FetchErr> {
 fn files_in_memory(rt: HostRuntime) -> Result<(), Fail> {
     let alloc = rt.alloc();
     let files = vec![in alloc; (String::from_str(alloc, "film")?, b"hello".to_vec(alloc)?)]?;
-    let mut shelf = MemShelf::new(files, vec![in alloc; 2u64]?);
+    let mut shelf = MemShelf::new(alloc, files, vec![in alloc; 2u64]?);
     let calls = [
         ("film", 3, Ok(b"hel".as_slice())),
         ("film", 3, Err(FetchErr::Failed)),

@@ -4,6 +4,7 @@ use Rattle.std.specs.List.{All, fold, flat_map, position_or_len}
 use Rattle.std.specs.Option.{unwrap_or}
 use Rattle.std.specs.Prelude.{ℤ, int_lt, min, map, slice_index}
 use Rattle.std.proofs.lemmas.Bool.{cond_both, ltb-true}
+use Rattle.std.proofs.lemmas.List.FromFn.{length-range_with_len, get_or-range_with_len}
 use Rattle.std.proofs.lemmas.List.Elements.{All-nil, All-cons, All-head, All-tail, All-append, All-map}
 use Rattle.lab_model.specs.declared.setup.Setup.{Setup}
 use Rattle.lab_model.specs.declared.context.Context.{Context}
@@ -11,8 +12,11 @@ use Rattle.lab_model.specs.Film.{Film, IsFilm, rungs_of, segments_of}
 use Rattle.lab_model.specs.Rules.{RuleKind, KindFits, fixed, listed, throughput, bola, mpc}
 use Rattle.lab_model.specs.Rates.{robust_rate}
 use Rattle.lab_model.specs.Horizon.{horizon_score}
-use Rattle.lab_model.specs.Choice.{best_of, choice, greatest_rung, least_rung, lists_of, rungs_below, throughput_choice, mpc_choice}
-use Rattle.lab_model.proofs.Rungs.{greatest_none, greatest_more, rungs_none, rungs_more}
+use Rattle.lab_model.specs.Ladder.{greatest_rung, least_rung, rungs_below}
+use Rattle.lab_model.specs.Throughput.{throughput_choice}
+use Rattle.lab_model.specs.Mpc.{best_list, lists_of, mpc_choice}
+use Rattle.lab_model.specs.Choice.{choice}
+use Rattle.lab_model.proofs.Rungs.{greatest_none, greatest_more}
 
 -- ---- the greatest and the least rung that pass a test
 
@@ -27,25 +31,17 @@ greatest_low passes (suc n) =
 pub greatest_fits : (passes : ℕ → Bool) (rungs : ℕ) → 0 < rungs → greatest_rung passes rungs < rungs
 greatest_fits passes rungs some = let low = greatest_low passes rungs in omega (arith, low)
 
-rungs_length : (n : ℕ) → length (rungs_below n) ≡ n
-rungs_length zero = ap length rungs_none
-rungs_length (suc n) =
-    let e = ap (λ m. length (rungs_below m)) (sym (add-one n)) ∙ ap length (rungs_more n) in
-    let more = length-append (rungs_below n) (n ∷ []) in
-    let before = rungs_length n in
-    omega (arith, e, more, before)
-
 all_below : (n : ℕ) → All (λ q. q < n) (rungs_below n)
-unfolding rungs_below
-all_below zero = All-nil (λ q. q < 0)
-all_below (suc n) =
-    All-append (λ q. q < suc n) (rungs_below n) (n ∷ []) (λ k d h. let low = all_below n k d h in omega (arith, low))
-    (All-cons (λ q. q < suc n) n [] (omega arith) (All-nil (λ q. q < suc n)))
+all_below n k d low =
+    let few = length-range_with_len 0 n in
+    let here : k < n = omega (arith, few, low) in
+    let e = get_or-range_with_len 0 n k d here in
+    omega (arith, e, here)
 
 pub least_fits : (passes : ℕ → Bool) (rungs : ℕ) → 0 < rungs → least_rung passes rungs < rungs
 least_fits passes rungs some =
     let place = position_or_len passes (rungs_below rungs) in
-    let all = rungs_length rungs in
+    let all = length-range_with_len 0 rungs in
     cond_both (ltb place (length (rungs_below rungs))) (Some place) None (λ o. unwrap_or o 0 < rungs)
     (λ e. let low = ltb-true place (length (rungs_below rungs)) e in omega (arith, low, all)) (λ e. some)
 
@@ -57,7 +53,7 @@ best_keeps P score best (l ∷ ls) h all =
     best_keeps P score (cond (int_lt (score best) (score l)) l best) ls
     (cond_both (int_lt (score best) (score l)) l best P (λ e. All-head P l ls all) (λ e. h)) (All-tail P l ls all)
 
-best_fits : (P : List ℕ → Type 0) (score : List ℕ → ℤ) (lists : List (List ℕ)) → P [] → All P lists → P (best_of score lists)
+best_fits : (P : List ℕ → Type 0) (score : List ℕ → ℤ) (lists : List (List ℕ)) → P [] → All P lists → P (best_list score lists)
 best_fits P score [] h all = h
 best_fits P score (l ∷ ls) h all = best_keeps P score l ls (All-head P l ls all) (All-tail P l ls all)
 

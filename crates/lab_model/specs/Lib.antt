@@ -1,10 +1,16 @@
+pub mod Number
 pub mod Film
 pub mod Cycle
 pub mod Weighing
+pub mod Row
 pub mod Fit
 pub mod Rates
+pub mod Sums
+pub mod Ladder
 pub mod Rules
+pub mod Throughput
+pub mod Bola
 pub mod Horizon
+pub mod Mpc
 pub mod Choice
-pub mod Row
 pub mod Reading

@@ -1,9 +1,9 @@
 -- Samples: the rate of a download, and what is made of a history of rates.
 use Rattle.std.specs.Prelude.{ℕ, ◌+◌, ◌-◌, ◌*◌, ◌/◌, List, [], ◌∷◌, ◌++◌, length, drop, max}
+use Rattle.std.specs.Int.{abs_diff}
 use Rattle.std.specs.List.{fold, sum_by}
-use Rattle.lab_model.specs.Weighing.{gap}
 
--- the sample of a download in bits per second: what came, over the milliseconds from the first one spent on bits
+-- the sample of a download in bits per second, at least 1: the bits that came, over the milliseconds from the first one spent on bits
 abbrev pub rate_of : ℕ → ℕ → ℕ
 rate_of got bit_ms = max 1 (1000 * got / bit_ms)
 
@@ -11,13 +11,17 @@ rate_of got bit_ms = max 1 (1000 * got / bit_ms)
 abbrev pub last_of : ℕ → List ℕ → List ℕ
 last_of n xs = drop (length xs - n) xs
 
--- the harmonic value of rates, in fixed point
+-- the inverse of a rate, in fixed point
+abbrev pub inverse_of : ℕ → ℕ
+inverse_of c = 1000000000000 / c
+
+-- the harmonic value of rates, in fixed point: their number over the sum of their inverses, 0 without rates
 abbrev pub harmonic_of : List ℕ → ℕ
-harmonic_of rates = length rates * 1000000000000 / sum_by (λ c. 1000000000000 / c) rates
+harmonic_of rates = length rates * 1000000000000 / sum_by inverse_of rates
 
 -- the error, in thousandths, of foretelling a sample by the harmonic value of the at most 5 samples before it
 abbrev pub error_after : List ℕ → ℕ → ℕ
-error_after before c = 1000 * gap (harmonic_of (last_of 5 before)) c / c
+error_after before c = 1000 * abs_diff (harmonic_of (last_of 5 before)) c / c
 
 -- the errors of samples that come after others, in order
 abbrev pub errors_from : List ℕ → List ℕ → List ℕ

@@ -1,5 +1,6 @@
 -- How a session is weighed: utilities by segment and rung, and three weights.
 use Rattle.std.specs.Prelude.{◌≡◌, ℕ, ◌+◌, ◌-◌, ◌*◌, ◌≤◌, ◌<◌, ◌==◌, List, length, slice_index, max, Option, Some, None, if◌then◌else◌}
+use Rattle.std.specs.Int.{abs_diff}
 use Rattle.std.specs.List.{All}
 use Rattle.lab_model.specs.Film.{IsWithin}
 
@@ -29,14 +30,10 @@ utility_of w segment rung = slice_index w.utilities (row_start w segment + rung)
 abbrev pub HasUtility : Weighing → ℕ → ℕ → Type 0
 HasUtility w segment rung = (rung < w.count) × (0 < w.rows → segment < w.rows)
 
--- how far apart two numbers are
-abbrev pub gap : ℕ → ℕ → ℕ
-gap a b = (a - b) + (b - a)
-
--- what a change from the rung before weighs, by the utilities of the later segment
+-- how far the utility changes from the rung before, both taken at the later segment; 0 where there is no rung before
 abbrev pub change_of : Weighing → ℕ → Option ℕ → ℕ → ℕ
 change_of w segment None rung = 0
-change_of w segment (Some before) rung = gap (utility_of w segment rung) (utility_of w segment before)
+change_of w segment (Some before) rung = abs_diff (utility_of w segment rung) (utility_of w segment before)
 
 -- along the rungs of a segment utilities do not fall
 pub record RowsRise (w : Weighing) : Type 0 where

@@ -3,7 +3,7 @@
 ghost use Rattle.std.specs.Prelude.{◌≡◌, ℕ, ◌+◌, ◌*◌, ◌/◌, ◌<◌, ◌≤◌, ◌↔◌, IfSome, IfNone, IsTrue, length, nat_le, slice_index};
 ghost use Rattle.std.specs.List.{All};
 ghost use Rattle.std.specs.List.Sorted.{IsStrictlyIncreasing};
-ghost use Rattle.lab_model.specs.Choice.{greatest_rung};
+ghost use Rattle.lab_model.specs.Ladder.{greatest_rung};
 ghost use Rattle.lab_model.specs.Film.{IsFilm, IsWithin, bitrate_of, film, rungs_of, segments_of, size_of};
 
 use std::marker::Model;

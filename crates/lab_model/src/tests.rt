@@ -1,6 +1,10 @@
 //! Each public call on its happy path, and the limits at their edges.
 
-use crate::{Manifest, Period, Sample, Setup, Trace, Weights};
+use crate::{
+    Manifest, Period, Sample, Setup, Trace, Weights, ceil_div, cmp_fraction, floor_mean, harmonic,
+};
+use std::alloc::Global;
+use std::cmp::Ordering;
 use std::test::Fail;
 
 fn film(alloc: Global) -> Result<Option<Manifest>, Fail> {
@@ -8,8 +12,6 @@ fn film(alloc: Global) -> Result<Option<Manifest>, Fail> {
     let sizes = [1_000_000, 2_000_000, 1_000_001, 2_000_001].to_vec(alloc)?;
     Ok(Manifest::from_parts(1000, bitrates, sizes))
 }
-
-use std::alloc::Global;
 
 #[test]
 fn a_manifest_answers_its_parts(rt: HostRuntime) -> Result<(), Fail> {
@@ -122,4 +124,24 @@ fn samples_are_rates(rt: HostRuntime) {
     for (got, bit_ms, rate) in [(0, 1, 1), (1, 1, 1000), (2000, 3, 666_666), (1, 1001, 1)] {
         assert_eq!(rt; Sample::of(got, bit_ms).rate, rate);
     }
+}
+
+#[test]
+fn quotients_are_exact(rt: HostRuntime) {
+    let far = 10_000_000_000_000_000_000_000_000i128;
+    assert_eq!(rt; cmp_fraction(-1, 3, -2, 6), Ordering::Equal);
+    assert_eq!(rt;
+        cmp_fraction(far, 10_000_000_000, far - 1, 10_000_000_000),
+        Ordering::Greater
+    );
+    assert_eq!(rt; cmp_fraction(-far, 1, far, 10_000_000_000), Ordering::Less);
+    assert_eq!(rt; floor_mean(11, 3), 3);
+    assert_eq!(rt; ceil_div(10, 3), 4);
+}
+
+#[test]
+fn harmonic_values(rt: HostRuntime) {
+    assert_eq!(rt; harmonic(&[2_000_000, 1_000_000]), 1_333_333);
+    assert_eq!(rt; harmonic(&[10_000_000_000]), 10_000_000_000);
+    assert_eq!(rt; harmonic(&[1, 1, 1, 1, 1]), 1);
 }

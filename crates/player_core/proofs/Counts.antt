@@ -6,7 +6,7 @@ use Rattle.std.proofs.lemmas.Bool.Decides.{nat_tests}
 use Rattle.std.proofs.lemmas.Option.{IfSome_then}
 use Rattle.std.proofs.lemmas.List.Elements.{All-head, All-tail}
 use Rattle.std.proofs.lemmas.List.Sums.{sum_by-cons, count_by-le-length}
-use Rattle.std.proofs.lemmas.Nat.{div_below, le-div, div-add-mod'}
+use Rattle.std.proofs.lemmas.Nat.{div_below, le-div, div-add-mod', mod_below}
 use Rattle.lab_model.specs.declared.context.Seek.{Seek}
 use Rattle.lab_model.specs.Film.{Film}
 use Rattle.player_core.specs.State.{Mode, Player, starting, playing, seeking, ended}
@@ -31,6 +31,30 @@ module _ (x s : ℕ) (some : 1 ≤ s) where
       let least = le-div (x / s + 1) (x + 1 + s - 1) s (omega (arith, some)) (omega (arith, whole, none)) in
       omega (arith, most, least)
 
+  -- within a segment a millisecond begins none, and at the beginning of one it begins one
+  begun_same_at : (x % s ≡ 0 → ⊥) → (x + 1 + s - 1) / s ≡ (x + s - 1) / s
+  begun_same_at within =
+      let whole = div-add-mod' x s in
+      let rest = mod_below x s (omega (arith, some)) in
+      let low = div_below (x + 1 + s - 1) s (x / s + 2) (omega (arith, some)) (omega (arith, whole, rest, some)) in
+      let least = le-div (x / s + 1) (x + s - 1) s (omega (arith, some)) (omega (arith, whole, within)) in
+      let grows = begun_grows_at in
+      omega (arith, low, least, grows)
+
+  begun_more_at : x % s ≡ 0 → (x + 1 + s - 1) / s ≡ (x + s - 1) / s + 1
+  begun_more_at none =
+      let whole = div-add-mod' x s in
+      let least = le-div (x / s) (x + s - 1) s (omega (arith, some)) (omega (arith, whole, some)) in
+      let low = div_below (x + 1 + s - 1) s (x / s + 2) (omega (arith, some)) (omega (arith, whole, none, some)) in
+      let one = begun_one_at none in
+      omega (arith, least, low, one)
+
+  begun_all_at : (n : ℕ) → x ≡ n * s → (x + s - 1) / s ≡ n
+  begun_all_at n e =
+      let most = begun_most_at n (omega (arith, e)) in
+      let least = le-div n (x + s - 1) s (omega (arith, some)) (omega (arith, e, some)) in
+      omega (arith, most, least)
+
 pub begun_most : (f : Film) (x n : ℕ) → 1 ≤ f.seg_ms → x ≤ n * f.seg_ms → begun_before f x ≤ n
 begun_most f x n some h = begun_most_at x f.seg_ms some n h
 
@@ -39,6 +63,16 @@ begun_grows f x some = begun_grows_at x f.seg_ms some
 
 pub begun_one : (f : Film) (x : ℕ) → 1 ≤ f.seg_ms → x % f.seg_ms ≡ 0 → begun_before f x + 1 ≤ begun_before f (x + 1)
 begun_one f x some none = begun_one_at x f.seg_ms some none
+
+-- the same as equations: within a segment, at the beginning of one, and at the end of so many
+pub begun_same : (f : Film) (x : ℕ) → 1 ≤ f.seg_ms → (x % f.seg_ms ≡ 0 → ⊥) → begun_before f (x + 1) ≡ begun_before f x
+begun_same f x some within = begun_same_at x f.seg_ms some within
+
+pub begun_more : (f : Film) (x : ℕ) → 1 ≤ f.seg_ms → x % f.seg_ms ≡ 0 → begun_before f (x + 1) ≡ begun_before f x + 1
+begun_more f x some none = begun_more_at x f.seg_ms some none
+
+pub begun_all : (f : Film) (x n : ℕ) → 1 ≤ f.seg_ms → x ≡ n * f.seg_ms → begun_before f x ≡ n
+begun_all f x n some e = begun_all_at x f.seg_ms some n e
 
 -- ---- seeks to come
 

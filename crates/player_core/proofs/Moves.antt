@@ -38,7 +38,8 @@ module _ (c : Case) (is : IsCase c) (t : ℕ) where
   arrival_moves : (p : Player) → Sound c t p → Moved c t p t (arrival c p)
   arrival_moves p h = arrives_moves p p.download h refl
 
-  finish_stays : (p : Player) → is_ended (finish c p).mode ≡ false → finish c p ≡ p
+  -- where the session doesn't end, the end changes nothing
+  pub finish_stays : (p : Player) → is_ended (finish c p).mode ≡ false → finish c p ≡ p
   finish_stays p =
       cond_both (is_playing p.mode && eqb p.x (segments_of c.film * c.film.seg_ms)) (record p { mode = ended; events = p.events ++ event.End p.t ∷ [] }) p (λ q. is_ended q.mode ≡ false → q ≡ p)
       (λ e no. absurd (true≢false no)) (λ e no. refl)

@@ -400,7 +400,7 @@ module _ (c : Case) (is : IsCase c) (from : ℕ) where
 -- ---- the millisecond passes
 
 -- the player a millisecond later, with what the mode changes
-abbrev later : Case → Player → ℕ → ℕ → ℕ → ℕ → ℕ → Bool → List Played → List Played → List Event → Player
+abbrev pub later : Case → Player → ℕ → ℕ → ℕ → ℕ → ℕ → Bool → List Played → List Played → List Event → Player
 later c p x startup_ms stall_ms seek_ms stalls stalling loaded played events =
     record p { t = p.t + 1; x = x; download = option_map (takes c p.t) p.download; startup_ms = startup_ms; stall_ms = stall_ms; seek_ms = seek_ms; stalls = stalls; stalling = stalling; loaded = loaded; played = played; events = events }
 
@@ -523,11 +523,11 @@ module _ (c : Case) (is : IsCase c) (from : ℕ) (p : Player) (h : Sound c from 
       (record { position = h.position; idle = h.idle; loaded = h.loaded; room = h.room; played = h.played; times = omega (arith, times); begun = h.begun; stalls = omega (arith, spare, none) })
 
 -- the player with its download a millisecond further, before the mode's part
-abbrev taken : Case → Player → Player
+abbrev pub taken : Case → Player → Player
 taken c p = record p { download = option_map (takes c p.t) p.download }
 
 -- the instant that follows
-abbrev ticked : Player → Player
+abbrev pub ticked : Player → Player
 ticked r = record r { t = r.t + 1 }
 
 module _ (c : Case) (is : IsCase c) (from : ℕ) (p : Player) (h : Sound c from p) (some : IsOpen p) where

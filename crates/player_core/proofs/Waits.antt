@@ -145,7 +145,7 @@ moves_on ended go still = absurd (true≢false go)
 moves_on playing go still = refl
 
 -- a download can be asked for
-asks_true : (c : Case) (p : Player) → p.download ≡ None → p.k < segments_of c.film → p.y - p.x + c.film.seg_ms ≤ c.setup.buffer_ms → available_at c.film c.ahead p.k ≤ p.t → can_ask c p ≡ true
+pub asks_true : (c : Case) (p : Player) → p.download ≡ None → p.k < segments_of c.film → p.y - p.x + c.film.seg_ms ≤ c.setup.buffer_ms → available_at c.film c.ahead p.k ≤ p.t → can_ask c p ≡ true
 asks_true c p none low room there =
     let free = ap (λ o. not (is_some o)) none in
     let fits = leb (p.y - p.x + c.film.seg_ms) c.setup.buffer_ms in

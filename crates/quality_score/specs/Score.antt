@@ -1,18 +1,9 @@
 -- The score of a session (after Yin, Jindal, Sekar and Sinopoli, SIGCOMM 2015), in thousandths of a point.
-use Rattle.std.specs.Prelude.{ℕ, ◌+◌, ◌*◌, ◌≤◌, List, [], ◌∷◌, length, ℤ, pos, ◌-ℤ◌, Option, Some, None}
+use Rattle.std.specs.Prelude.{ℕ, ◌+◌, ◌*◌, ◌≤◌, List, length, ℤ, pos, ◌-ℤ◌, None}
 use Rattle.std.specs.List.{All}
 use Rattle.lab_model.specs.declared.context.Played.{Played}
-use Rattle.lab_model.specs.Weighing.{HasUtility, Weighing, change_of, utility_of}
-
--- the utilities of played segments, summed
-abbrev pub utilities_of : Weighing → List Played → ℕ
-utilities_of w [] = 0
-utilities_of w (p ∷ ps) = utility_of w p.segment p.rung + utilities_of w ps
-
--- the changes along played segments, summed, after the rung before, where there is one
-abbrev pub changes_of : Weighing → Option ℕ → List Played → ℕ
-changes_of w before [] = 0
-changes_of w before (p ∷ ps) = change_of w p.segment before p.rung + changes_of w (Some p.rung) ps
+use Rattle.lab_model.specs.Weighing.{HasUtility, Weighing}
+use Rattle.lab_model.specs.Sums.{changes_of, utilities_of}
 
 -- the score of played segments, with the milliseconds of stall and of startup
 abbrev pub score_of : Weighing → List Played → ℕ → ℕ → ℤ

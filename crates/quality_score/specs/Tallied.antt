@@ -1,8 +1,9 @@
+-- Not part of the model: what the proofs keep.
 -- What a tally keeps of the segments that it was told.
-use Rattle.std.specs.Prelude.{◌≡◌, ℕ, ◌*◌, ◌≤◌, List, [], ◌∷◌, length, Option, Some, None}
+use Rattle.std.specs.Prelude.{◌≡◌, ℕ, ◌*◌, ◌≤◌, List, length, Option, None}
 use Rattle.lab_model.specs.declared.context.Played.{Played}
 use Rattle.lab_model.specs.Weighing.{Weighing}
-use Rattle.quality_score.specs.Score.{changes_of, utilities_of}
+use Rattle.lab_model.specs.Sums.{changes_of, last_rung, utilities_of}
 
 -- two sums, the last rung and the number of segments
 pub record Tallied : Type 0 where
@@ -10,11 +11,6 @@ pub record Tallied : Type 0 where
   pub changes : ℕ
   pub last : Option ℕ
   pub count : ℕ
-
--- the rung of the last segment, or the one before them all
-abbrev pub last_rung : Option ℕ → List Played → Option ℕ
-last_rung before [] = before
-last_rung before (p ∷ ps) = last_rung (Some p.rung) ps
 
 -- the tally stands for these segments under these weights
 pub record StandsFor (w : Weighing) (ps : List Played) (t : Tallied) : Type 0 where

@@ -4,7 +4,7 @@
 ghost use Rattle.std.specs.Prelude.{◌≡◌, ℕ, ◌+◌, ◌-◌, ◌*◌, ◌<◌, ◌≤◌, List, [], ◌∷◌, ◌++◌, length, ℤ, pos, ◌-ℤ◌, IfSome};
 ghost use Rattle.std.specs.List.{All};
 ghost use Rattle.lab_model.specs.declared.context.Played.{Played};
-ghost use Rattle.lab_model.specs.Weighing.{HasUtility, IsWeighing, Weighing, gap, utility_of, change_of};
+ghost use Rattle.lab_model.specs.Weighing.{HasUtility, IsWeighing, Weighing, change_of, utility_of};
 ghost use Rattle.quality_score.specs.Score.{CanScore, score_of};
 ghost use Rattle.quality_score.specs.Tallied.{IsSmall, StandsFor};
 

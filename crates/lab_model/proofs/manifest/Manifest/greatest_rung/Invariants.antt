@@ -1,6 +1,6 @@
 use Rattle.std.proofs.Common.{◌≡◌, ◌*◌, ◌<◌}
 use Rattle.std.specs.Bool.{nat_le}
-use Rattle.lab_model.specs.Choice.{greatest_rung}
+use Rattle.lab_model.specs.Ladder.{greatest_rung}
 use Rattle.lab_model.specs.Film.{bitrate_of, rungs_of}
 use Rattle.lab_model.proofs.manifest.Manifest.greatest_rung.Given as goal
 
