@@ -7,6 +7,7 @@ pub mod Grown
 pub mod Read
 pub mod Covers
 pub mod Valid
+pub mod Layers
 pub mod Sweep
 pub mod Planned
 pub mod Along

@@ -1,16 +1,14 @@
 //! Growing the frontiers of a segment from those of the segment before.
 
-ghost use Rattle.std.specs.Prelude.{◌≡◌, ℕ, ◌+◌, ◌-◌, ◌*◌, ◌<◌, ◌≤◌, IfOk, List, map, length};
-ghost use Rattle.std.specs.List.{All};
+ghost use Rattle.std.specs.Prelude.{◌≡◌, ℕ, ◌+◌, ◌-◌, ◌*◌, ◌<◌, ◌≤◌, ◌++◌, IfOk, List, map, length, slice_index_or};
 ghost use Rattle.std.specs.List.Sorted.{IsSortedBy};
 ghost use Rattle.std.specs.Ordering.{is_lt};
 ghost use Rattle.lab_model.specs.Film.{rungs_of, segments_of};
-ghost use Rattle.lab_model.specs.Fit.{SetupFits};
 ghost use Rattle.frontier_planner.specs.Frontier.{undominated};
-ghost use Rattle.frontier_planner.specs.Grid.{IsGrid, rounded};
+ghost use Rattle.frontier_planner.specs.Grid.{rounded};
 ghost use Rattle.frontier_planner.specs.Grown.{grown};
 ghost use Rattle.frontier_planner.specs.Labels.{next_label, task_of};
-ghost use Rattle.frontier_planner.specs.Read.{labels_of};
+ghost use Rattle.frontier_planner.specs.Layers.{AreClose, CanPlan, LayerAnswer, LayersAnswer, grown_labels};
 ghost use Rattle.frontier_planner.specs.Sweep.{sweep_cmp};
 
 use crate::label::{Grid, next_from, round_label, start_from};
@@ -64,7 +62,15 @@ fn successors(
     seg: u16,
     before: &[(u8, Label)],
     rung: u8,
-) -> Result<Vec<Label>, PlanErr> {
+) -> Result<Vec<Label>, PlanErr>
+    requires case { CanPlan m.now set.now ahead grid }
+    requires seg { (1 ≤ seg) × (seg < segments_of m.now) }
+    requires rung { rung < rungs_of m.now }
+    requires before { AreClose (rungs_of m.now) (seg - 1) before.now }
+    ensures { IfOk result (λ v. v.items
+        ≡ map (λ c. rounded grid (next_label (task_of m.now clock.now set.now ahead) seg c.0 c.1 rung))
+            before.now) }
+{
     let mut made = Vec::with_capacity(alloc, before.len())?;
     for (old_rung, old) in before {
         let next = next_from(m, clock, set, ahead, seg, *old_rung, *old, rung);
@@ -84,7 +90,13 @@ fn frontier(
     seg: u16,
     before: &[(u8, Label)],
     rung: u8,
-) -> Result<Vec<Label>, PlanErr> {
+) -> Result<Vec<Label>, PlanErr>
+    requires case { CanPlan m.now set.now ahead grid }
+    requires seg { seg < segments_of m.now }
+    requires rung { rung < rungs_of m.now }
+    requires before { 0 < seg → before.now ≡ grown_labels grid (task_of m.now clock.now set.now ahead) (seg - 1) }
+    ensures { IfOk result (λ v. v.items ≡ grown grid (task_of m.now clock.now set.now ahead) seg rung) }
+{
     if seg == 0 {
         let start = start_from(m, clock, set, ahead, rung);
         let mut only = Vec::new(alloc);
@@ -104,6 +116,16 @@ pub struct Layer {
     pub chains: Vec<Vec<Label>>,
 }
 
+/// Adds the labels of a chain with their rung.
+fn add_chain(labels: &mut Vec<(u8, Label)>, rung: u8, chain: &[Label]) -> Result<(), PlanErr>
+    ensures { IfOk result (λ _. labels.new.items ≡ labels.old.items ++ map (λ l. (rung, l)) chain.now) }
+{
+    for l in chain {
+        labels.push((rung, *l))?;
+    }
+    Ok(())
+}
+
 /// The frontiers of a segment, from the labels of the segment before. Its labels may be so many as are left of
 /// the budget.
 fn grown_layer(
@@ -116,7 +138,12 @@ fn grown_layer(
     seg: u16,
     before: &[(u8, Label)],
     left: u32,
-) -> Result<Layer, PlanErr> {
+) -> Result<Layer, PlanErr>
+    requires case { CanPlan m.now set.now ahead grid }
+    requires seg { seg < segments_of m.now }
+    requires before { 0 < seg → before.now ≡ grown_labels grid (task_of m.now clock.now set.now ahead) (seg - 1) }
+    ensures { LayerAnswer grid (task_of m.now clock.now set.now ahead) seg left result }
+{
     let mut labels = Vec::new(alloc);
     let mut chains = Vec::new(alloc);
     for rung in 0..m.rungs() {
@@ -124,12 +151,21 @@ fn grown_layer(
         if chain.len() > left as usize - labels.len() {
             return Err(PlanErr::BudgetSpent { segment: seg });
         }
-        for l in &chain {
-            labels.push((rung, *l))?;
-        }
+        add_chain(&mut labels, rung, &chain)?;
         chains.push(chain)?;
     }
     Ok(Layer { labels, chains })
+}
+
+/// The labels of the last layer, and none where there is no layer.
+fn last_labels(layers: &[Layer]) -> &[(u8, Label)]
+    ensures { (x : Layer) → 0 < length layers.now
+        → result.now ≡ (slice_index_or layers.now (length layers.now - 1) x).labels.items }
+{
+    match layers.last() {
+        Some(layer) => &layer.labels,
+        None => &[],
+    }
 }
 
 /// The frontiers of all segments, which may have as many labels as the budget.
@@ -141,26 +177,17 @@ pub fn layers(
     ahead: u32,
     grid: Grid,
     budget: u32,
-) -> Result<Vec<Layer>, PlanErr> {
-    let mut grown: Vec<Layer> = Vec::new(alloc);
+) -> Result<Vec<Layer>, PlanErr>
+    requires { CanPlan m.now set.now ahead grid }
+    ensures { LayersAnswer grid (task_of m.now clock.now set.now ahead) budget result }
+{
+    let mut layers = Vec::new(alloc);
     let mut left = budget;
     for seg in 0..m.segments() {
-        let next = match grown.last() {
-            Some(before) => grown_layer(
-                alloc,
-                m,
-                clock,
-                set,
-                ahead,
-                grid,
-                seg,
-                &before.labels,
-                left,
-            )?,
-            None => grown_layer(alloc, m, clock, set, ahead, grid, seg, &[], left)?,
-        };
+        let before = last_labels(&layers);
+        let next = grown_layer(alloc, m, clock, set, ahead, grid, seg, before, left)?;
         left -= next.labels.len() as u32;
-        grown.push(next)?;
+        layers.push(next)?;
     }
-    Ok(grown)
+    Ok(layers)
 }

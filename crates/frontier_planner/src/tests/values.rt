@@ -1,7 +1,9 @@
 //! The score of the session that plays a rung list, and the end value of the labels along it.
 
+ghost use Rattle.frontier_planner.specs.Near.{CanFollow};
+
 use crate::{end_value, next_from, start_from};
-use lab_model::{Manifest, Period, Rule, Setup, Trace, Weights};
+use lab_model::{Label, Manifest, Period, Rule, Setup, Trace, Weights};
 use network_clock::Clock;
 use player_core::{Listed, play_from};
 use quality_score::score;
@@ -144,6 +146,14 @@ fn session_score(rt: &impl Abort, alloc: Global, case: &Case) -> Result<i128, Fa
     ))
 }
 
+/// A label of the cases may be followed.
+fn follows(rt: &impl Abort, label: Label)
+    ensures { CanFollow label }
+{
+    assert!(rt; label.t < FAR_MS && label.p < FAR_MS);
+    assert!(rt; -LARGE < label.v && label.v < LARGE);
+}
+
 /// The end value of the labels along the rung list.
 fn last_value(rt: &impl Abort, alloc: Global, case: &Case) -> Result<i128, Fail> {
     let m = film(alloc, case)?;
@@ -157,11 +167,10 @@ fn last_value(rt: &impl Abort, alloc: Global, case: &Case) -> Result<i128, Fail>
         assert!(rt; seg < case.rungs.len());
         let (before, rung) = (case.rungs[seg - 1], case.rungs[seg]);
         assert!(rt; before < m.rungs() && rung < m.rungs());
-        assert!(rt; label.t < FAR_MS && label.p < FAR_MS);
-        assert!(rt; -LARGE < label.v && label.v < LARGE);
+        follows(rt, label);
         label = next_from(&m, &clock, &set, case.ahead, i, before, label, rung);
     }
-    assert!(rt; label.p < FAR_MS);
+    follows(rt, label);
     Ok(end_value(&set, label))
 }
 

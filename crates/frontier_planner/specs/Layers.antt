@@ -1,0 +1,63 @@
+-- What the planner holds while it grows frontiers: those of each segment, as vectors.
+use Rattle.std.specs.Prelude.{◌≡◌, ℕ, zero, suc, ◌+◌, ◌-◌, ◌*◌, ◌≤◌, ◌<◌, List, length, map, Result, Ok, Err, Vec, slice_index_or}
+use Rattle.std.specs.Global.{Global}
+use Rattle.std.specs.List.{All}
+use Rattle.lab_model.specs.declared.label.Label.{Label}
+use Rattle.lab_model.specs.declared.setup.Setup.{Setup}
+use Rattle.lab_model.specs.Ladder.{rungs_below}
+use Rattle.lab_model.specs.Film.{Film, rungs_of, segments_of}
+use Rattle.lab_model.specs.Fit.{SetupFits}
+use Rattle.frontier_planner.specs.declared.label.Grid.{Grid}
+use Rattle.frontier_planner.specs.declared.grow.Layer.{Layer}
+use Rattle.frontier_planner.specs.declared.plans.PlanErr.{PlanErr}
+use Rattle.frontier_planner.specs.declared.plans.PlanErr.TheVariants as fault
+use Rattle.frontier_planner.specs.Labels.{Task}
+use Rattle.frontier_planner.specs.Near.{IsNear}
+use Rattle.frontier_planner.specs.Grid.{IsGrid}
+use Rattle.frontier_planner.specs.Grown.{grown}
+use Rattle.frontier_planner.specs.Read.{SpentAt, labels_in, labels_of}
+
+-- the labels of the coarse frontiers of a segment, with their rungs
+abbrev pub grown_labels : Grid → Task → ℕ → List (ℕ × Label)
+grown_labels d g segment = labels_of g (grown d g) segment
+
+-- what a plan needs of film, setup, media ahead and grid
+pub record CanPlan (f : Film) (s : Setup) (n : ℕ) (d : Grid) : Type 0 where
+  pub setup : SetupFits s f
+  pub ahead : n ≤ 120000000
+  pub grid : IsGrid d
+
+-- a label of a segment as near as a coarse frontier's are
+pub record IsClose (segment : ℕ) (l : Label) : Type 0 where
+  pub delay : l.p ≤ l.t
+  pub time : l.t ≤ (segment + 1) * 1000000000
+  pub value : IsNear (1000000000000000 + segment * 2000000000000) l.v
+
+-- labels of a segment on rungs of the ladder
+abbrev pub AreClose : ℕ → ℕ → List (ℕ × Label) → Type 0
+AreClose rungs segment cs = All (λ (c : ℕ × Label). (c.0 < rungs) × IsClose segment c.1) cs
+
+-- the chains of a segment, which vectors hold
+abbrev pub held : List (Vec Label Global) → List (List Label)
+held chains = map (λ (v : Vec Label Global). v.items) chains
+
+-- the layer holds the coarse frontiers of a segment
+pub record HoldsFrontiers (d : Grid) (g : Task) (segment : ℕ) (l : Layer) : Type 0 where
+  pub labels : l.labels.items ≡ grown_labels d g segment
+  pub chains : held l.chains.items ≡ map (grown d g segment) (rungs_below (rungs_of g.film))
+
+-- the layers hold those of the segments from 0 on
+abbrev pub HoldAll : Grid → Task → List Layer → Type 0
+HoldAll d g layers = (i : ℕ) (x : Layer) → i < length layers → HoldsFrontiers d g i (slice_index_or layers i x)
+
+-- the layer of a segment, or that its labels are more than those left
+abbrev pub LayerAnswer : Grid → Task → ℕ → ℕ → Result Layer PlanErr → Type 0
+LayerAnswer d g segment left (Ok l) = HoldsFrontiers d g segment l × (length l.labels.items ≤ left)
+LayerAnswer d g segment left (Err (fault.BudgetSpent s)) = (s ≡ segment) × (left < length (grown_labels d g segment))
+LayerAnswer d g segment left (Err fault.Memory) = Unit {0}
+
+-- all layers, or the segment at which the budget is spent
+abbrev pub LayersAnswer : Grid → Task → ℕ → Result (Vec Layer Global) PlanErr → Type 0
+LayersAnswer d g budget (Ok v) = HoldAll d g v.items × (length v.items ≡ segments_of g.film) × (labels_in g (grown d g) ≤ budget)
+LayersAnswer d g budget (Err (fault.BudgetSpent s)) = SpentAt g (grown d g) budget s
+LayersAnswer d g budget (Err fault.Memory) = Unit {0}
