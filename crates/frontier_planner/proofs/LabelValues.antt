@@ -3,9 +3,8 @@ use Rattle.std.proofs.Common.{◌≡◌, ◌∙◌, ℕ, zero, suc, ◌+◌, ◌
 use Rattle.std.specs.Prelude.{ℤ, pos, ◌-ℤ◌}
 use Rattle.std.proofs.lemmas.Int.{ints}
 use Rattle.lab_model.specs.Weighing.{Weighing, change_of, utility_of}
-use Rattle.quality_score.specs.Score.{changes_of, utilities_of}
-use Rattle.quality_score.specs.Tallied.{last_rung}
-use Rattle.quality_score.proofs.Pushed.{changes_push, last_push, utilities_push}
+use Rattle.lab_model.specs.Sums.{changes_of, last_rung, utilities_of}
+use Rattle.lab_model.proofs.Pushes.{changes_push, last_push, utilities_push}
 use Rattle.frontier_planner.specs.Labels.{Task, label_at}
 use Rattle.frontier_planner.specs.Along.{rungs_played}
 use Rattle.frontier_planner.proofs.AlongSums.{value_next}

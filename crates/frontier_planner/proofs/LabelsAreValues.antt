@@ -3,7 +3,8 @@ use Rattle.std.proofs.Common.{◌≡◌, ◌∙◌, ℕ, suc, ◌+◌, ◌-◌, 
 use Rattle.std.specs.Prelude.{ℤ, pos, ◌-ℤ◌}
 use Rattle.lab_model.specs.declared.context.Played.{Played}
 use Rattle.lab_model.specs.Film.{segments_of}
-use Rattle.quality_score.specs.Score.{changes_of, score_of, utilities_of}
+use Rattle.lab_model.specs.Sums.{changes_of, utilities_of}
+use Rattle.quality_score.specs.Score.{score_of}
 use Rattle.player_core.specs.State.{Player}
 use Rattle.player_core.specs.Session.{last_player}
 use Rattle.frontier_planner.specs.Labels.{IsTask, Task, end_value, label_at}

@@ -4,8 +4,8 @@ use Rattle.std.specs.List.{Contains, filter, find, flat_map}
 use Rattle.std.proofs.lemmas.Bool.{cases_Bool, cases_lt, cond_both, cond-false, cond-true, false≢true}
 use Rattle.std.proofs.lemmas.List.Elements.{Contains-append_cases, Contains-append_left, Contains-append_right, Contains-push, Contains-push_cases}
 use Rattle.lab_model.specs.declared.label.Label.{Label}
-use Rattle.lab_model.specs.Choice.{rungs_below}
-use Rattle.lab_model.proofs.Rungs.{rungs_more, rungs_none}
+use Rattle.lab_model.specs.Ladder.{rungs_below}
+use Rattle.lab_model.proofs.Rungs.{rungs_more}
 use Rattle.frontier_planner.specs.Frontier.{by_rung}
 
 module _ {X : Type 0} where
@@ -80,7 +80,7 @@ in_rungs (suc n) q low =
 
 -- and no other
 pub from_rungs : (n q : ℕ) → Contains (rungs_below n) q → q < n
-from_rungs zero q h = absurd (none_at q (subst (λ qs. Contains qs q) rungs_none h))
+from_rungs zero q h = absurd (none_at q h)
 from_rungs (suc n) q h =
     let more = ap rungs_below (sym (add-one n)) ∙ rungs_more n in
     ⊎_elim (λ before. let low = from_rungs n q before in omega (arith, low)) (λ (e : n ≡ q). omega (arith, e)) (Contains-push_cases (rungs_below n) n q (subst (λ qs. Contains qs q) more h))
