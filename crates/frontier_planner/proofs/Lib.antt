@@ -14,3 +14,5 @@ pub mod AlongPasses
 pub mod AlongEnds
 pub mod LabelValues
 pub mod LabelsAreValues
+pub mod Close
+pub mod Layers

@@ -3,15 +3,13 @@ use Rattle.std.specs.Prelude.{◌≡◌, ℕ, zero, suc, ◌+◌, ◌-◌, ◌*�
 use Rattle.std.specs.Global.{Global}
 use Rattle.std.specs.List.{All}
 use Rattle.lab_model.specs.declared.label.Label.{Label}
-use Rattle.lab_model.specs.declared.setup.Setup.{Setup}
 use Rattle.lab_model.specs.Ladder.{rungs_below}
-use Rattle.lab_model.specs.Film.{Film, rungs_of, segments_of}
-use Rattle.lab_model.specs.Fit.{SetupFits}
+use Rattle.lab_model.specs.Film.{rungs_of, segments_of}
 use Rattle.frontier_planner.specs.declared.label.Grid.{Grid}
 use Rattle.frontier_planner.specs.declared.grow.Layer.{Layer}
 use Rattle.frontier_planner.specs.declared.plans.PlanErr.{PlanErr}
 use Rattle.frontier_planner.specs.declared.plans.PlanErr.TheVariants as fault
-use Rattle.frontier_planner.specs.Labels.{Task}
+use Rattle.frontier_planner.specs.Labels.{IsTask, Task}
 use Rattle.frontier_planner.specs.Near.{IsNear}
 use Rattle.frontier_planner.specs.Grid.{IsGrid}
 use Rattle.frontier_planner.specs.Grown.{grown}
@@ -21,10 +19,9 @@ use Rattle.frontier_planner.specs.Read.{SpentAt, labels_in, labels_of}
 abbrev pub grown_labels : Grid → Task → ℕ → List (ℕ × Label)
 grown_labels d g segment = labels_of g (grown d g) segment
 
--- what a plan needs of film, setup, media ahead and grid
-pub record CanPlan (f : Film) (s : Setup) (n : ℕ) (d : Grid) : Type 0 where
-  pub setup : SetupFits s f
-  pub ahead : n ≤ 120000000
+-- a plan can be made of this task on this grid
+pub record CanPlan (d : Grid) (g : Task) : Type 0 where
+  pub task : IsTask g
   pub grid : IsGrid d
 
 -- a label of a segment as near as a coarse frontier's are

@@ -16,7 +16,7 @@ use crate::plans::PlanErr;
 use crate::staircase::Staircase;
 use lab_model::{Label, Manifest, Setup};
 use network_clock::Clock;
-use std::alloc::Global;
+use std::alloc::{AllocError, Global};
 use std::cmp::Ordering;
 
 /// The order of the sweep: by finish time, then delay, then falling value.
@@ -27,7 +27,7 @@ fn sweep_order(a: &Label, b: &Label) -> Ordering
 }
 
 /// The labels of a list in the order of the sweep that no earlier one dominates.
-fn sweep(alloc: Global, labels: &[Label]) -> Result<Vec<Label>, PlanErr>
+fn sweep(alloc: Global, labels: &[Label]) -> Result<Vec<Label>, AllocError>
     requires { IsSortedBy (λ a b. is_lt (sweep_cmp a b)) labels.now }
     ensures { IfOk result (λ v. v.items ≡ undominated labels.now) }
 {
@@ -43,7 +43,7 @@ fn sweep(alloc: Global, labels: &[Label]) -> Result<Vec<Label>, PlanErr>
 }
 
 /// The distinct labels of a list that no different one dominates, in order.
-fn undominated(alloc: Global, labels: Vec<Label>) -> Result<Vec<Label>, PlanErr>
+fn undominated(alloc: Global, labels: Vec<Label>) -> Result<Vec<Label>, AllocError>
     ensures { IfOk result (λ v. v.items ≡ undominated labels.items) }
 {
     let mut candidates = labels;
@@ -62,14 +62,14 @@ fn successors(
     seg: u16,
     before: &[(u8, Label)],
     rung: u8,
-) -> Result<Vec<Label>, PlanErr>
-    requires case { CanPlan m.now set.now ahead grid }
+) -> Result<Vec<Label>, AllocError>
+    requires case { CanPlan grid (task_of m.now clock.now set.now ahead) }
     requires seg { (1 ≤ seg) × (seg < segments_of m.now) }
     requires rung { rung < rungs_of m.now }
     requires before { AreClose (rungs_of m.now) (seg - 1) before.now }
     ensures { IfOk result (λ v. v.items
         ≡ map (λ c. rounded grid (next_label (task_of m.now clock.now set.now ahead) seg c.0 c.1 rung))
-            before.now) }
+        before.now) }
 {
     let mut made = Vec::with_capacity(alloc, before.len())?;
     for (old_rung, old) in before {
@@ -90,8 +90,8 @@ fn frontier(
     seg: u16,
     before: &[(u8, Label)],
     rung: u8,
-) -> Result<Vec<Label>, PlanErr>
-    requires case { CanPlan m.now set.now ahead grid }
+) -> Result<Vec<Label>, AllocError>
+    requires case { CanPlan grid (task_of m.now clock.now set.now ahead) }
     requires seg { seg < segments_of m.now }
     requires rung { rung < rungs_of m.now }
     requires before { 0 < seg → before.now ≡ grown_labels grid (task_of m.now clock.now set.now ahead) (seg - 1) }
@@ -117,7 +117,7 @@ pub struct Layer {
 }
 
 /// Adds the labels of a chain with their rung.
-fn add_chain(labels: &mut Vec<(u8, Label)>, rung: u8, chain: &[Label]) -> Result<(), PlanErr>
+fn add_chain(labels: &mut Vec<(u8, Label)>, rung: u8, chain: &[Label]) -> Result<(), AllocError>
     ensures { IfOk result (λ _. labels.new.items ≡ labels.old.items ++ map (λ l. (rung, l)) chain.now) }
 {
     for l in chain {
@@ -139,7 +139,7 @@ fn grown_layer(
     before: &[(u8, Label)],
     left: u32,
 ) -> Result<Layer, PlanErr>
-    requires case { CanPlan m.now set.now ahead grid }
+    requires case { CanPlan grid (task_of m.now clock.now set.now ahead) }
     requires seg { seg < segments_of m.now }
     requires before { 0 < seg → before.now ≡ grown_labels grid (task_of m.now clock.now set.now ahead) (seg - 1) }
     ensures { LayerAnswer grid (task_of m.now clock.now set.now ahead) seg left result }
@@ -178,7 +178,7 @@ pub fn layers(
     grid: Grid,
     budget: u32,
 ) -> Result<Vec<Layer>, PlanErr>
-    requires { CanPlan m.now set.now ahead grid }
+    requires { CanPlan grid (task_of m.now clock.now set.now ahead) }
     ensures { LayersAnswer grid (task_of m.now clock.now set.now ahead) budget result }
 {
     let mut layers = Vec::new(alloc);

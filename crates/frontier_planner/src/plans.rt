@@ -1,5 +1,8 @@
 //! What a plan is.
 
+ghost use Rattle.std.specs.Prelude.{◌≡◌};
+ghost use Rattle.frontier_planner.specs.declared.plans.PlanErr.TheVariants.{Memory};
+
 use lab_model::Label;
 use std::alloc::{AllocError, AllocFailed};
 
@@ -52,12 +55,16 @@ pub enum PlanErr {
 }
 
 impl From<AllocError> for PlanErr {
+    ghost from_gives = { λ _ e. e ≡ Memory };
+
     fn from(_refused: AllocError) -> PlanErr {
         PlanErr::Memory
     }
 }
 
 impl<T: Drop> From<AllocFailed<T>> for PlanErr {
+    ghost from_gives = { λ _ e. e ≡ Memory };
+
     fn from(_refused: AllocFailed<T>) -> PlanErr {
         PlanErr::Memory
     }

@@ -4,7 +4,7 @@ ghost use Rattle.std.specs.Prelude.{◌↔◌, ◌≤◌, ◌⊎◌, ℕ, ℤ, [
 ghost use Rattle.frontier_planner.specs.Sweep.{HasUnder};
 
 use lab_model::Label;
-use std::alloc::{AllocFailed, Global};
+use std::alloc::{AllocError, Global};
 
 /// Labels along which delays and values rise.
 #[derive(Drop)]
@@ -30,7 +30,7 @@ impl Staircase {
     }
 
     /// Adds a label as a step.
-    pub fn add(&mut self, l: Label) -> Result<(), AllocFailed<Label>>
+    pub fn add(&mut self, l: Label) -> Result<(), AllocError>
         ensures { IfOk result (λ _. (p : ℕ) (v : ℤ)
             → HasUnder self.new.steps.items p v
             ↔ (HasUnder self.old.steps.items p v ⊎ ((l.p ≤ p) × (v ≤ℤ l.v)))) }
