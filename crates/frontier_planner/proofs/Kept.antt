@@ -108,7 +108,8 @@ dominator (x ∷ xs) l h =
 
 -- ---- what is kept of a list
 
-same_any : (l m : Label) → is_same l m ≡ true → l ≡ m
+-- labels that the test takes for the same are one
+pub same_any : (l m : Label) → is_same l m ≡ true → l ≡ m
 same_any = tells_apart label_exact
 
 -- putting in order adds nothing

@@ -8,6 +8,7 @@ pub mod Steps
 pub mod Sweep
 pub mod Rounds
 pub mod Grown
+pub mod ReadBack
 pub mod AlongSums
 pub mod Along
 pub mod AlongPasses
@@ -16,3 +17,8 @@ pub mod LabelValues
 pub mod LabelsAreValues
 pub mod Close
 pub mod Layers
+pub mod Prefixes
+pub mod Reached
+pub mod Same
+pub mod Accepts
+pub mod Sound

@@ -10,5 +10,7 @@ pub mod Valid
 pub mod Layers
 pub mod Sweep
 pub mod Planned
+pub mod Best
+pub mod Laws
 pub mod Along
 pub mod ValueLaw
