@@ -15,10 +15,10 @@ pub mod AlongPasses
 pub mod AlongEnds
 pub mod LabelValues
 pub mod LabelsAreValues
-pub mod Close
 pub mod Layers
 pub mod Prefixes
 pub mod Reached
+pub mod Follows
 pub mod Same
 pub mod Accepts
 pub mod Sound

@@ -1,7 +1,6 @@
 -- What the planner holds while it grows frontiers: those of each segment, as vectors.
 use Rattle.std.specs.Prelude.{◌≡◌, ℕ, zero, suc, ◌+◌, ◌-◌, ◌*◌, ◌≤◌, ◌<◌, List, length, map, Result, Ok, Err, Vec, slice_index_or}
 use Rattle.std.specs.Global.{Global}
-use Rattle.std.specs.List.{All}
 use Rattle.lab_model.specs.declared.label.Label.{Label}
 use Rattle.lab_model.specs.Ladder.{rungs_below}
 use Rattle.lab_model.specs.Film.{rungs_of, segments_of}
@@ -10,29 +9,22 @@ use Rattle.frontier_planner.specs.declared.grow.Layer.{Layer}
 use Rattle.frontier_planner.specs.declared.plans.PlanErr.{PlanErr}
 use Rattle.frontier_planner.specs.declared.plans.PlanErr.TheVariants as fault
 use Rattle.frontier_planner.specs.Labels.{IsTask, Task}
-use Rattle.frontier_planner.specs.Near.{IsNear}
 use Rattle.frontier_planner.specs.Grid.{IsGrid}
 use Rattle.frontier_planner.specs.Grown.{grown}
-use Rattle.frontier_planner.specs.Read.{SpentAt, labels_in, labels_of}
+use Rattle.frontier_planner.specs.Read.{SpentAt, labels_in, labels_of, rungs_back}
 
 -- the labels of the coarse frontiers of a segment, with their rungs
 abbrev pub grown_labels : Grid → Task → ℕ → List (ℕ × Label)
 grown_labels d g segment = labels_of g (grown d g) segment
 
+-- the rungs up to a label of a segment, read backwards through the coarse frontiers
+abbrev pub rungs_read : Grid → Task → ℕ → ℕ × Label → List ℕ
+rungs_read d g segment c = rungs_back d g (grown d g) segment c
+
 -- a plan can be made of this task on this grid
 pub record CanPlan (d : Grid) (g : Task) : Type 0 where
   pub task : IsTask g
   pub grid : IsGrid d
-
--- a label of a segment as near as a coarse frontier's are
-pub record IsClose (segment : ℕ) (l : Label) : Type 0 where
-  pub delay : l.p ≤ l.t
-  pub time : l.t ≤ (segment + 1) * 1000000000
-  pub value : IsNear (1000000000000000 + segment * 2000000000000) l.v
-
--- labels of a segment on rungs of the ladder
-abbrev pub AreClose : ℕ → ℕ → List (ℕ × Label) → Type 0
-AreClose rungs segment cs = All (λ (c : ℕ × Label). (c.0 < rungs) × IsClose segment c.1) cs
 
 -- the chains of a segment, which vectors hold
 abbrev pub held : List (Vec Label Global) → List (List Label)

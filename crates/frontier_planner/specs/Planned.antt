@@ -1,22 +1,21 @@
 -- What the planner answers: a plan with all that makes it the best, or the segment at which the budget is spent.
-use Rattle.std.specs.Prelude.{◌≡◌, ℕ, ◌≤◌, ◌<◌, ℤ, ◌≤ℤ◌, List, length, Result, Ok, Err, sum, map}
+use Rattle.std.specs.Prelude.{◌≡◌, ℕ, ◌≤◌, ◌<◌, ℤ, List, length, Result, Ok, Err, sum, map}
 use Rattle.std.specs.List.{All}
 use Rattle.lab_model.specs.declared.label.Label.{Label}
-use Rattle.lab_model.specs.Film.{rungs_of, segments_of}
-use Rattle.player_core.specs.Value.{live_value_of}
 use Rattle.frontier_planner.specs.declared.label.Grid.{Grid}
 use Rattle.frontier_planner.specs.declared.plans.CoarsePlan.{CoarsePlan}
 use Rattle.frontier_planner.specs.declared.plans.Plan.{Plan}
 use Rattle.frontier_planner.specs.declared.plans.PlanErr.{PlanErr}
 use Rattle.frontier_planner.specs.declared.plans.PlanErr.TheVariants as fault
-use Rattle.frontier_planner.specs.Labels.{AreRungs, Task}
+use Rattle.frontier_planner.specs.Labels.{Task}
 use Rattle.frontier_planner.specs.Near.{IsNear}
 use Rattle.frontier_planner.specs.Frontier.{frontier}
 use Rattle.frontier_planner.specs.Grid.{exact}
 use Rattle.frontier_planner.specs.Grown.{grown}
 use Rattle.frontier_planner.specs.Parts.{CertificateParts, ChainParts, plan_parts}
-use Rattle.frontier_planner.specs.Read.{SpentAt, bound_of, certificate_of, labels_in}
+use Rattle.frontier_planner.specs.Read.{Chains, SpentAt, bound_of, certificate_of, labels_in}
 use Rattle.frontier_planner.specs.Valid.{IsValid}
+use Rattle.frontier_planner.specs.Best.{Settles}
 
 -- a label whose numbers have at most 18 digits
 pub record IsShort (l : Label) : Type 0 where
@@ -30,56 +29,56 @@ pub record IsShortChain (c : ChainParts) : Type 0 where
   pub names : All (λ k. k < 10000000) c.names
   pub labels : All IsShort c.labels
 
+-- a number with at most 24 digits
+abbrev pub IsShortValue : ℤ → Type 0
+IsShortValue v = IsNear 999999999999999999999999 v
+
+-- the number of labels in all chains
+abbrev pub label_count : List ChainParts → ℕ
+label_count chains = sum (map (λ (c : ChainParts). length c.labels) chains)
+
 -- a certificate whose numbers are no longer than its text may have them
 pub record IsShortCertificate (c : CertificateParts) : Type 0 where
-  pub score : IsNear 999999999999999999999999 c.score
+  pub score : IsShortValue c.score
   pub plan : All (λ q. q < 100) c.plan
   pub starts : All (λ k. k < 10000000) c.starts
   pub chains : All IsShortChain c.chains
-  pub labels : sum (map (λ (chain : ChainParts). length chain.labels) c.chains) ≤ 1000000
+  pub labels : label_count c.chains ≤ 1000000
 
--- no rung list has a greater value, played under this task
-abbrev pub IsBound : Task → ℤ → Type 0
-IsBound g bound =
-    (rungs : List ℕ) → AreRungs g (segments_of g.film) rungs → live_value_of g.film g.periods g.setup g.ahead rungs ≤ℤ bound
-
--- the plan of a task on a grid with its bound, within a budget
-pub record IsCoarsePlanOf (d : Grid) (g : Task) (budget : ℕ) (c : CoarsePlan) : Type 0 where
-  -- its certificate is the one that is read off the coarse frontiers
-  pub parts : plan_parts g.film c.plan ≡ certificate_of d g (grown d g)
+-- the plan that is read off these chains of a task on a grid, within a budget, and a bound for all rung lists
+pub record IsPlanOf (d : Grid) (g : Task) (chains : Chains) (budget : ℕ) (p : Plan) (most : ℤ) : Type 0 where
+  -- its certificate is the one that is read off the chains
+  pub parts : plan_parts g.film p ≡ certificate_of d g chains
   -- they have so many labels, and no more than the budget
-  pub labels : c.plan.labels ≡ labels_in g (grown d g)
-  pub within : c.plan.labels ≤ budget
+  pub labels : p.labels ≡ labels_in g chains
+  pub within : p.labels ≤ budget
   -- the bound is the greatest end value
-  pub bound : c.bound ≡ bound_of g (grown d g)
-  -- the list has a rung of the ladder for each segment, and its value is the score
-  pub rungs : AreRungs g (segments_of g.film) c.plan.rungs.items
-  pub value : live_value_of g.film g.periods g.setup g.ahead c.plan.rungs.items ≡ c.plan.score
-  -- no list has a value above the bound
-  pub greatest : IsBound g c.bound
+  pub bound : most ≡ bound_of g chains
+  -- the list's value is the score, and no list's value is above the bound
+  pub settles : Settles g p.rungs.items p.score most
   -- the certificate proves it
-  pub valid : IsValid g (plan_parts g.film c.plan) c.bound
-  -- and its numbers fit the text of a certificate
-  pub short : IsShortCertificate (plan_parts g.film c.plan)
-  pub short_bound : IsNear 999999999999999999999999 c.bound
+  pub valid : IsValid g (plan_parts g.film p) most
+  -- its numbers and the bound are no longer than a text may have them
+  pub short : IsShortCertificate (plan_parts g.film p)
+  pub short_bound : IsShortValue most
 
--- on the grid 1, 1 the chains are the frontiers
-abbrev pub FrontiersGrow : Task → Type 0
-FrontiersGrow g = (i q : ℕ) → i < segments_of g.film → q < rungs_of g.film → grown exact g i q ≡ frontier g i q
+-- what the planner answers for a task: the plan of its frontiers, whose score is the bound, or the segment at whose end they spend the budget
+abbrev pub PlanAnswer : Task → ℕ → Result Plan PlanErr → Type 0
+PlanAnswer g budget (Ok p) = IsPlanOf exact g (frontier g) budget p p.score
+PlanAnswer g budget (Err (fault.BudgetSpent segment)) = SpentAt g (frontier g) budget segment
+PlanAnswer g budget (Err fault.Memory) = Unit {0}
 
--- the plan of a task within a budget: the bound is the score
-pub record IsPlanOf (g : Task) (budget : ℕ) (p : Plan) : Type 0 where
-  pub coarse : IsCoarsePlanOf exact g budget (record { plan = p; bound = p.score })
-  pub frontiers : FrontiersGrow g
+-- the same of a coarse plan without its bound
+abbrev pub without_bound : Result CoarsePlan PlanErr → Result Plan PlanErr
+without_bound (Ok c) = Ok c.plan
+without_bound (Err e) = Err e
 
--- what the planner answers on a grid; on the grid 1, 1 the bound is the score and the chains are the frontiers
+-- what it answers on a grid: the plan of the coarse frontiers with its bound, or the segment at whose end they spend the budget
 abbrev pub CoarseAnswer : Grid → Task → ℕ → Result CoarsePlan PlanErr → Type 0
-CoarseAnswer d g budget (Ok c) = IsCoarsePlanOf d g budget c × (d ≡ exact → IsPlanOf g budget c.plan)
+CoarseAnswer d g budget (Ok c) = IsPlanOf d g (grown d g) budget c.plan c.bound
 CoarseAnswer d g budget (Err (fault.BudgetSpent segment)) = SpentAt g (grown d g) budget segment
 CoarseAnswer d g budget (Err fault.Memory) = Unit {0}
 
--- what the planner answers
-abbrev pub PlanAnswer : Task → ℕ → Result Plan PlanErr → Type 0
-PlanAnswer g budget (Ok p) = IsPlanOf g budget p
-PlanAnswer g budget (Err (fault.BudgetSpent segment)) = SpentAt g (grown exact g) budget segment
-PlanAnswer g budget (Err fault.Memory) = Unit {0}
+-- on the grid 1, 1 the coarse plan is the plan
+abbrev pub ExactAnswer : Grid → Task → ℕ → Result CoarsePlan PlanErr → Type 0
+ExactAnswer d g budget r = d ≡ exact → PlanAnswer g budget (without_bound r)

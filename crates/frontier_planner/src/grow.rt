@@ -8,7 +8,7 @@ ghost use Rattle.frontier_planner.specs.Frontier.{undominated};
 ghost use Rattle.frontier_planner.specs.Grid.{rounded};
 ghost use Rattle.frontier_planner.specs.Grown.{grown};
 ghost use Rattle.frontier_planner.specs.Labels.{next_label, task_of};
-ghost use Rattle.frontier_planner.specs.Layers.{AreClose, CanPlan, LayerAnswer, LayersAnswer, grown_labels};
+ghost use Rattle.frontier_planner.specs.Layers.{CanPlan, LayerAnswer, LayersAnswer, grown_labels};
 ghost use Rattle.frontier_planner.specs.Sweep.{sweep_cmp};
 
 use crate::label::{Grid, next_from, round_label, start_from};
@@ -66,7 +66,7 @@ fn successors(
     requires case { CanPlan grid (task_of m.now clock.now set.now ahead) }
     requires seg { (1 ≤ seg) × (seg < segments_of m.now) }
     requires rung { rung < rungs_of m.now }
-    requires before { AreClose (rungs_of m.now) (seg - 1) before.now }
+    requires before { before.now ≡ grown_labels grid (task_of m.now clock.now set.now ahead) (seg - 1) }
     ensures { IfOk result (λ v. v.items
         ≡ map (λ c. rounded grid (next_label (task_of m.now clock.now set.now ahead) seg c.0 c.1 rung))
         before.now) }

@@ -5,13 +5,13 @@ ghost use Rattle.lab_model.specs.Fit.{SetupFits};
 ghost use Rattle.player_core.specs.Available.{all_ahead};
 ghost use Rattle.frontier_planner.specs.Grid.{IsGrid};
 ghost use Rattle.frontier_planner.specs.Labels.{task_of};
-ghost use Rattle.frontier_planner.specs.Planned.{CoarseAnswer, PlanAnswer};
+ghost use Rattle.frontier_planner.specs.Planned.{CoarseAnswer, ExactAnswer, PlanAnswer};
 
 use crate::grow::layers;
 use crate::label::{Grid, end_value};
 use crate::names::{chains, starts};
 use crate::plans::{CoarsePlan, Plan, PlanErr};
-use crate::read::{best_end, list_value, rungs_to};
+use crate::read::{best_end, rungs_to, value_of_list};
 use lab_model::{Manifest, Setup};
 use network_clock::Clock;
 use std::alloc::Global;
@@ -32,15 +32,16 @@ pub fn plan_from(
     requires ahead { ahead ≤ 120000000 }
     requires grid { IsGrid grid }
     requires budget { (1 ≤ budget) × (budget ≤ 1000000) }
-    ensures { CoarseAnswer grid (task_of m.now clock.now set.now ahead) budget result }
+    ensures coarse { CoarseAnswer grid (task_of m.now clock.now set.now ahead) budget result }
+    ensures exact { ExactAnswer grid (task_of m.now clock.now set.now ahead) budget result }
 {
     let layers = layers(alloc, m, clock, set, ahead, grid, budget)?;
     let last = m.segments() - 1;
-    let end = best_end(set, &layers[last as usize].labels);
+    let end = best_end(m, clock, set, ahead, grid, &layers[last as usize].labels);
     let rungs = rungs_to(alloc, m, clock, set, ahead, grid, &layers, last, end)?;
     let plan = Plan {
         table: set.weights.rows() != 0,
-        score: list_value(m, clock, set, ahead, &rungs),
+        score: value_of_list(m, clock, set, ahead, &rungs),
         rungs,
         labels: layers.iter().map(|layer| layer.labels.len() as u32).sum(),
         starts: starts(alloc, m, clock, set, ahead, &layers[0].chains)?,

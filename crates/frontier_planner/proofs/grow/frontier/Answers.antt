@@ -7,17 +7,16 @@ use Rattle.frontier_planner.specs.Frontier.{undominated}
 use Rattle.frontier_planner.specs.Grown.{grown, successors}
 use Rattle.frontier_planner.specs.Labels.{Task, next_label, start_label, task_of}
 use Rattle.frontier_planner.specs.Grid.{rounded}
-use Rattle.frontier_planner.specs.Layers.{AreClose, grown_labels}
+use Rattle.frontier_planner.specs.Layers.{grown_labels}
 use Rattle.frontier_planner.specs.Near.{IsNear}
-use Rattle.frontier_planner.proofs.Close.{closer_rounds, labels_close, start_close}
+use Rattle.frontier_planner.proofs.Follows.{start_rounds}
 use Rattle.frontier_planner.proofs.Grown.{grown_first, grown_next}
 use Rattle.frontier_planner.proofs.grow.frontier.Goals as goal
 
 pub round_label-requires-clause-value : goal.round_label-requires-clause-value
 round_label-requires-clause-value c =
     let g = task_of c.args.m.now c.args.clock.now c.args.set.now c.args.ahead in
-    subst (λ l. IsNear 900000000000000000 l.v) (sym c.start_from-start.ensures.label)
-    (closer_rounds 0 _ (omega arith) (start_close g c.args.rung c.start_from-start.ensures.task c.requires.rung))
+    subst (λ l. IsNear 900000000000000000 l.v) (sym c.start_from-start.ensures.label) (start_rounds c.args.grid g c.requires.case c.args.rung c.requires.rung)
 
 pub returns-then-seg-eq0 : goal.returns-then-seg-eq0
 returns-then-seg-eq0 c =
@@ -30,15 +29,6 @@ returns-then-seg-eq0 c =
     let first = grown_first d g c.args.rung in
     let whole : c.push.new.self.items ≡ rounded d (start_label g c.args.rung) ∷ [] = cc in
     whole ∙ sym first ∙ ap (λ i. grown d g i c.args.rung) (sym c.if-seg-eq0.true)
-
-pub successors-requires-clause-before : goal.successors-requires-clause-before
-successors-requires-clause-before c =
-    let d = c.args.grid in
-    let g = task_of c.args.m.now c.args.clock.now c.args.set.now c.args.ahead in
-    let low = c.requires.seg in
-    let some = c.if-seg-eq0.false in
-    subst (AreClose (rungs_of c.args.m.now) (c.args.seg - 1)) (sym (c.requires.before (omega arith)))
-    (labels_close d g c.requires.case.grid c.requires.case.task (c.args.seg - 1) (omega (arith, low)))
 
 next_is : (d : Grid) (g : Task) (i r : ℕ) (before : List (ℕ × Label)) (made : List Label) → 0 < i → before ≡ grown_labels d g (i - 1) → made ≡ map (λ c. rounded d (next_label g i c.0 c.1 r)) before → undominated made ≡ grown d g i r
 next_is d g zero r before made some is h = absurd (omega (arith, some))
