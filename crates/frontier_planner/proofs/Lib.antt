@@ -10,6 +10,7 @@ pub mod Rounds
 pub mod Grown
 pub mod ReadBack
 pub mod AlongSums
+pub mod AlongLists
 pub mod Along
 pub mod AlongPasses
 pub mod AlongEnds
@@ -22,3 +23,4 @@ pub mod Follows
 pub mod Same
 pub mod Accepts
 pub mod Sound
+pub mod SmallBuffers

@@ -96,7 +96,8 @@ module _ (g : Task) where
       let fits : AreRungs g i (take i rungs) = (omega (arith, long, parts, few), All-take (λ p. p < rungs_of g.film) i rungs from.1.1) in
       (q, label_at g rungs i, from.1.1 i 0 inside, subst (λ rs. Contains (prefix_labels g i q) (label_at g rs i)) whole (in_prefixes i q (take i rungs) fits), sym (label_push g rungs r i long) ∙ from.2)
 
-  frontier_is : (i q : ℕ) → frontier g i q ≡ undominated (prefix_labels g i q)
+  -- the definition
+  pub frontier_is : (i q : ℕ) → frontier g i q ≡ undominated (prefix_labels g i q)
   unfolding frontier
   frontier_is i q = refl
 

@@ -3,6 +3,7 @@
 
 mod grow;
 mod label;
+mod laws;
 mod names;
 mod planner;
 mod plans;
@@ -12,6 +13,10 @@ mod values;
 
 pub use label::{
     Grid, dominates, end_value, next_from, next_label, round_label, start_from, start_label,
+};
+pub use laws::{
+    dominance_is_inherited, frontiers_grow, plans_are_accepted, plans_are_best,
+    small_buffers_tell_apart, valid_is_sound,
 };
 pub use planner::{plan, plan_from};
 pub use plans::{Chain, CoarsePlan, Plan, PlanErr};
