@@ -24,3 +24,4 @@ pub mod Same
 pub mod Accepts
 pub mod Sound
 pub mod SmallBuffers
+pub mod Reading

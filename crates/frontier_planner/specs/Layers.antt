@@ -11,7 +11,8 @@ use Rattle.frontier_planner.specs.declared.plans.PlanErr.TheVariants as fault
 use Rattle.frontier_planner.specs.Labels.{IsTask, Task}
 use Rattle.frontier_planner.specs.Grid.{IsGrid}
 use Rattle.frontier_planner.specs.Grown.{grown}
-use Rattle.frontier_planner.specs.Read.{SpentAt, labels_in, labels_of, rungs_back}
+use Rattle.frontier_planner.specs.Parts.{ChainParts}
+use Rattle.frontier_planner.specs.Read.{SpentAt, chain_with_names, labels_in, labels_of, names_of_label, rungs_back}
 
 -- the labels of the coarse frontiers of a segment, with their rungs
 abbrev pub grown_labels : Grid → Task → ℕ → List (ℕ × Label)
@@ -38,6 +39,25 @@ pub record HoldsFrontiers (d : Grid) (g : Task) (segment : ℕ) (l : Layer) : Ty
 -- the layers hold those of the segments from 0 on
 abbrev pub HoldAll : Grid → Task → List Layer → Type 0
 HoldAll d g layers = (i : ℕ) (x : Layer) → i < length layers → HoldsFrontiers d g i (slice_index_or layers i x)
+
+-- the layers hold all coarse frontiers, which have no more labels than a certificate may have
+pub record HoldPlan (d : Grid) (g : Task) (layers : List Layer) : Type 0 where
+  pub case : CanPlan d g
+  pub holds : HoldAll d g layers
+  pub count : length layers ≡ segments_of g.film
+  pub few : labels_in g (grown d g) ≤ 1000000
+
+-- the names of a label of a segment for the coarse frontiers of the next
+abbrev pub names_read : Grid → Task → ℕ → ℕ × Label → List ℕ
+names_read d g segment c = names_of_label g (grown d g) segment c.0 c.1
+
+-- a chain of the plan with its names
+abbrev pub chain_read : Grid → Task → ℕ → ℕ → ChainParts
+chain_read d g segment rung = chain_with_names g (grown d g) segment rung
+
+-- the chains of a segment with their names
+abbrev pub chains_read : Grid → Task → ℕ → List ChainParts
+chains_read d g segment = map (λ q. chain_read d g segment q) (rungs_below (rungs_of g.film))
 
 -- the layer of a segment, or that its labels are more than those left
 abbrev pub LayerAnswer : Grid → Task → ℕ → ℕ → Result Layer PlanErr → Type 0

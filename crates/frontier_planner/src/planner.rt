@@ -35,6 +35,8 @@ pub fn plan_from(
     ensures coarse { CoarseAnswer grid (task_of m.now clock.now set.now ahead) budget result }
     ensures exact { ExactAnswer grid (task_of m.now clock.now set.now ahead) budget result }
 {
+    prove!(m.segments() > 0);
+    prove!(!clock.periods().is_empty());
     let layers = layers(alloc, m, clock, set, ahead, grid, budget)?;
     let last = m.segments() - 1;
     let end = best_end(m, clock, set, ahead, grid, &layers[last as usize].labels);
@@ -44,8 +46,8 @@ pub fn plan_from(
         score: value_of_list(m, clock, set, ahead, &rungs),
         rungs,
         labels: layers.iter().map(|layer| layer.labels.len() as u32).sum(),
-        starts: starts(alloc, m, clock, set, ahead, &layers[0].chains)?,
-        chains: chains(alloc, m, clock, set, ahead, &layers)?,
+        starts: starts(alloc, m, clock, set, ahead, grid, &layers)?,
+        chains: chains(alloc, m, clock, set, ahead, grid, &layers)?,
     };
     Ok(CoarsePlan {
         plan,

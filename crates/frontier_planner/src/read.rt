@@ -1,10 +1,10 @@
 //! Reading a plan off the frontiers: its end, its rung list and its score.
 
-ghost use Rattle.std.specs.Prelude.{◌≡◌, ℕ, ◌+◌, ◌-◌, ◌*◌, ◌<◌, ◌≤◌, IfOk, length};
+ghost use Rattle.std.specs.Prelude.{◌≡◌, ℕ, ◌+◌, ◌-◌, ◌*◌, ◌<◌, ◌≤◌, IfOk, int_lt, length};
 ghost use Rattle.std.specs.List.{Contains, find};
 ghost use Rattle.lab_model.specs.Film.{segments_of};
 ghost use Rattle.frontier_planner.specs.Grown.{grown};
-ghost use Rattle.frontier_planner.specs.Labels.{AreRungs, task_of};
+ghost use Rattle.frontier_planner.specs.Labels.{AreRungs, IsTask, task_of, value_at_end};
 ghost use Rattle.frontier_planner.specs.Layers.{CanPlan, HoldAll, grown_labels, rungs_read};
 ghost use Rattle.frontier_planner.specs.Read.{end_of_plan, leads_to, list_value};
 
@@ -13,6 +13,15 @@ use crate::label::{Grid, end_value, next_from, round_label, start_from};
 use lab_model::{Label, Manifest, Setup};
 use network_clock::Clock;
 use std::alloc::{AllocError, Global};
+
+/// Whether the first label ends at more than the second.
+fn ends_higher(set: &Setup, a: Label, b: Label) -> bool
+    requires a { a.p ≤ 2000000000000000 }
+    requires b { b.p ≤ 2000000000000000 }
+    ensures { result ≡ int_lt (value_at_end set.now.weights b) (value_at_end set.now.weights a) }
+{
+    end_value(set, a) > end_value(set, b)
+}
 
 /// The first of the labels of the last segment with the greatest end value, with its rung.
 pub fn best_end(
@@ -29,7 +38,7 @@ pub fn best_end(
 {
     let mut best = last[0];
     for reached in last {
-        if end_value(set, reached.1) > end_value(set, best.1) {
+        if ends_higher(set, reached.1, best.1) {
             best = *reached;
         }
     }
@@ -97,7 +106,8 @@ pub fn rungs_to(
 
 /// What the labels along a rung list end at.
 pub fn value_of_list(m: &Manifest, clock: &Clock, set: &Setup, ahead: u32, rungs: &[u8]) -> i128
-    requires { AreRungs (task_of m.now clock.now set.now ahead) (segments_of m.now) rungs.now }
+    requires task { IsTask (task_of m.now clock.now set.now ahead) }
+    requires rungs { AreRungs (task_of m.now clock.now set.now ahead) (segments_of m.now) rungs.now }
     ensures { result ≡ list_value (task_of m.now clock.now set.now ahead) rungs.now }
 {
     let mut label = start_from(m, clock, set, ahead, rungs[0]);
