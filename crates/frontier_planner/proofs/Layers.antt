@@ -15,13 +15,14 @@ use Rattle.lab_model.specs.Ladder.{rungs_below}
 use Rattle.lab_model.proofs.Rungs.{rungs_more}
 use Rattle.lab_model.specs.Film.{segments_of}
 use Rattle.frontier_planner.specs.declared.label.Grid.{Grid}
+use Rattle.frontier_planner.specs.declared.grow.Frontiers.{Frontiers}
 use Rattle.frontier_planner.specs.declared.grow.Layer.{Layer}
 use Rattle.frontier_planner.specs.declared.plans.PlanErr.{PlanErr}
 use Rattle.frontier_planner.specs.declared.plans.PlanErr.TheVariants as fault
 use Rattle.frontier_planner.specs.Frontier.{by_rung}
 use Rattle.frontier_planner.specs.Grown.{grown}
 use Rattle.frontier_planner.specs.Labels.{Task}
-use Rattle.frontier_planner.specs.Layers.{HoldAll, HoldsFrontiers, LayerAnswer, LayersAnswer, grown_labels, held}
+use Rattle.frontier_planner.specs.Layers.{HoldAll, HoldsFrontiers, LayerAnswer, FrontiersAnswer, grown_labels, held}
 use Rattle.frontier_planner.specs.Read.{Chains, SpentAt, labels_before, labels_of}
 
 le-itself : (n : ℕ) → n ≤ n
@@ -104,12 +105,12 @@ spent_here d g budget left i s low sum h =
     subst (SpentAt g (grown d g) budget) (sym h.0) (record { inside = low; before = omega (arith, sum); above = omega (arith, sum, more, above) })
 
 -- a layer that there isn't is the answer for all
-pub layers_stop : (d : Grid) (g : Task) (budget left i : ℕ) (r : Result Layer PlanErr) (s : Result (Vec Layer Global) PlanErr) (e : PlanErr) → i < segments_of g.film → left + labels_before g (grown d g) i ≡ budget
-    → r ≡ Err e → IsErrAnd s (λ x. x ≡ e) → LayerAnswer d g i left r → LayersAnswer d g budget s
+pub layers_stop : (d : Grid) (g : Task) (budget left i : ℕ) (r : Result Layer PlanErr) (s : Result Frontiers PlanErr) (e : PlanErr) → i < segments_of g.film → left + labels_before g (grown d g) i ≡ budget
+    → r ≡ Err e → IsErrAnd s (λ x. x ≡ e) → LayerAnswer d g i left r → FrontiersAnswer d g budget s
 layers_stop d g budget left i r (Ok v) e low sum is same h = absurd same
 layers_stop d g budget left i r (Err x) e low sum is same h = stopped x (subst (LayerAnswer d g i left) (is ∙ ap Err (sym same)) h)
   where
-    stopped : (x : PlanErr) → LayerAnswer d g i left (Err x) → LayersAnswer d g budget (Err x)
+    stopped : (x : PlanErr) → LayerAnswer d g i left (Err x) → FrontiersAnswer d g budget (Err x)
     stopped (fault.BudgetSpent segment) k = spent_here d g budget left i segment low sum k
     stopped fault.Memory k = tt
 

@@ -25,3 +25,4 @@ pub mod Accepts
 pub mod Sound
 pub mod SmallBuffers
 pub mod Reading
+pub mod Naming

@@ -5,6 +5,7 @@ use Rattle.lab_model.specs.declared.label.Label.{Label}
 use Rattle.lab_model.specs.Ladder.{rungs_below}
 use Rattle.lab_model.specs.Film.{rungs_of, segments_of}
 use Rattle.frontier_planner.specs.declared.label.Grid.{Grid}
+use Rattle.frontier_planner.specs.declared.grow.Frontiers.{Frontiers}
 use Rattle.frontier_planner.specs.declared.grow.Layer.{Layer}
 use Rattle.frontier_planner.specs.declared.plans.PlanErr.{PlanErr}
 use Rattle.frontier_planner.specs.declared.plans.PlanErr.TheVariants as fault
@@ -65,8 +66,9 @@ LayerAnswer d g segment left (Ok l) = HoldsFrontiers d g segment l × (length l.
 LayerAnswer d g segment left (Err (fault.BudgetSpent s)) = (s ≡ segment) × (left < length (grown_labels d g segment))
 LayerAnswer d g segment left (Err fault.Memory) = Unit {0}
 
--- all layers, or the segment at which the budget is spent
-abbrev pub LayersAnswer : Grid → Task → ℕ → Result (Vec Layer Global) PlanErr → Type 0
-LayersAnswer d g budget (Ok v) = HoldAll d g v.items × (length v.items ≡ segments_of g.film) × (labels_in g (grown d g) ≤ budget)
-LayersAnswer d g budget (Err (fault.BudgetSpent s)) = SpentAt g (grown d g) budget s
-LayersAnswer d g budget (Err fault.Memory) = Unit {0}
+-- all layers with the number of their labels, or the segment at which the budget is spent
+abbrev pub FrontiersAnswer : Grid → Task → ℕ → Result Frontiers PlanErr → Type 0
+FrontiersAnswer d g budget (Ok f) =
+    HoldAll d g f.layers.items × (length f.layers.items ≡ segments_of g.film) × (f.labels ≡ labels_in g (grown d g)) × (f.labels ≤ budget)
+FrontiersAnswer d g budget (Err (fault.BudgetSpent s)) = SpentAt g (grown d g) budget s
+FrontiersAnswer d g budget (Err fault.Memory) = Unit {0}

@@ -8,7 +8,7 @@ ghost use Rattle.frontier_planner.specs.Frontier.{undominated};
 ghost use Rattle.frontier_planner.specs.Grid.{rounded};
 ghost use Rattle.frontier_planner.specs.Grown.{grown};
 ghost use Rattle.frontier_planner.specs.Labels.{next_label, task_of};
-ghost use Rattle.frontier_planner.specs.Layers.{CanPlan, LayerAnswer, LayersAnswer, grown_labels};
+ghost use Rattle.frontier_planner.specs.Layers.{CanPlan, LayerAnswer, FrontiersAnswer, grown_labels};
 ghost use Rattle.frontier_planner.specs.Sweep.{sweep_cmp};
 
 use crate::label::{Grid, next_from, round_label, start_from};
@@ -168,8 +168,17 @@ fn last_labels(layers: &[Layer]) -> &[(u8, Label)]
     }
 }
 
+/// The frontiers of all segments.
+#[derive(Drop)]
+pub struct Frontiers {
+    /// The layers by segment.
+    pub layers: Vec<Layer>,
+    /// The number of their labels.
+    pub labels: u32,
+}
+
 /// The frontiers of all segments, which may have as many labels as the budget.
-pub fn layers(
+pub fn grown_frontiers(
     alloc: Global,
     m: &Manifest,
     clock: &Clock,
@@ -177,9 +186,9 @@ pub fn layers(
     ahead: u32,
     grid: Grid,
     budget: u32,
-) -> Result<Vec<Layer>, PlanErr>
+) -> Result<Frontiers, PlanErr>
     requires { CanPlan grid (task_of m.now clock.now set.now ahead) }
-    ensures { LayersAnswer grid (task_of m.now clock.now set.now ahead) budget result }
+    ensures { FrontiersAnswer grid (task_of m.now clock.now set.now ahead) budget result }
 {
     let mut layers = Vec::new(alloc);
     let mut left = budget;
@@ -189,5 +198,8 @@ pub fn layers(
         left -= next.labels.len() as u32;
         layers.push(next)?;
     }
-    Ok(layers)
+    Ok(Frontiers {
+        layers,
+        labels: budget - left,
+    })
 }

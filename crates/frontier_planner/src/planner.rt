@@ -7,7 +7,7 @@ ghost use Rattle.frontier_planner.specs.Grid.{IsGrid};
 ghost use Rattle.frontier_planner.specs.Labels.{task_of};
 ghost use Rattle.frontier_planner.specs.Planned.{CoarseAnswer, ExactAnswer, PlanAnswer};
 
-use crate::grow::layers;
+use crate::grow::{Frontiers, grown_frontiers};
 use crate::label::{Grid, end_value};
 use crate::names::{chains, starts};
 use crate::plans::{CoarsePlan, Plan, PlanErr};
@@ -35,19 +35,22 @@ pub fn plan_from(
     ensures coarse { CoarseAnswer grid (task_of m.now clock.now set.now ahead) budget result }
     ensures exact { ExactAnswer grid (task_of m.now clock.now set.now ahead) budget result }
 {
-    prove!(m.segments() > 0);
-    prove!(!clock.periods().is_empty());
-    let layers = layers(alloc, m, clock, set, ahead, grid, budget)?;
+    let table = set.weights.rows() != 0;
     let last = m.segments() - 1;
+    prove!(!clock.periods().is_empty());
+    let Frontiers { layers, labels } = grown_frontiers(alloc, m, clock, set, ahead, grid, budget)?;
     let end = best_end(m, clock, set, ahead, grid, &layers[last as usize].labels);
     let rungs = rungs_to(alloc, m, clock, set, ahead, grid, &layers, last, end)?;
+    let score = value_of_list(m, clock, set, ahead, &rungs);
+    let starts = starts(alloc, m, clock, set, ahead, grid, &layers)?;
+    let chains = chains(alloc, m, clock, set, ahead, grid, &layers)?;
     let plan = Plan {
-        table: set.weights.rows() != 0,
-        score: value_of_list(m, clock, set, ahead, &rungs),
+        table,
         rungs,
-        labels: layers.iter().map(|layer| layer.labels.len() as u32).sum(),
-        starts: starts(alloc, m, clock, set, ahead, grid, &layers)?,
-        chains: chains(alloc, m, clock, set, ahead, grid, &layers)?,
+        score,
+        labels,
+        starts,
+        chains,
     };
     Ok(CoarsePlan {
         plan,

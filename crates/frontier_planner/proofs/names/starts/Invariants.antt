@@ -7,4 +7,4 @@ use Rattle.frontier_planner.proofs.names.starts.Given as goal
 
 abbrev pub invariant-loop-rung : goal.invariant-loop-rung
 invariant-loop-rung l =
-    l.starts.items ≡ map (λ q. place_above (grown l.grid (task_of l.m l.clock l.set l.ahead) 0 q) (start_label (task_of l.m l.clock l.set l.ahead) q)) (rungs_below l.rung)
+    l.starts.items ≡ map (λ q. place_above (grown l.fn.grid (task_of l.m l.clock l.set l.ahead) 0 q) (start_label (task_of l.m l.clock l.set l.ahead) q)) (rungs_below l.rung)

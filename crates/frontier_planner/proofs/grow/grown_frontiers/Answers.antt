@@ -4,7 +4,7 @@ use Rattle.frontier_planner.specs.Grown.{grown}
 use Rattle.frontier_planner.specs.Labels.{task_of}
 use Rattle.frontier_planner.specs.Layers.{HoldsFrontiers}
 use Rattle.frontier_planner.proofs.Layers.{before_more, before_none, hold_more, hold_none, last_held, layers_stop}
-use Rattle.frontier_planner.proofs.grow.layers.Goals as goal
+use Rattle.frontier_planner.proofs.grow.grown_frontiers.Goals as goal
 
 pub loop-seg-init : goal.loop-seg-init
 loop-seg-init c =

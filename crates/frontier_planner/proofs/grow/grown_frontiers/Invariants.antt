@@ -3,7 +3,7 @@ use Rattle.frontier_planner.specs.Grown.{grown}
 use Rattle.frontier_planner.specs.Labels.{task_of}
 use Rattle.frontier_planner.specs.Layers.{HoldAll}
 use Rattle.frontier_planner.specs.Read.{labels_before}
-use Rattle.frontier_planner.proofs.grow.layers.Given as goal
+use Rattle.frontier_planner.proofs.grow.grown_frontiers.Given as goal
 
 abbrev pub invariant-loop-seg : goal.invariant-loop-seg
 invariant-loop-seg l = record {
