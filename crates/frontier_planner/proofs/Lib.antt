@@ -26,3 +26,5 @@ pub mod Sound
 pub mod SmallBuffers
 pub mod Reading
 pub mod Naming
+pub mod Short
+pub mod Planned

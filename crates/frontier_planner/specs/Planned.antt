@@ -1,6 +1,6 @@
 -- What the planner answers: a plan with all that makes it the best, or the segment at which the budget is spent.
-use Rattle.std.specs.Prelude.{◌≡◌, ℕ, ◌≤◌, ◌<◌, ℤ, List, length, Result, Ok, Err, sum, map}
-use Rattle.std.specs.List.{All}
+use Rattle.std.specs.Prelude.{◌≡◌, ℕ, ◌≤◌, ◌<◌, ℤ, List, length, Result, Ok, Err}
+use Rattle.std.specs.List.{All, sum_by}
 use Rattle.lab_model.specs.declared.label.Label.{Label}
 use Rattle.frontier_planner.specs.declared.label.Grid.{Grid}
 use Rattle.frontier_planner.specs.declared.plans.CoarsePlan.{CoarsePlan}
@@ -35,7 +35,7 @@ IsShortValue v = IsNear 999999999999999999999999 v
 
 -- the number of labels in all chains
 abbrev pub label_count : List ChainParts → ℕ
-label_count chains = sum (map (λ (c : ChainParts). length c.labels) chains)
+label_count chains = sum_by (λ (c : ChainParts). length c.labels) chains
 
 -- a certificate whose numbers are no longer than its text may have them
 pub record IsShortCertificate (c : CertificateParts) : Type 0 where
