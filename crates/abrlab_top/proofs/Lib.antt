@@ -1,4 +1,3 @@
 pub mod Files
-pub mod Settings
 pub mod Whole
 pub mod Table

@@ -11,8 +11,6 @@ use Rattle.lab_words.specs.Words.{CommandWords, asked_of, begins_with_verb, comm
 use Rattle.lab_model.specs.declared.trace.Period.{Period}
 use Rattle.lab_model.specs.Film.{Film, segments_of}
 use Rattle.lab_model.specs.declared.context.Seek.{Seek}
-use Rattle.seek_script.specs.Within.{SeeksWithin}
-use Rattle.player_core.specs.Seeks.{SeeksFit}
 use Rattle.abrlab_top.specs.declared.stop.Role.{Role}
 use Rattle.abrlab_top.specs.declared.stop.Role.TheVariants as role
 use Rattle.abrlab_top.specs.declared.stop.Setting.{Setting}
@@ -120,10 +118,6 @@ seeks_failed a film periods old mid new r q h e k f p kept named x =
 pub some_name : (name : Option (String Global)) → IsSome name → IsSome (option_map string_bytes name)
 some_name None h = h
 some_name (Some name) h = refl
-
--- a script that its reader accepts fits the film
-pub seeks_fit : (seeks : List Seek) (f : Film) (segments : ℕ) → segments ≡ segments_of f → SeeksWithin seeks segments → SeeksFit seeks f
-seeks_fit seeks f segments e s = record { count = s.count; instants = s.instants; rising = s.rising; targets = rw e at s.targets }
 
 -- a setting does not fit
 pub case_misfits : (files : Files) (a : Asked) (film : Film) (periods : List Period) (seeks : List Seek) (setting : Setting) → film_in files a.manifest ≡ Ok film → periods_in files a.trace ≡ Ok periods → seeks_in files (segments_of film) a.seeks ≡ Ok seeks → Some setting ≡ misfit a.setup a.rule film

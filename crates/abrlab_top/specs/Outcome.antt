@@ -6,7 +6,8 @@ use Rattle.lab_model.specs.declared.fault.Refusal.{Refusal}
 use Rattle.lab_model.specs.declared.setup.Setup.{Setup}
 use Rattle.lab_model.specs.declared.trace.Period.{Period}
 use Rattle.lab_model.specs.Film.{Film, rungs_of, segments_of}
-use Rattle.lab_model.specs.Rules.{RuleKind, fixed, listed, throughput, bola, mpc}
+use Rattle.lab_model.specs.Fit.{buffer_fits, utilities_fit}
+use Rattle.lab_model.specs.Rules.{RuleKind, fixed, listed, throughput, bola, mpc, kind_fits}
 use Rattle.lab_model.specs.Weighing.{weighing}
 use Rattle.lab_words.specs.Words.{CommandWords, command_of}
 use Rattle.manifest_reader.specs.Manifest.{manifest_of}
@@ -121,28 +122,12 @@ seeks_in files segments (Some name) = script_in files segments name
 
 -- ---- the settings
 
--- the rule can be asked about this film
-abbrev pub rule_fits : RuleKind → Film → Bool
-rule_fits (fixed q) f = nat_lt q (rungs_of f)
-rule_fits (listed rungs) f = (length rungs == segments_of f) && list_all (λ q. nat_lt q (rungs_of f)) rungs
-rule_fits (throughput windows) f = true
-rule_fits (bola g) f = true
-rule_fits (mpc horizon) f = true
-
--- the buffer holds a segment
-abbrev pub buffer_fits : Setup → Film → Bool
-buffer_fits s f = nat_le f.seg_ms s.buffer_ms && nat_le s.buffer_ms 10000000
-
--- each rung has a utility, and a table has a row for each segment
-abbrev pub utilities_fit : Setup → Film → Bool
-utilities_fit s f = (s.weights.count == rungs_of f) && ((s.weights.rows == 0) || (s.weights.rows == segments_of f))
-
 -- the first setting that does not fit: the buffer, then the utilities, then the rule
 unfoldable pub misfit : Setup → RuleKind → Film → Option Setting
 misfit s rule f =
     if not (buffer_fits s f) then Some setting.Buffer
     else (if not (utilities_fit s f) then Some setting.Utilities
-    else (if not (rule_fits rule f) then Some (setting.Rule 1) else None))
+    else (if not (kind_fits rule f) then Some (setting.Rule 1) else None))
 
 -- the case, unless a setting does not fit
 abbrev pub unless_misfit : Option Setting → Case → Result Case Stop

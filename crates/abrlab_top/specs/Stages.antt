@@ -4,12 +4,13 @@ use Rattle.lab_io.specs.Sink.{Text, Seen, Rose, Grew, GrewPart}
 use Rattle.lab_io.specs.Shelf.{Shelved}
 use Rattle.lab_words.specs.Words.{begins_with_verb}
 use Rattle.lab_model.specs.Fit.{SetupFits}
+use Rattle.lab_model.specs.Film.{segments_of}
 use Rattle.lab_model.specs.Rules.{KindFits}
+use Rattle.lab_model.specs.Seeks.{SeeksFit}
 use Rattle.lab_model.specs.declared.fault.InputFault.{InputFault}
 use Rattle.lab_model.specs.declared.fault.InputFault.TheVariants.{Memory, Refused}
 use Rattle.player_core.specs.State.{Case, case_of}
 use Rattle.player_core.specs.Available.{all_ahead}
-use Rattle.player_core.specs.Seeks.{SeeksFit}
 use Rattle.abrlab_top.specs.declared.stop.Role.{Role}
 use Rattle.abrlab_top.specs.declared.stop.Stop.{Stop}
 use Rattle.abrlab_top.specs.declared.stop.Stop.TheVariants as stop
@@ -55,7 +56,7 @@ case_seen r = case_of r.manifest r.trace r.setup r.seeks.items all_ahead (kind_o
 pub record CanPlay (r : Ready) : Type 0 where
   pub setup_fits : SetupFits r.setup r.manifest
   pub rule_fits : KindFits (kind_of r.rule) r.manifest
-  pub seeks_fit : SeeksFit r.seeks.items r.manifest
+  pub seeks_fit : SeeksFit r.seeks.items (segments_of r.manifest)
   pub told : StandsFor r.rule []
 
 -- what reading the words gave

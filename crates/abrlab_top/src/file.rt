@@ -2,7 +2,7 @@
 
 ghost use Rattle.std.specs.Prelude.{◌≡◌, [], Err, IfOk, IsSome, option_map, string_bytes, unwrap_or};
 ghost use Rattle.lab_model.specs.Reading.{Gives};
-ghost use Rattle.seek_script.specs.Within.{SeeksWithin};
+ghost use Rattle.lab_model.specs.Seeks.{SeeksFit};
 ghost use Rattle.abrlab_top.specs.Outcome.{bytes_of, film_in, is_csv, periods_in, script_in, seeks_in, trace_of};
 ghost use Rattle.abrlab_top.specs.Stages.{Comes, Keeps, halt_of};
 
@@ -100,7 +100,7 @@ fn script_from<F: Shelf>(
 ) -> Result<Vec<Seek>, Halt>
     ensures kept { Keeps (F.shelved shelf.old) (F.shelved shelf.new) }
     ensures seeks { Comes (λ seeks. seeks.items) Role.Seeks name.now (λ files. script_in files segments name.now) (F.shelved shelf.old) result (F.shelved shelf.new) }
-    ensures within { IfOk result (λ seeks. SeeksWithin seeks.items segments) }
+    ensures within { IfOk result (λ seeks. SeeksFit seeks.items segments) }
 {
     let file = fetch_file(alloc, shelf, Role::Seeks, name)?;
     match read_seeks(alloc, &file, segments) {
@@ -119,7 +119,7 @@ pub(crate) fn seeks_from<F: Shelf>(
     ensures kept { Keeps (F.shelved shelf.old) (F.shelved shelf.new) }
     ensures seeks { Comes (λ seeks. seeks.items) Role.Seeks (unwrap_or (option_map string_bytes name.now) []) (λ files. seeks_in files segments (option_map string_bytes name.now)) (F.shelved shelf.old) result (F.shelved shelf.new) }
     ensures named { (role : Role) → result ≡ Err (Halt.Stopped (Stop.NotRead role)) → IsSome name.now }
-    ensures within { IfOk result (λ seeks. SeeksWithin seeks.items segments) }
+    ensures within { IfOk result (λ seeks. SeeksFit seeks.items segments) }
 {
     match name {
         Some(name) => script_from(alloc, shelf, name, segments),

@@ -3,8 +3,8 @@
 ghost use Rattle.std.specs.Prelude.{◌≡◌, [], map, string_bytes, IfNone, IfOk, true};
 ghost use Rattle.lab_io.specs.Sink.{Seen};
 ghost use Rattle.lab_model.specs.Fit.{SetupFits};
-ghost use Rattle.lab_model.specs.Rules.{KindFits};
-ghost use Rattle.abrlab_top.specs.Outcome.{buffer_fits, misfit, printed, rule_fits, utilities_fit};
+ghost use Rattle.lab_model.specs.Rules.{KindFits, kind_fits};
+ghost use Rattle.abrlab_top.specs.Outcome.{misfit, printed};
 ghost use Rattle.abrlab_top.specs.Rules.{StandsFor, kind_of};
 ghost use Rattle.abrlab_top.specs.Stages.{CanPlay, Causes, Keeps, Prepares, Readies, Shows, asked_seen, case_seen};
 
@@ -42,24 +42,9 @@ pub(crate) struct Ready {
     pub rule: AnyRule,
 }
 
-// Whether the buffer holds a segment.
-fn buffer_fits(setup: &Setup, m: &Manifest) -> bool
-    ensures { result ≡ buffer_fits setup.now m.now }
-{
-    m.seg_ms() <= setup.buffer_ms && setup.buffer_ms <= 10_000_000
-}
-
-// Whether each rung has a utility, and a table a row for each segment.
-fn utilities_fit(setup: &Setup, m: &Manifest) -> bool
-    ensures { result ≡ utilities_fit setup.now m.now }
-{
-    let rows = setup.weights.rows();
-    setup.weights.count() == m.rungs() && (rows == 0 || rows == m.segments())
-}
-
 // Whether the rule can be asked about the film.
 fn rule_fits(rule: &AnyRule, m: &Manifest) -> bool
-    ensures { result ≡ rule_fits (kind_of rule.now) m.now }
+    ensures { result ≡ kind_fits (kind_of rule.now) m.now }
 {
     rule.fits(m)
 }
@@ -70,10 +55,10 @@ fn misfit(setup: &Setup, rule: &AnyRule, m: &Manifest) -> Option<Setting>
     ensures first { result ≡ misfit setup.now (kind_of rule.now) m.now }
     ensures none { IfNone result (SetupFits setup.now m.now × KindFits (kind_of rule.now) m.now) }
 {
-    if !buffer_fits(setup, m) {
+    if !setup.buffer_fits(m) {
         return Some(Setting::Buffer);
     }
-    if !utilities_fit(setup, m) {
+    if !setup.utilities_fit(m) {
         return Some(Setting::Utilities);
     }
     if !rule_fits(rule, m) {

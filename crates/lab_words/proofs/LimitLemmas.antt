@@ -9,12 +9,17 @@ use Rattle.std.specs.Str.Parse.{digits_value}
 use Rattle.clap.specs.Walk.{Row}
 use Rattle.lab_model.specs.Film.{IsWithin}
 use Rattle.lab_model.specs.Rules.{RuleKind, fixed, listed, throughput, bola, mpc}
+use Rattle.lab_model.proofs.Rows.{weighing_within}
 use Rattle.lab_model.specs.Weighing.{IsWeighing, weighing}
 use Rattle.lab_words.specs.Limits.{IsRuleWithin, IsWithinLimits}
 use Rattle.lab_words.specs.Rules.{has_colon, rule_of, rule_of_kind}
 use Rattle.lab_words.specs.Spelling.{Text, all_numbers, in_range, is_number, never_falls, number_of, numbers_of, pieces_of, unless_falling, utilities_of}
-use Rattle.lab_words.specs.Table.{accepted, simulate_app}
-use Rattle.lab_words.specs.Words.{CommandWords, Gives, SettingsWords, asked_of, is_given, view, number_in, number_or, optional, required, rule_in, settings_in, simulate_in, utilities_in, ◌>>=◌}
+use Rattle.lab_words.specs.Command.{CommandWords, view}
+use Rattle.lab_words.specs.Settings.{SettingsWords, settings_in, utilities_in}
+use Rattle.lab_words.specs.Simulate.{simulate_app, simulate_in}
+use Rattle.lab_words.specs.Table.{accepted}
+use Rattle.lab_words.specs.Values.{Gives, is_given, number_in, number_or, optional, required, rule_in, ◌>>=◌}
+use Rattle.lab_words.specs.Words.{asked_of}
 use Rattle.lab_words.specs.declared.Command.{Command}
 use Rattle.lab_words.specs.declared.Verb.{Verb}
 use Rattle.lab_words.specs.declared.Verb.TheVariants as verb
@@ -111,17 +116,9 @@ utilities_within text ns h =
     let listed' = list_within 16 0 1000000 text read.0 read.1 in
     subst (λ (xs : List ℕ). IsRising xs) same (record { count = listed'.0; each = listed'.1; rise = risen read.0 kept.0 })
 
-weighing_within : (ns : List ℕ) (switch stall startup : ℕ) → IsRising ns → IsWithin 0 1000000 switch → IsWithin 0 1000000 stall → IsWithin 0 1000000 startup → IsWeighing (weighing ns switch stall startup)
-weighing_within ns switch stall startup up w l s = record {
-  count = up.count;
-  rows = omega arith;
-  whole = omega arith;
-  utilities = λ k d lt. (up.each k d lt).1;
-  rise = record { along = λ segment rung first lt. rw (zero-add rung, zero-add (rung + 1)) (up.rise rung lt) };
-  switch = w.1;
-  stall = l.1;
-  startup = s.1;
-}
+weighing_of : (ns : List ℕ) (switch stall startup : ℕ) → IsRising ns → IsWithin 0 1000000 switch → IsWithin 0 1000000 stall → IsWithin 0 1000000 startup → IsWeighing (weighing ns switch stall startup)
+weighing_of ns switch stall startup up w l s =
+    weighing_within ns switch stall startup up.count (record { limits = λ k d lt. (up.each k d lt).1; rise = up.rise }) (record { switch_fits = w.1; stall_fits = l.1; startup_fits = s.1 })
 
 -- ---- rules
 
@@ -194,7 +191,7 @@ settings_within rows s h =
     let same : made ≡ s = cc (startup.2) in
     subst AreWithin same (record {
       buffer = option_within 25000 1 10000000 (codes "buffer") rows buffer.0 (lit≤ tt, lit≤ tt) buffer.1;
-      weights = weighing_within utilities.0 switch.0 stall.0 startup.0 (utilities_within text.0 utilities.0 text.2)
+      weights = weighing_of utilities.0 switch.0 stall.0 startup.0 (utilities_within text.0 utilities.0 text.2)
           (option_within 0 0 1000000 (codes "switch") rows switch.0 (lit≤ tt, lit≤ tt) switch.1)
           (option_within 100 0 1000000 (codes "stall") rows stall.0 (lit≤ tt, lit≤ tt) stall.1)
           (option_within 1 0 1000000 (codes "startup") rows startup.0 (lit≤ tt, lit≤ tt) startup.1);

@@ -10,7 +10,8 @@ use Rattle.clap.specs.declared.error.Error.{Error}
 use Rattle.clap.specs.declared.error.kind.ErrorKind.TheVariants.{OutOfMemory}
 use Rattle.clap.specs.declared.parser.matches.ArgMatches.{ArgMatches}
 use Rattle.clap.proofs.WalkLemmas.{both}
-use Rattle.lab_words.specs.Table.{accepted, is_fault_free, simulate_app, table_app, with_words}
+use Rattle.lab_words.specs.Simulate.{simulate_app}
+use Rattle.lab_words.specs.Table.{accepted, is_fault_free, table_app, with_words}
 
 pub simulate_simple : is_simple_and_free simulate_app ≡ true
 unfolding simulate_app table_app with_words

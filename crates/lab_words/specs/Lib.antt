@@ -1,5 +1,9 @@
-pub mod Limits
-pub mod Rules
 pub mod Spelling
+pub mod Rules
+pub mod Command
 pub mod Table
+pub mod Values
+pub mod Settings
+pub mod Simulate
 pub mod Words
+pub mod Limits

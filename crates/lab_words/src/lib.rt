@@ -3,6 +3,7 @@
 
 mod numbers;
 mod rules;
+mod settings;
 mod simulate;
 mod table;
 mod values;
@@ -11,7 +12,9 @@ ghost use Rattle.std.specs.Prelude.{◌≡◌, Err, IfOk, codes, false, map, str
 ghost use Rattle.std.specs.List.{list_any};
 ghost use Rattle.std.specs.Str.{bytes_eq};
 ghost use Rattle.lab_words.specs.Limits.{IsWithinLimits};
-ghost use Rattle.lab_words.specs.Words.{Gives, asked_of, begins_with_verb, command_of, has_dashes, verb_of, view};
+ghost use Rattle.lab_words.specs.Command.{view};
+ghost use Rattle.lab_words.specs.Values.{Gives};
+ghost use Rattle.lab_words.specs.Words.{asked_of, begins_with_verb, command_of, has_dashes, verb_of};
 
 use crate::simulate::simulate_of;
 use std::alloc::{AllocError, AllocFailed, Global};

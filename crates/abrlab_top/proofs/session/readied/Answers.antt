@@ -1,6 +1,6 @@
 use Rattle.std.proofs.Common.{◌∙◌}
 use Rattle.abrlab_top.specs.Stages.{asked_seen}
-use Rattle.abrlab_top.proofs.Whole.{case_made, case_misfits, film_failed, keeps_more, seeks_failed, seeks_fit, some_name, trace_failed}
+use Rattle.abrlab_top.proofs.Whole.{case_made, case_misfits, film_failed, keeps_more, seeks_failed, some_name, trace_failed}
 use Rattle.abrlab_top.proofs.session.readied.Goals as goal
 
 pub returns-in_err-manifest-clause-ready : goal.returns-in_err-manifest-clause-ready
@@ -40,6 +40,6 @@ pub returns-clause-fits : goal.returns-clause-fits
 returns-clause-fits g c = record {
   setup_fits = c.in_default.ensures.none.0;
   rule_fits = c.in_default.ensures.none.1;
-  seeks_fit = seeks_fit c.in_ok-seeks.seeks.items c.in_ok-manifest.manifest c.segments.result c.segments.ensures.value c.in_ok-seeks.ensures.within;
+  seeks_fit = rw c.segments.ensures.value at c.in_ok-seeks.ensures.within;
   told = c.requires;
 }

@@ -1,6 +1,7 @@
-use Rattle.lab_words.specs.Table.{simulate_app, table_app}
+use Rattle.lab_words.specs.Simulate.{simulate_app}
+use Rattle.lab_words.specs.Table.{table_app}
 use Rattle.lab_words.proofs.Simple.{simulate_simple}
-use Rattle.lab_words.proofs.table.simulate_matches.Goals as goal
+use Rattle.lab_words.proofs.simulate.simulate_matches.Goals as goal
 
 pub table_matches-requires : goal.table_matches-requires
 unfolding simulate_app table_app

@@ -1,10 +1,9 @@
 use Rattle.std.proofs.Common.{◌∙◌, sym, refl}
-use Rattle.lab_words.specs.Table.{table_app}
 use Rattle.lab_words.proofs.TableLemmas.{words_more, words_end}
-use Rattle.lab_words.proofs.table.table_command.Goals as goal
+use Rattle.lab_words.proofs.table.with_words.Goals as goal
 
 pub loop-word-init : goal.loop-word-init
-loop-word-init c = rw c.plain_command-command.ensures refl
+loop-word-init c = refl
 
 pub loop-word-preserved : goal.loop-word-preserved
 loop-word-preserved c =
@@ -12,5 +11,4 @@ loop-word-preserved c =
     ∙ c.loop-word.invariant
 
 pub returns : goal.returns
-unfolding table_app
 returns c = sym (words_end _ c.args.table.now c.loop-word.word-index c.loop-word-test.false) ∙ c.loop-word.invariant
