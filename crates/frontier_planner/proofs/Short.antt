@@ -40,7 +40,7 @@ end_short : (g : Task) → IsTask g → (i : ℕ) (l : Label) → i < 2000 → I
 end_short g is i l low h =
     let delay = h.delay in
     let few : l.p ≤ 1000000000000 = omega (arith, delay, low) in
-    let loss : g.setup.weights.stall * l.p ≤ 1000000 * 1000000000000 = mul-le-mul is.weights.stall few in
+    let loss : g.setup.weights.stall * l.p ≤ 1000000 * 1000000000000 = mul-le-mul is.weights.weights.stall_fits few in
     near_end _ (1000000 * 1000000000000) l.v (g.setup.weights.stall * l.p) h.value loss (omega (arith, low))
 
 -- a label has at most 18
