@@ -37,8 +37,10 @@ module _ (d : Grid) (g : Task) (case : CanPlan d g) where
   pub next_rounds : (i r : ℕ) (c : ℕ × Label) → 1 ≤ i → i < segments_of g.film → r < rungs_of g.film → Contains (grown_labels d g (i - 1)) c → IsNear 900000000000000000 (next_label g i c.0 c.1 r).v
   next_rounds zero r c some low rung h = absurd (omega (arith, some))
   next_rounds (suc i) r c some low rung h =
-      let there = subst (λ n. Contains (grown_labels d g n) c) (omega arith) h in
-      reach_rounds (suc i) (next_label g (suc i) c.0 c.1 r) (few (suc i) low) (next_reach g case.task i c.0 r low rung c.1 (in_reach i c (omega (arith, low)) there).1)
+      let e : suc i - 1 ≡ i = omega arith in
+      let there = subst (λ n. Contains (grown_labels d g n) c) e h in
+      let old = in_reach i c (omega (arith, low)) there in
+      reach_rounds (suc i) (next_label g (suc i) c.0 c.1 r) (few (suc i) low) (next_reach g case.task i c.0 r low old.0 rung c.1 old.1)
 
   -- and so can a start label
   pub start_rounds : (q : ℕ) → q < rungs_of g.film → IsNear 900000000000000000 (start_label g q).v
