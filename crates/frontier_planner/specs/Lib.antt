@@ -7,6 +7,9 @@ pub mod Grown
 pub mod Read
 pub mod Covers
 pub mod Valid
+pub mod Layers
+pub mod Sweep
+pub mod Planned
 pub mod Best
 pub mod Laws
 pub mod Along
