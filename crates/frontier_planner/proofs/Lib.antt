@@ -16,3 +16,7 @@ pub mod LabelValues
 pub mod LabelsAreValues
 pub mod Prefixes
 pub mod Reached
+pub mod Same
+pub mod Accepts
+pub mod Sound
+pub mod SmallBuffers

@@ -4,7 +4,7 @@ ghost use Rattle.std.specs.Prelude.{◌≡◌, ℕ, ◌+◌, ◌*◌, ◌<◌, �
 ghost use Rattle.std.specs.List.{All};
 ghost use Rattle.lab_model.specs.Film.{IsWithin};
 ghost use Rattle.lab_model.specs.Row.{AreRows, AreUtilities, AreWeights, IsRow};
-ghost use Rattle.lab_model.specs.Weighing.{HasUtility, IsWeighing, row_no, table_weighing, utility_of, weighing};
+ghost use Rattle.lab_model.specs.Weighing.{HasUtility, IsWeighing, change_of, row_no, table_weighing, utility_of, weighing};
 
 use std::marker::Model;
 
@@ -156,6 +156,20 @@ impl Weights {
         ensures limit { result ≤ 1000000 }
     {
         self.utilities[self.row_no(seg) * self.count + rung as usize]
+    }
+
+    /// How far the utility changes to a rung from the rung before, both taken at this segment, 0 to 1000000; 0 where there
+    /// is no rung before.
+    pub fn change(&self, seg: u16, before: Option<u8>, rung: u8) -> u32
+        requires utility { HasUtility self.now seg rung }
+        requires before { IfSome before (λ q. q < self.now.count) }
+        ensures value { result ≡ change_of self.now seg before rung }
+        ensures limit { result ≤ 1000000 }
+    {
+        match before {
+            None => 0,
+            Some(q) => self.utility(seg, rung).abs_diff(self.utility(seg, q)),
+        }
     }
 
     /// The number of utilities of a segment, 1 to 16.
