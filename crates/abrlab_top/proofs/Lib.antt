@@ -1,4 +1,0 @@
-pub mod Files
-pub mod Settings
-pub mod Whole
-pub mod Table

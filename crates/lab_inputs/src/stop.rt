@@ -1,6 +1,7 @@
 //! How a run ends.
 
 use lab_model::Refusal;
+use std::alloc::AllocError;
 
 /// What a file is for.
 #[derive(Clone, Copy, PartialEq, Eq, Debug)]
@@ -11,6 +12,17 @@ pub enum Role {
     Trace,
     /// The seek script.
     Seeks,
+}
+
+/// What is wrong with a file.
+#[derive(Clone, Copy, PartialEq, Eq, Debug)]
+pub enum FileFault {
+    /// It was not read.
+    NotRead,
+    /// It is longer than its limit.
+    TooLong,
+    /// Its reader refuses it.
+    Refused(Refusal),
 }
 
 /// What does not fit the film.
@@ -24,28 +36,33 @@ pub enum Setting {
     Rule(u8),
 }
 
-/// Why a run stops before it writes.
+/// Why a command stops before it writes.
 #[derive(Clone, Copy, PartialEq, Eq, Debug)]
 pub enum Stop {
-    /// The words are refused.
-    Usage,
-    /// A file was not read.
-    NotRead(Role),
-    /// A file is longer than its limit.
-    TooLong(Role),
-    /// A file is refused by its reader.
-    Refused(Role, Refusal),
+    /// Something is wrong with a file.
+    File(Role, FileFault),
     /// The settings do not fit the film.
     Settings(Setting),
 }
 
 /// Why there is nothing to write.
 #[derive(Clone, Copy, PartialEq, Eq, Debug)]
-pub(crate) enum Halt {
-    /// The run stops.
+pub enum Halt {
+    /// The command stops.
     Stopped(Stop),
     /// Memory was wanting.
     NoMemory,
+}
+
+impl From<AllocError> for Halt {
+    ghost use Rattle.std.specs.Prelude.{◌≡◌};
+    ghost use Rattle.lab_inputs.specs.declared.stop.Halt.TheVariants.{NoMemory};
+
+    ghost from_gives = { λ _ e. e ≡ NoMemory };
+
+    fn from(_refused: AllocError) -> Halt {
+        Halt::NoMemory
+    }
 }
 
 /// How a run ends.
@@ -53,7 +70,9 @@ pub(crate) enum Halt {
 pub enum Ending {
     /// The text went out whole.
     Done,
-    /// The run stopped before it wrote.
+    /// The words are refused.
+    Usage,
+    /// The command stopped before it wrote.
     Stopped(Stop),
     /// `out` did not take the text.
     OutputFailed,
