@@ -41,7 +41,7 @@ trace_count role.Seeks = 0
 
 -- how many of these files are traces
 abbrev pub traces_among : List NamedFile → ℕ
-traces_among = sum_by (λ file. trace_count file.0)
+traces_among files = sum_by (λ file. trace_count file.0) files
 
 -- the most bytes of a file
 abbrev pub limit_of : Role → ℕ

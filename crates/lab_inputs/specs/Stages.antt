@@ -1,5 +1,5 @@
 -- What a stage of a command has for a cause: the files that it asked for, and what came of them.
-use Rattle.std.specs.Prelude.{◌≡◌, ◌≤◌, true, List, [], ◌∷◌, ◌++◌, map, Some, Result, Ok, Err, length}
+use Rattle.std.specs.Prelude.{◌≡◌, ◌≤◌, true, List, [], ◌∷◌, ◌++◌, map, Some, Result, Ok, Err, length, vec_len}
 use Rattle.std.specs.List.{All}
 use Rattle.lab_io.specs.Sink.{Text, Rose}
 use Rattle.lab_io.specs.Shelf.{Shelved}
@@ -119,4 +119,4 @@ pub record IsReady (c : CommandWords) (r : Ready) : Type 0 where
   pub fits : SetupFits r.setup r.inputs.manifest
   pub rules : All (λ kind. KindFits kind r.inputs.manifest) (kinds_of c)
   pub seeks : IsSound r.inputs
-  pub traces : length r.inputs.traces.items ≡ length c.traces
+  pub traces : vec_len r.inputs.traces ≡ length c.traces

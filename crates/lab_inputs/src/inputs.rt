@@ -79,7 +79,9 @@ fn read_trace(alloc: Global, name: &str, bytes: &[u8]) -> Result<Trace, InputFau
 impl Inputs {
     /// The film alone.
     fn of_film(alloc: Global, manifest: Manifest) -> Inputs
-        ensures { values_of result ≡ film_alone manifest }
+        ensures values { values_of result ≡ film_alone manifest }
+        ensures count { vec_len result.traces ≡ 0 }
+        ensures sound { IsSound result }
     {
         Inputs {
             manifest,

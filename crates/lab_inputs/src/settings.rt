@@ -1,9 +1,7 @@
 //! The settings of a command, and whether they fit the film.
 
-ghost use Rattle.std.specs.Prelude.{◌≡◌, ◌<◌, ◌-◌, ◌^◌, IfNone, IfOk, length, map, nat_lt};
-ghost use Rattle.std.specs.List.{All, list_all};
-ghost use Rattle.lab_model.specs.Fit.{SetupFits};
-ghost use Rattle.lab_model.specs.Rules.{KindFits};
+ghost use Rattle.std.specs.Prelude.{◌≡◌, ◌<◌, ◌-◌, ◌^◌, IfOk, length, map, nat_lt};
+ghost use Rattle.std.specs.List.{list_all};
 ghost use Rattle.lab_words.specs.Limits.{IsWithinLimits};
 ghost use Rattle.lab_words.specs.Rules.{spoken};
 ghost use Rattle.lab_words.specs.Words.{view};
@@ -95,9 +93,7 @@ fn misfit_rule(rules: &[NamedRule], m: &Manifest) -> Option<u8>
 #[tactic(auto, unfolding(crate::specs::Settings::misfit))]
 fn misfit(setup: &Setup, rules: &[NamedRule], m: &Manifest) -> Option<Setting>
     requires { length rules.now < 2 ^ 8 - 1 }
-    ensures first { result ≡ misfit setup.now (map (λ rule. spoken rule.rule) rules.now) m.now }
-    ensures setup { IfNone result (SetupFits setup.now m.now) }
-    ensures rules { IfNone result (All (λ rule. KindFits (spoken rule.rule) m.now) rules.now) }
+    ensures { result ≡ misfit setup.now (map (λ rule. spoken rule.rule) rules.now) m.now }
 {
     if !buffer_fits(setup, m) {
         return Some(Setting::Buffer);
