@@ -61,9 +61,8 @@ pub record EndsOf (words : List Text) (shelf : Shelved) (out : Seen) (e : Ending
   pub ends : Ends command shelf out e shelf2 out2
 
 -- nothing was touched
-pub record Untouched (shelf : Shelved) (out : Seen) (shelf2 : Shelved) (out2 : Seen) : Type 0 where
-  pub shelf : shelf2 ≡ shelf
-  pub out : out2 ≡ out
+abbrev pub Untouched : Shelved → Seen → Shelved → Seen → Type 0
+Untouched shelf out shelf2 out2 = (shelf2 ≡ shelf) × (out2 ≡ out)
 
 -- why a run ended as it did, but for what `err` was told
 abbrev pub Ran : List Text → Shelved → Seen → Ending → Shelved → Seen → Type 0

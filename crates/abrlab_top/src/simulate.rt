@@ -1,7 +1,7 @@
 //! `simulate`: the session of one trace and one rule.
 
 ghost use Rattle.std.specs.Prelude.{◌≡◌};
-ghost use Rattle.lab_words.specs.declared.Verb.TheVariants as verb;
+ghost use Rattle.lab_words.specs.declared.Verb.TheVariants.{Simulate};
 ghost use Rattle.lab_words.specs.Words.{view};
 ghost use Rattle.lab_inputs.specs.Stages.{IsReady, values_of};
 ghost use Rattle.abrlab_top.specs.Simulate.{simulate};
@@ -25,7 +25,7 @@ fn write_simulation<O: Sink>(
     out: &mut O,
 ) -> Result<(), PutErr>
     requires taken { IsTaken (view command.now) }
-    requires verb { (view command.now).verb ≡ Verb.Simulate }
+    requires verb { (view command.now).verb ≡ Simulate }
     requires ready { IsReady (view command.now) ready.now }
     ensures { Writes (simulate (view command.now) (values_of ready.now.inputs)).text (O.seen out.old) result (O.seen out.new) }
 {
@@ -53,7 +53,7 @@ pub(crate) fn simulate<F: Shelf, O: Sink>(
     out: &mut O,
 ) -> Ending
     requires taken { IsTaken (view command.now) }
-    requires verb { (view command.now).verb ≡ Verb.Simulate }
+    requires verb { (view command.now).verb ≡ Simulate }
     ensures { Ends (view command.now) (F.shelved shelf.old) (O.seen out.old) result (F.shelved shelf.new) (O.seen out.new) }
 {
     match prepare(alloc, shelf, command) {
