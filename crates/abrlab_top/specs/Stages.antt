@@ -17,16 +17,16 @@ use Rattle.lab_inputs.specs.Stages.{Asks, AsksSome, Stops, Tells}
 use Rattle.abrlab_top.specs.Answer.{Answer}
 use Rattle.abrlab_top.specs.Outcome.{answer_of, asked_command, is_built, outcome_text, stop_status, writes_between}
 
--- what reading the words gave: the command that they ask for, within its limits
-abbrev pub AsksCommand : List Text → Result Command WordsErr → Type 0
-AsksCommand words (Ok c) = (asked_command words ≡ Some (view c)) × IsWithinLimits (view c)
-AsksCommand words (Err words_err.Usage) = asked_command words ≡ None
-AsksCommand words (Err words_err.Memory) = begins_with_verb words ≡ true
-
 -- a command within its limits that is built
 pub record IsTaken (c : CommandWords) : Type 0 where
   pub limits : IsWithinLimits c
   pub built : is_built c ≡ true
+
+-- what reading the words gave: the command that they ask for
+abbrev pub AsksCommand : List Text → Result Command WordsErr → Type 0
+AsksCommand words (Ok c) = (asked_command words ≡ Some (view c)) × IsTaken (view c)
+AsksCommand words (Err words_err.Usage) = asked_command words ≡ None
+AsksCommand words (Err words_err.Memory) = begins_with_verb words ≡ true
 
 -- `out` failed: its count rose, which that of a sure one never does
 pub record OutFails (old new : Seen) : Type 0 where
@@ -58,6 +58,7 @@ Ends c shelf out ending.NoMemory shelf2 out2 =
 pub record EndsOf (words : List Text) (shelf : Shelved) (out : Seen) (e : Ending) (shelf2 : Shelved) (out2 : Seen) : Type 0 where
   pub command : CommandWords
   pub asked : asked_command words ≡ Some command
+  pub taken : IsTaken command
   pub ends : Ends command shelf out e shelf2 out2
 
 -- nothing was touched
