@@ -1,11 +1,10 @@
 -- The player of a rung list stays beside the labels along it: at an arrival and at a request.
-use Rattle.std.proofs.Common.{◌≡◌, ◌∙◌, ℕ, zero, suc, ◌+◌, ◌-◌, ◌*◌, ◌<◌, ◌≤◌, ⊎_elim, false, eqb, List, [], ◌∷◌, ◌++◌, length, max, slice_index, Option, Some, None, IfSome, is_some, unwrap_or, refl, sym, ap, subst, add-one, arith}
+use Rattle.std.proofs.Common.{◌≡◌, ◌∙◌, ℕ, zero, suc, ◌+◌, ◌-◌, ◌*◌, ◌<◌, ◌≤◌, ⊎_elim, false, eqb, List, [], ◌∷◌, ◌++◌, max, slice_index, Option, Some, None, IfSome, is_some, unwrap_or, refl, sym, ap, subst, add-one, arith}
 use Rattle.std.proofs.lemmas.Bool.{cases_lt, cond_both, eqb-true, true≢false}
-use Rattle.std.proofs.lemmas.List.{append_assoc, length_push}
+use Rattle.std.proofs.lemmas.List.{append_assoc}
 use Rattle.std.proofs.lemmas.List.Elements.{All-nil}
 use Rattle.lab_model.specs.declared.context.Seek.{Seek}
 use Rattle.lab_model.specs.declared.label.Label.{Label}
-use Rattle.lab_model.specs.declared.context.Played.{Played}
 use Rattle.lab_model.specs.Film.{segments_of}
 use Rattle.player_core.specs.State.{Download, Player, playing}
 use Rattle.player_core.specs.Parts.{arrival, arrives, asks, begun, can_ask, loads, request, rung_for}
@@ -15,6 +14,7 @@ use Rattle.player_core.proofs.Soundness.{Asks, can_ask_true}
 use Rattle.player_core.proofs.Waits.{asks_true}
 use Rattle.frontier_planner.specs.Labels.{AreRungs, IsTask, Task, came_at, label_at, request_at, there_at}
 use Rattle.frontier_planner.specs.Along.{Along, case_along, label_before, mode_before, rungs_played}
+use Rattle.frontier_planner.proofs.AlongLists.{played_next, segment_on}
 use Rattle.frontier_planner.proofs.AlongSums.{arrive_waited, ask_false, ask_true}
 
 -- ---- the labels of one segment after another
@@ -24,24 +24,16 @@ pub along_case : (g : Task) → IsTask g → (rungs : List ℕ) → AreRungs g (
 along_case g is rungs fits = record {
   film = is.film;
   trace = is.trace;
-  setup = record { buffer = is.setup.buffer; rungs = is.setup.rungs; rows = is.setup.rows };
+  setup = record { buffer = is.setup.buffer; utilities = record { rungs = is.setup.utilities.rungs; rows = is.setup.utilities.rows } };
   seeks = record { count = omega arith; instants = All-nil (λ (s : Seek). s.at_ms ≤ 1000000000); rising = λ k low. absurd (omega (arith, low)); targets = All-nil (λ (s : Seek). s.to < segments_of g.film) };
   ahead = is.ahead;
   rule = fits;
 }
 
+-- the label of a segment is the one before the next
 pub before_next : (g : Task) (rungs : List ℕ) (k : ℕ) → label_at g rungs k ≡ label_before g rungs (k + 1)
 unfolding label_before
 before_next g rungs k = sym (ap (label_before g rungs) (add-one k))
-
-pub played_next : (rungs : List ℕ) (k : ℕ) → rungs_played rungs (k + 1) ≡ rungs_played rungs k ++ (record { segment = k; rung = slice_index rungs k }) ∷ []
-unfolding rungs_played
-played_next rungs k = ap (rungs_played rungs) (add-one k)
-
-pub played_length : (rungs : List ℕ) (k : ℕ) → length (rungs_played rungs k) ≡ k
-unfolding rungs_played
-played_length rungs zero = refl
-played_length rungs (suc k) = length_push (rungs_played rungs k) (record { segment = k; rung = slice_index rungs k }) ∙ ap (λ n. n + 1) (played_length rungs k) ∙ add-one k
 
 mode_next : (k : ℕ) → begun (mode_before k) ≡ mode_before (k + 1)
 unfolding mode_before
@@ -58,13 +50,13 @@ module _ (g : Task) (is : IsTask g) (rungs : List ℕ) where
   first_request = let buffer = is.setup.buffer.0 in omega (arith, buffer)
 
   -- a label's instant: the download runs from the instant of the request
-  pub label_t : (k : ℕ) → (label_at g rungs k).t ≡ came_at g (request_at g k (label_before g rungs k)) k (slice_index rungs k)
+  label_t : (k : ℕ) → (label_at g rungs k).t ≡ came_at g (request_at g k (label_before g rungs k)) k (slice_index rungs k)
   unfolding label_at label_before
   label_t zero = ap (λ s. came_at g s 0 (slice_index rungs 0)) first_request
   label_t (suc i) = refl
 
   -- a label's delay: that before, or as much as its segment came too late
-  pub label_p : (k : ℕ) → (label_at g rungs k).p ≡ max (label_before g rungs k).p ((label_at g rungs k).t - k * g.film.seg_ms)
+  label_p : (k : ℕ) → (label_at g rungs k).p ≡ max (label_before g rungs k).p ((label_at g rungs k).t - k * g.film.seg_ms)
   unfolding label_at label_before
   label_p zero = omega arith
   label_p (suc i) = refl
@@ -101,13 +93,17 @@ module _ (g : Task) (is : IsTask g) (rungs : List ℕ) (from : ℕ) (l : Label) 
         let same = loads_p ∙ ap (λ k. (label_at g rungs k).p) first in
         omega (arith, calm, same)) (cases_lt 0 p.k)
 
-    loads_listed : p.played ++ (p.loaded ++ (record { segment = d.segment; rung = d.rung }) ∷ []) ≡ rungs_played rungs (p.k + 1)
+    loads_listed : p.played ++ (p.loaded ++ segment_on d.segment d.rung ∷ []) ≡ rungs_played rungs (p.k + 1)
     loads_listed =
+        let c = case_along g rungs in
+        let runs : Runs c p.t d = subst (λ o. IfSome o (Runs c p.t)) some h.running in
         let next : d.segment ≡ p.k = subst (λ o. IfSome o (λ e. e.segment ≡ p.k)) some h.of_next in
         let asked : (d.asked ≡ request_at g p.k l) × (d.rung ≡ slice_index rungs p.k) = subst (λ o. IfSome o (λ e. (e.asked ≡ request_at g p.k l) × (e.rung ≡ slice_index rungs p.k))) some a.asked in
-        let of : ℕ → ℕ → List Played = λ i r. (record { segment = i; rung = r }) ∷ [] in
-        sym (append_assoc p.played p.loaded (of d.segment d.rung)) ∙ ap (λ ps. ps ++ of d.segment d.rung) a.listed ∙ ap (λ i. rungs_played rungs p.k ++ of i d.rung) next
-        ∙ ap (λ r. rungs_played rungs p.k ++ of p.k r) asked.1 ∙ sym (played_next rungs p.k)
+        let low = runs.segment in
+        let count = fits.0 in
+        let more = played_next rungs p.k (omega (arith, low, next, count)) in
+        sym (append_assoc p.played p.loaded (segment_on d.segment d.rung ∷ [])) ∙ ap (λ ps. ps ++ segment_on d.segment d.rung ∷ []) a.listed ∙ ap (λ i. rungs_played rungs p.k ++ segment_on i d.rung ∷ []) next
+        ∙ ap (λ r. rungs_played rungs p.k ++ segment_on p.k r ∷ []) asked.1 ∙ sym more ∙ ap (λ n. rungs_played rungs n) (sym (add-one p.k))
 
     loads_along : Along g rungs 0 (label_at g rungs p.k) (loads (case_along g rungs) p d)
     loads_along =
@@ -141,6 +137,7 @@ module _ (g : Task) (is : IsTask g) (rungs : List ℕ) (fits : AreRungs g (segme
       cond_both (eqb d.job.left 0) (loads (case_along g rungs) p d) p (Beside g rungs 0)
       (λ z. (label_at g rungs p.k, loads_along g is rungs from b.0 p h b.1 d e fits (eqb-true d.job.left 0 z))) (λ z. b)
 
+  -- after the arrival the player is beside a label
   pub arrival_along : Beside g rungs 0 (arrival (case_along g rungs) p)
   arrival_along = arrives_along p.download refl
 
@@ -204,6 +201,7 @@ module _ (g : Task) (is : IsTask g) (rungs : List ℕ) (from : ℕ) (l : Label) 
     begun = a.begun;
   }
 
+  -- after the request the next one is later than now
   pub request_along : Along g rungs 1 l (request (case_along g rungs) p)
   request_along =
       cond_both (can_ask (case_along g rungs) p) (asks (case_along g rungs) p (rung_for (case_along g rungs) p)) p (Along g rungs 1 l)

@@ -18,14 +18,15 @@ use Rattle.player_core.proofs.Turned.{last_is, turn_goes}
 use Rattle.player_core.proofs.Waits.{instant_still}
 use Rattle.frontier_planner.specs.Labels.{AreRungs, IsTask, Task, label_at}
 use Rattle.frontier_planner.specs.Along.{Along, case_along, label_before, mode_before, rungs_played}
-use Rattle.frontier_planner.proofs.Along.{Beside, along_case, arrival_along, before_next, played_length, request_along}
+use Rattle.frontier_planner.proofs.Along.{Beside, along_case, arrival_along, before_next, request_along}
+use Rattle.frontier_planner.proofs.AlongLists.{played_length}
 use Rattle.frontier_planner.proofs.AlongPasses.{pass_along}
 
 module _ (g : Task) (is : IsTask g) (rungs : List ℕ) (fits : AreRungs g (segments_of g.film) rungs) where
   -- ---- the start
 
   start_along : Along g rungs 0 (label_before g rungs 0) first_player
-  unfolding label_before mode_before rungs_played
+  unfolding label_before mode_before
   start_along =
       let some = is.film.segments.0 in
       record {
@@ -62,8 +63,9 @@ module _ (g : Task) (is : IsTask g) (rungs : List ℕ) (fits : AreRungs g (segme
       let came = arrival_along g is rungs fits n p h b in
       let asks = request_along g is rungs n came.0 (arrival c p) (arrival_sound c n p h) came.1 in
       let here = subst (Along g rungs 1 came.0) (sym (instant_asks p goes)) asks in
-      (came.0, pass_along g is rungs (n + 1) came.0 (instant c p) (instant_sound c case n p e h goes).0 here goes (instant_still c p goes))
+      (came.0, pass_along g is rungs fits (n + 1) came.0 (instant c p) (instant_sound c case n p e h goes).0 here goes (instant_still c p goes))
 
+  -- until the session ends the player is beside a label
   pub along : (n : ℕ) → ((j : ℕ) → j < n → ends_at (case_along g rungs) j ≡ false) → Beside g rungs 0 (player_after (case_along g rungs) n)
   unfolding player_after
   along zero goes = (label_before g rungs 0, start_along)
@@ -87,7 +89,7 @@ unfolding mode_before
 before_goes zero = refl
 before_goes (suc i) = refl
 
-module _ (g : Task) (is : IsTask g) (rungs : List ℕ) where
+module _ (g : Task) (is : IsTask g) (rungs : List ℕ) (fits : AreRungs g (segments_of g.film) rungs) where
   module _ (from : ℕ) (l : Label) (p : Player) (h : Sound (case_along g rungs) from p) (a : Along g rungs 0 l p) where
     -- where all is played all is loaded, and nothing is left that hasn't begun
     over_next : p.x ≡ segments_of g.film * g.film.seg_ms → p.k ≡ segments_of g.film
@@ -106,7 +108,8 @@ module _ (g : Task) (is : IsTask g) (rungs : List ℕ) where
     over_loaded e =
         let n = segments_of g.film in
         let next = over_next e in
-        let all = ap length a.listed ∙ played_length rungs p.k in
+        let count = fits.0 in
+        let all = ap length a.listed ∙ played_length rungs p.k (omega (arith, next, count)) in
         let parts = length-append p.played p.loaded in
         let begun = a.begun in
         let most = begun_all g.film p.x n is.film.seg_ms.0 e in
@@ -124,7 +127,7 @@ module _ (g : Task) (is : IsTask g) (rungs : List ℕ) where
         let next = over_next e in
         let some = is.film.segments.0 in
         record {
-          played = sym (append-nil p.played) ∙ ap (λ ps. p.played ++ ps) (sym (over_loaded e)) ∙ a.listed ∙ ap (rungs_played rungs) next;
+          played = sym (append-nil p.played) ∙ ap (λ ps. p.played ++ ps) (sym (over_loaded e)) ∙ a.listed ∙ ap (λ k. rungs_played rungs k) next;
           startup = a.startup (omega (arith, next, some));
           waited = a.whole next ∙ ap (λ (m : Label). m.p) (a.label ∙ last_label p.k next);
         }
@@ -139,8 +142,8 @@ module _ (g : Task) (is : IsTask g) (rungs : List ℕ) where
         (λ e over. absurd (true≢false (sym over ∙ ap is_ended a.mode ∙ before_goes p.k)))
 
   -- the player at the end has played the list, and has waited the last label's delay
-  pub last_over : AreRungs g (segments_of g.film) rungs → Over g rungs (last_player (case_along g rungs))
-  last_over fits =
+  pub last_over : Over g rungs (last_player (case_along g rungs))
+  last_over =
       let c = case_along g rungs in
       let case = along_case g is rungs fits in
       let n = end_of c in

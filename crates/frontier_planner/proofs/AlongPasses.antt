@@ -13,9 +13,9 @@ use Rattle.player_core.specs.Sound.{Sound, begun_before, is_waiting}
 use Rattle.player_core.proofs.Counts.{begun_more, begun_most, begun_same}
 use Rattle.player_core.proofs.Soundness.{later, taken, ticked}
 use Rattle.player_core.proofs.Waits.{IsStill}
-use Rattle.frontier_planner.specs.Labels.{IsTask, Task, label_at, request_at}
+use Rattle.frontier_planner.specs.Labels.{AreRungs, IsTask, Task, label_at, request_at}
 use Rattle.frontier_planner.specs.Along.{Along, case_along, mode_before, rungs_played}
-use Rattle.frontier_planner.proofs.Along.{played_length}
+use Rattle.frontier_planner.proofs.AlongLists.{played_length}
 
 -- ---- modes
 
@@ -31,13 +31,13 @@ unfolding mode_before
 never_seeks zero = refl
 never_seeks (suc i) = refl
 
--- the player starts before the first segment, and plays after it
-pub before_first : (k : ℕ) → mode_before k ≡ starting → k ≡ 0
+-- it starts before the first segment, and plays after it
+before_first : (k : ℕ) → mode_before k ≡ starting → k ≡ 0
 unfolding mode_before
 before_first zero e = refl
 before_first (suc i) e = absurd (true≢false (ap is_playing e))
 
-pub after_first : (k : ℕ) → mode_before k ≡ playing → 0 < k
+after_first : (k : ℕ) → mode_before k ≡ playing → 0 < k
 unfolding mode_before
 after_first zero e = absurd (false≢true (ap is_playing e))
 after_first (suc i) e = omega arith
@@ -63,7 +63,7 @@ taken_asked : (c : Case) (t s r : ℕ) (o : Option Download) → IfSome o (λ d.
 taken_asked c t s r None h = tt
 taken_asked c t s r (Some d) h = h
 
-module _ (g : Task) (is : IsTask g) (rungs : List ℕ) (from : ℕ) (l : Label) (p : Player) (h : Sound (case_along g rungs) from p) (a : Along g rungs 1 l p) where
+module _ (g : Task) (is : IsTask g) (rungs : List ℕ) (fits : AreRungs g (segments_of g.film) rungs) (from : ℕ) (l : Label) (p : Player) (h : Sound (case_along g rungs) from p) (a : Along g rungs 1 l p) where
   later_along : (x startup_ms stall_ms seek_ms stalls : ℕ) (stalling : Bool) (loaded played : List Played) (events : List Event) → Keeps g rungs l p x startup_ms stall_ms loaded played
       → Along g rungs 0 l (later (case_along g rungs) p x startup_ms stall_ms seek_ms stalls stalling loaded played events)
   later_along x startup_ms stall_ms seek_ms stalls stalling loaded played events k =
@@ -161,7 +161,9 @@ module _ (g : Task) (is : IsTask g) (rungs : List ℕ) (from : ℕ) (l : Label) 
       -- where a segment begins one is loaded that hasn't begun
       none_loaded : p.loaded ≡ [] → p.x % g.film.seg_ms ≡ 0 → ⊥
       none_loaded none start =
-          let all = ap length (sym (append-nil p.played) ∙ ap (λ ps. p.played ++ ps) (sym none) ∙ a.listed) ∙ played_length rungs p.k in
+          let next = h.next in
+          let count = fits.0 in
+          let all = ap length (sym (append-nil p.played) ∙ ap (λ ps. p.played ++ ps) (sym none) ∙ a.listed) ∙ played_length rungs p.k (omega (arith, next, count)) in
           let begun = a.begun in
           let more = begun_more g.film p.x is.film.seg_ms.0 start in
           let end = h.loaded_end in
@@ -193,5 +195,6 @@ module _ (g : Task) (is : IsTask g) (rungs : List ℕ) (from : ℕ) (l : Label) 
       cond_both (ltb p.x p.y) (plays c (taken c p)) (stalls_on (taken c p)) (λ r. Along g rungs 0 l (ticked r))
       (λ low. plays_along e (ltb-true p.x p.y low)) (λ late. stalls_along e still (ltb-false p.x p.y late))
 
+  -- a millisecond later the player is beside the same label
   pub pass_along : is_ended p.mode ≡ false → IsStill (case_along g rungs) p → Along g rungs 0 l (pass_ms (case_along g rungs) p)
   pass_along go still = passes_along p.mode refl go still

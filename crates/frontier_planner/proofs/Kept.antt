@@ -1,5 +1,5 @@
 -- Labels that no different one dominates.
-use Rattle.std.proofs.Common.{◌≡◌, ◌∙◌, ℕ, ◌≤◌, ◌⊎◌, ⊎_elim, List, [], ◌∷◌, Bool, true, false, not, ◌&&◌, refl, sym, ap, subst, arith}
+use Rattle.std.proofs.Common.{◌≡◌, ◌∙◌, ℕ, ⊎_elim, List, [], ◌∷◌, Bool, true, false, not, ◌&&◌, refl, sym, ap, subst, arith}
 use Rattle.std.specs.Prelude.{ℤ, ◌≤ℤ◌, int_le, nat_le}
 use Rattle.std.specs.List.{Contains, list_any}
 use Rattle.std.specs.List.Sorted.{IsStrictlySortedBy}
@@ -108,7 +108,8 @@ dominator (x ∷ xs) l h =
 
 -- ---- what is kept of a list
 
-same_any : (l m : Label) → is_same l m ≡ true → l ≡ m
+-- labels that the test takes for the same are one
+pub same_any : (l m : Label) → is_same l m ≡ true → l ≡ m
 same_any = tells_apart label_exact
 
 -- putting in order adds nothing

@@ -6,9 +6,17 @@ pub mod Path
 pub mod Covered
 pub mod Rounds
 pub mod Grown
+pub mod ReadBack
 pub mod AlongSums
+pub mod AlongLists
 pub mod Along
 pub mod AlongPasses
 pub mod AlongEnds
 pub mod LabelValues
 pub mod LabelsAreValues
+pub mod Prefixes
+pub mod Reached
+pub mod Same
+pub mod Accepts
+pub mod Sound
+pub mod SmallBuffers

@@ -1,11 +1,11 @@
 -- What stands in mapped, joined and filtered lists, and among the rungs below a number.
-use Rattle.std.proofs.Common.{◌≡◌, ◌∙◌, ℕ, zero, suc, ◌+◌, ◌<◌, ◌≤◌, ◌⊎◌, inl, inr, ⊎_elim, List, [], ◌∷◌, ◌++◌, map, Bool, true, false, Some, refl, sym, ap, subst, arith, add-one}
+use Rattle.std.proofs.Common.{◌≡◌, ◌∙◌, ℕ, ◌<◌, ◌⊎◌, inl, inr, ⊎_elim, List, [], ◌∷◌, ◌++◌, map, Bool, true, false, Some, refl, sym, ap, subst, arith, zero-add}
 use Rattle.std.specs.List.{Contains, filter, find, flat_map}
-use Rattle.std.proofs.lemmas.Bool.{cases_Bool, cases_lt, cond_both, cond-false, cond-true, false≢true}
+use Rattle.std.proofs.lemmas.Bool.{cases_Bool, cond_both, cond-false, cond-true, false≢true}
+use Rattle.std.proofs.lemmas.List.FromFn.{length-range_with_len, get_or-range_with_len}
 use Rattle.std.proofs.lemmas.List.Elements.{Contains-append_cases, Contains-append_left, Contains-append_right, Contains-push, Contains-push_cases}
 use Rattle.lab_model.specs.declared.label.Label.{Label}
-use Rattle.lab_model.specs.Choice.{rungs_below}
-use Rattle.lab_model.proofs.Rungs.{rungs_more, rungs_none}
+use Rattle.lab_model.specs.Ladder.{rungs_below}
 use Rattle.frontier_planner.specs.Frontier.{by_rung}
 
 module _ {X : Type 0} where
@@ -71,19 +71,19 @@ module _ {X Y : Type 0} where
 
 -- each rung below a number stands among those below it
 pub in_rungs : (n q : ℕ) → q < n → Contains (rungs_below n) q
-in_rungs zero q low = absurd (omega (arith, low))
-in_rungs (suc n) q low =
-    let more = ap rungs_below (sym (add-one n)) ∙ rungs_more n in
-    subst (λ qs. Contains qs q) (sym more)
-    (⊎_elim (λ (less : q < n). Contains-append_left (rungs_below n) (n ∷ []) q (in_rungs n q less))
-    (λ (last : n ≤ q). subst (Contains (rungs_below n ++ n ∷ [])) (omega arith) (Contains-push (rungs_below n) n)) (cases_lt q n))
+in_rungs n q low =
+    let few = length-range_with_len 0 n in
+    (q, omega (arith, few, low), get_or-range_with_len 0 n q q low ∙ zero-add q)
 
 -- and no other
 pub from_rungs : (n q : ℕ) → Contains (rungs_below n) q → q < n
-from_rungs zero q h = absurd (none_at q (subst (λ qs. Contains qs q) rungs_none h))
-from_rungs (suc n) q h =
-    let more = ap rungs_below (sym (add-one n)) ∙ rungs_more n in
-    ⊎_elim (λ before. let low = from_rungs n q before in omega (arith, low)) (λ (e : n ≡ q). omega (arith, e)) (Contains-push_cases (rungs_below n) n q (subst (λ qs. Contains qs q) more h))
+from_rungs n q h =
+    let few = length-range_with_len 0 n in
+    let low = h.1 in
+    let here : h.0 < n = omega (arith, few, low) in
+    let e = get_or-range_with_len 0 n h.0 q here in
+    let is = h.2 in
+    omega (arith, e, is, here)
 
 -- ---- the labels of a segment, by rung, then place
 

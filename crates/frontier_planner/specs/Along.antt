@@ -1,9 +1,10 @@
 -- Not part of the model: what the proofs keep.
 -- A player whose rule is a rung list, beside the labels along that list.
-use Rattle.std.specs.Prelude.{◌≡◌, ℕ, zero, suc, ◌+◌, ◌≤◌, ◌<◌, List, [], ◌∷◌, ◌++◌, length, slice_index, None, IfSome, pos}
+use Rattle.std.specs.Prelude.{◌≡◌, ℕ, zero, suc, ◌+◌, ◌≤◌, ◌<◌, List, ◌++◌, length, slice_index, take, None, IfSome, pos}
 use Rattle.lab_model.specs.declared.label.Label.{Label}
 use Rattle.lab_model.specs.declared.context.Played.{Played}
 use Rattle.lab_model.specs.Film.{segments_of}
+use Rattle.lab_model.specs.Sums.{played_from}
 use Rattle.player_core.specs.State.{Case, Mode, Player, starting, playing}
 use Rattle.player_core.specs.Sound.{begun_before}
 use Rattle.player_core.specs.Value.{list_case}
@@ -14,9 +15,8 @@ abbrev pub case_along : Task → List ℕ → Case
 case_along g rungs = list_case g.film g.periods g.setup g.ahead rungs
 
 -- the first segments, so many, with their rungs
-unfoldable pub rungs_played : List ℕ → ℕ → List Played
-rungs_played rungs zero = []
-rungs_played rungs (suc k) = rungs_played rungs k ++ (record { segment = k; rung = slice_index rungs k }) ∷ []
+abbrev pub rungs_played : List ℕ → ℕ → List Played
+rungs_played rungs k = played_from 0 (take k rungs)
 
 -- the label of the segment before one: before the first all is 0
 unfoldable pub label_before : Task → List ℕ → ℕ → Label

@@ -5,7 +5,8 @@ use Rattle.std.specs.BTreeSet.{insert_key}
 use Rattle.std.specs.Ordering.{ordering_then, nat_cmp, int_cmp, eq_by_cmp}
 use Rattle.std.specs.declared.cmp.Ordering.{Ordering}
 use Rattle.lab_model.specs.declared.label.Label.{Label}
-use Rattle.lab_model.specs.Choice.{lists_of, rungs_below}
+use Rattle.lab_model.specs.Ladder.{rungs_below}
+use Rattle.lab_model.specs.Mpc.{lists_of}
 use Rattle.lab_model.specs.Film.{rungs_of}
 use Rattle.frontier_planner.specs.Labels.{Dominates, Task, dominates, label_at}
 

@@ -7,5 +7,7 @@ pub mod Grown
 pub mod Read
 pub mod Covers
 pub mod Valid
+pub mod Best
+pub mod Laws
 pub mod Along
 pub mod ValueLaw

@@ -1,8 +1,8 @@
 -- The plan that is read off chains of labels: its end, its rung list, its names and starts, and the number of labels.
-use Rattle.std.specs.Prelude.{ℕ, zero, suc, ◌+◌, ◌-◌, ◌*◌, ◌≤◌, ◌<◌, ◌==◌, Bool, not, List, [], ◌∷◌, ◌++◌, length, map, ℤ, pos, int_lt, nat_lt, unwrap_or, if◌then◌else◌}
+use Rattle.std.specs.Prelude.{ℕ, zero, suc, ◌+◌, ◌-◌, ◌≤◌, ◌<◌, ◌==◌, Bool, not, List, [], ◌∷◌, ◌++◌, length, map, ℤ, pos, int_lt, nat_lt, unwrap_or, if◌then◌else◌}
 use Rattle.std.specs.List.{best_of, find, flat_map, position_or_len}
 use Rattle.lab_model.specs.declared.label.Label.{Label}
-use Rattle.lab_model.specs.Choice.{rungs_below}
+use Rattle.lab_model.specs.Ladder.{rungs_below}
 use Rattle.lab_model.specs.Film.{rungs_of, segments_of}
 use Rattle.lab_model.specs.declared.setup.Setup.{Setup}
 use Rattle.frontier_planner.specs.declared.label.Grid.{Grid}

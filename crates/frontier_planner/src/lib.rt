@@ -2,11 +2,16 @@
 #![tactic(auto)]
 
 mod label;
+mod laws;
 mod plan;
 mod values;
 
 pub use label::{
     Grid, dominates, end_value, next_from, next_label, round_label, start_from, start_label,
+};
+pub use laws::{
+    dominance_is_inherited, frontiers_grow, plans_are_accepted, plans_are_best,
+    small_buffers_tell_apart, valid_is_sound,
 };
 pub use plan::{Chain, Plan, PlanErr};
 pub use values::labels_are_values;

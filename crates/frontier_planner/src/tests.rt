@@ -1,3 +1,4 @@
 //! Tests, with answers from outside.
 
+mod labels;
 mod values;

@@ -131,6 +131,7 @@ impl Manifest {
     pub fn greatest_rung(&self, factor: u16, limit: u64) -> u8
         ensures value { result ≡ greatest_rung (λ q. nat_le (factor * bitrate_of self.now q) limit) (rungs_of self.now) }
         ensures rung { result < rungs_of self.now }
+        ensures film { IsFilm self.now }
     {
         let mut best = 0u8;
         for q in 0..self.rungs() {

@@ -13,8 +13,10 @@ use crate::setup::Setup;
 
 /// A rule that is told the samples of a session, in order, and chooses rungs.
 pub trait Rule {
+    /// The kind of the rule, with its numbers. No call changes it.
     ghost kind: { Self → RuleKind };
 
+    /// The value stands for this history: the rates of the samples that it was told, in order.
     ghost stands_for: { Self → List ℕ → Type 0 };
 
     /// Whether the rule can be asked about this film.

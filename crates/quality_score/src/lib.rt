@@ -33,20 +33,6 @@ impl Model for Tally {
     ghost invariant = { λ t. IsSmall (record { utilities = t.utilities; changes = t.changes; last = t.last; count = t.count }) };
 }
 
-fn change(w: &Weights, p: Played, before: Option<u8>) -> u32
-    requires utility { HasUtility w.now p.segment p.rung }
-    requires before { IfSome before (λ q. q < w.now.count) }
-    ensures value { result ≡ change_of w.now p.segment before p.rung }
-    ensures limit { result ≤ 1000000 }
-{
-    match before {
-        None => 0,
-        Some(q) => w
-            .utility(p.segment, p.rung)
-            .abs_diff(w.utility(p.segment, q)),
-    }
-}
-
 fn weighed(w: &Weights, changes: u64, stall_ms: u64, startup_ms: u64) -> u128
     requires changes { changes ≤ 40000000000 }
     requires stall { stall_ms ≤ 1000000000000000 }
@@ -85,7 +71,7 @@ impl Tally {
         ensures more { self.new.count ≡ self.old.count + 1 }
     {
         self.utilities += w.utility(p.segment, p.rung) as u64;
-        self.changes += change(w, p, self.last) as u64;
+        self.changes += w.change(p.segment, self.last, p.rung) as u64;
         self.last = Some(p.rung);
         self.count += 1;
     }
