@@ -218,12 +218,12 @@ is_no_memory words old new ending.OutputFailed r h s = let k = h.status in absur
 is_no_memory words old new ending.NoMemory r h s = elim (h.ran.1) as (λ x. IsNoMemory words old new) [
   | inl same ↦ record { command = h.ran.0; out = λ x. inl same.1; err = h.told; text = λ files t. grew_none old.out.written new.out.written (text words files) (ap (λ (s : Seen). s.written) same.1) }
   | inr x ↦ record {
-      command = h.ran.0;
-      out = out_at_end words x.command old.out new.out x.asked x.ends.1;
-      err = h.told;
-      text = λ files t. rw (outcome_asked words x.command files x.asked) (x.ends.2 files t);
-    }
-  ]
+    command = h.ran.0;
+    out = out_at_end words x.command old.out new.out x.asked x.ends.1;
+    err = h.told;
+    text = λ files t. rw (outcome_asked words x.command files x.asked) (x.ends.2 files t);
+  }
+]
 
 -- every answer has its cause
 pub has_cause : (words : List Text) (old new : World) (e : Ending) (r : ℕ) → Known words old new e r → HasCause words old r new
@@ -366,6 +366,6 @@ pub is_complete : (words : List Text) (old new : World) (e : Ending) (r : ℕ) �
 is_complete words old new e r h = record {
   faultless = λ files t f. completes words old new e r h files t f.shelf (λ x. f.out x.rose);
   sure = λ files t s. completes words old new e r h files t
-    (λ file named there rose. let x = s.shelf file named there in never_rose _ _ x.1 ((leaves_shelf words old new e r h).asks.asks.steady file.1 x.0) rose)
-    (λ x. never_rose _ _ s.faults (x.steady s.out) x.rose);
+      (λ file named there rose. let x = s.shelf file named there in never_rose _ _ x.1 ((leaves_shelf words old new e r h).asks.asks.steady file.1 x.0) rose)
+      (λ x. never_rose _ _ s.faults (x.steady s.out) x.rose);
 }
