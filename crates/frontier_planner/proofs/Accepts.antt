@@ -1,7 +1,7 @@
 -- The certificate that is read off chains that cover all rung lists is valid.
-use Rattle.std.proofs.Common.{◌≡◌, ◌∙◌, ℕ, zero, suc, ◌+◌, ◌-◌, ◌*◌, ◌<◌, ◌≤◌, ⊎_elim, List, [], ◌∷◌, ◌++◌, length, get_or, map, take, true, false, refl, sym, ap, ap₂, subst, arith, add-one, length-append, lt-ltb}
-use Rattle.std.specs.Prelude.{ℤ, nat_lt, slice_index}
-use Rattle.std.specs.List.{Contains, flat_map, position_or_len}
+use Rattle.std.proofs.Common.{◌≡◌, ◌∙◌, ℕ, suc, ◌+◌, ◌-◌, ◌*◌, ◌<◌, ◌≤◌, ⊎_elim, List, [], ◌∷◌, length, get_or, map, take, true, refl, sym, ap, subst, arith, add-one, length-append, lt-ltb}
+use Rattle.std.specs.Prelude.{nat_lt, slice_index}
+use Rattle.std.specs.List.{Contains, flat_map}
 use Rattle.std.proofs.lemmas.Bool.{cases_lt, cond-true, false≢true}
 use Rattle.std.proofs.lemmas.List.{length-take-le}
 use Rattle.std.proofs.lemmas.List.Concat.{get_or-flat_map}
@@ -16,7 +16,7 @@ use Rattle.frontier_planner.specs.Labels.{Dominates, IsTask, Task, dominates, ne
 use Rattle.frontier_planner.specs.Parts.{CertificateParts, ChainParts}
 use Rattle.frontier_planner.specs.Grid.{IsGrid}
 use Rattle.frontier_planner.specs.Grown.{grown}
-use Rattle.frontier_planner.specs.Read.{Chains, bound_of, certificate_of, chain_list, chain_with_names, names_of, names_of_label, no_label, place_above, starts_of}
+use Rattle.frontier_planner.specs.Read.{Chains, bound_of, certificate_of, chain_with_names, names_of_label, no_label, place_above}
 use Rattle.frontier_planner.specs.Covers.{Covers, HasAbove}
 use Rattle.frontier_planner.specs.Valid.{IsPlace, IsValid, chain_in, count_in, label_in, name_in, no_chain, start_in}
 use Rattle.frontier_planner.proofs.Covered.{rung_at}

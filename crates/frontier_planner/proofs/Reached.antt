@@ -1,20 +1,18 @@
 -- How far labels lie that a rung list reaches, or that grow on a grid: within the ranges of the label calls.
-use Rattle.std.proofs.Common.{◌≡◌, ◌∙◌, ℕ, zero, suc, ◌+◌, ◌-◌, ◌*◌, ◌<◌, ◌≤◌, ⊎_elim, List, length, sym, subst, arith, mul-le-mul}
+use Rattle.std.proofs.Common.{◌≡◌, ℕ, zero, suc, ◌+◌, ◌*◌, ◌<◌, ◌≤◌, ⊎_elim, List, sym, subst, arith, mul-le-mul}
 use Rattle.std.specs.Prelude.{ℤ, pos, ◌+ℤ◌, ◌-ℤ◌, ◌≤ℤ◌, Some, slice_index}
-use Rattle.std.specs.List.{All, Contains}
-use Rattle.std.proofs.lemmas.Bool.{cases_lt}
+use Rattle.std.specs.List.{Contains}
 use Rattle.std.proofs.lemmas.Int.{ints}
-use Rattle.std.proofs.lemmas.List.{get_or_past}
 use Rattle.lab_model.specs.declared.label.Label.{Label}
-use Rattle.lab_model.specs.Film.{Film, IsFilm, rungs_of, segments_of, size_of}
+use Rattle.lab_model.specs.Film.{rungs_of, segments_of, size_of}
 use Rattle.lab_model.specs.Weighing.{HasUtility, change_of, utility_of}
 use Rattle.lab_model.proofs.Rows.{utility_limit}
-use Rattle.network_clock.proofs.Downloads.{done_found, done_from}
+use Rattle.network_clock.proofs.Downloads.{done_found}
 use Rattle.player_core.proofs.Runs.{size_within}
 use Rattle.frontier_planner.specs.declared.label.Grid.{Grid}
 use Rattle.frontier_planner.specs.Labels.{AreRungs, IsTask, Task, came_at, label_at, next_label, request_at, start_label, there_at}
 use Rattle.frontier_planner.specs.Near.{CanFollow, IsNear}
-use Rattle.frontier_planner.specs.Grid.{IsGrid, exact, multiple_above, multiple_below, rounded}
+use Rattle.frontier_planner.specs.Grid.{IsGrid, multiple_above, rounded}
 use Rattle.frontier_planner.specs.Grown.{grown}
 use Rattle.frontier_planner.proofs.Covered.{rung_at}
 use Rattle.frontier_planner.proofs.Grown.{from_first, from_next}

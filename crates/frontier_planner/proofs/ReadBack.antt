@@ -1,7 +1,7 @@
 -- What is read off coarse frontiers: the end of the plan is the greatest, and each label has a parent, back to segment 0.
-use Rattle.std.proofs.Common.{◌≡◌, ◌∙◌, ℕ, zero, suc, ◌+◌, ◌-◌, ◌<◌, ◌≤◌, ⊎_elim, List, [], ◌∷◌, ◌++◌, length, true, false, Some, refl, sym, ap, subst, arith, length-append}
+use Rattle.std.proofs.Common.{◌≡◌, ◌∙◌, ℕ, zero, suc, ◌-◌, ◌<◌, ⊎_elim, List, [], ◌∷◌, ◌++◌, true, false, refl, sym, ap, subst, arith, length-append}
 use Rattle.std.specs.Prelude.{ℤ, ◌≤ℤ◌, int_lt, slice_index, unwrap_or}
-use Rattle.std.specs.List.{All, Contains, best_of, find}
+use Rattle.std.specs.List.{Contains, best_of}
 use Rattle.std.proofs.Math.Seq.{get_or-append_seam}
 use Rattle.std.proofs.lemmas.Bool.{cond_both}
 use Rattle.std.proofs.lemmas.Cmp.{eq_by_cmp_equiv}

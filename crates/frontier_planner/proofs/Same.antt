@@ -1,7 +1,7 @@
 -- What is read off chains depends on the chains of the film's segments and rungs alone.
-use Rattle.std.proofs.Common.{◌≡◌, ◌∙◌, ℕ, zero, suc, ◌+◌, ◌-◌, ◌<◌, ◌≤◌, ⊎_elim, List, [], ◌∷◌, ◌++◌, length, map, Bool, true, false, refl, sym, ap, ap₂, arith}
-use Rattle.std.specs.Prelude.{ℤ, nat_lt, unwrap_or}
-use Rattle.std.specs.List.{Contains, find, flat_map, position_or_len}
+use Rattle.std.proofs.Common.{◌≡◌, ◌∙◌, ℕ, zero, suc, ◌+◌, ◌-◌, ◌<◌, ◌≤◌, ⊎_elim, List, [], ◌∷◌, ◌++◌, length, map, true, false, refl, sym, ap, ap₂, arith}
+use Rattle.std.specs.Prelude.{nat_lt, unwrap_or}
+use Rattle.std.specs.List.{find, flat_map}
 use Rattle.std.proofs.lemmas.Bool.{cases_Bool, cond-false, cond-true, ltb-true}
 use Rattle.lab_model.specs.declared.label.Label.{Label}
 use Rattle.lab_model.specs.Film.{rungs_of, segments_of}
@@ -9,7 +9,7 @@ use Rattle.lab_model.specs.Ladder.{rungs_below}
 use Rattle.frontier_planner.specs.declared.label.Grid.{Grid}
 use Rattle.frontier_planner.specs.Labels.{IsTask, Task, end_value, next_label, start_label}
 use Rattle.frontier_planner.specs.Parts.{CertificateParts, ChainParts}
-use Rattle.frontier_planner.specs.Read.{Chains, best_in, bound_of, certificate_of, chain_list, chain_with_names, end_of_plan, has_table, labels_before, labels_in, labels_of, leads_to, list_of_plan, list_value, names_of, names_of_label, no_label, parent_of, place_above, rungs_back, starts_of}
+use Rattle.frontier_planner.specs.Read.{Chains, best_in, bound_of, certificate_of, chain_list, chain_with_names, end_of_plan, has_table, labels_before, labels_of, leads_to, list_of_plan, list_value, names_of, names_of_label, no_label, parent_of, place_above, rungs_back, starts_of}
 use Rattle.frontier_planner.proofs.ReadBack.{back_first, back_next}
 use Rattle.frontier_planner.proofs.Walks.{by_rung_same, flat_map_same, from_rungs, map_same}
 

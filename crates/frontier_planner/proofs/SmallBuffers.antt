@@ -1,14 +1,14 @@
 -- Where the buffer holds at most two segments, a label's delay alone settles what comes after it.
-use Rattle.std.proofs.Common.{◌≡◌, ◌∙◌, ℕ, zero, suc, ◌+◌, ◌-◌, ◌*◌, ◌<◌, ◌≤◌, ⊎_elim, sym, ap, subst, arith}
+use Rattle.std.proofs.Common.{◌≡◌, ◌∙◌, ℕ, zero, suc, ◌+◌, ◌*◌, ◌<◌, ◌≤◌, ⊎_elim, sym, ap, subst, arith}
 use Rattle.std.specs.Prelude.{ℤ, ◌≤ℤ◌}
 use Rattle.std.specs.List.{Contains}
 use Rattle.std.proofs.lemmas.Bool.{cases_lt}
 use Rattle.std.proofs.lemmas.Int.{ints}
 use Rattle.lab_model.specs.declared.label.Label.{Label}
 use Rattle.lab_model.specs.Film.{rungs_of, segments_of}
-use Rattle.frontier_planner.specs.Labels.{Dominates, IsTask, Task, came_at, next_label, request_at, start_label}
+use Rattle.frontier_planner.specs.Labels.{Dominates, IsTask, Task, next_label, request_at, start_label}
 use Rattle.frontier_planner.specs.Frontier.{frontier}
-use Rattle.frontier_planner.specs.Grid.{exact, rounded}
+use Rattle.frontier_planner.specs.Grid.{exact}
 use Rattle.frontier_planner.specs.Grown.{grown, successors}
 use Rattle.frontier_planner.proofs.Grown.{from_first, from_next, grown_next}
 use Rattle.frontier_planner.proofs.Inherits.{came_in_order}

@@ -1,21 +1,21 @@
 -- A valid certificate proves what it says.
-use Rattle.std.proofs.Common.{◌≡◌, ◌∙◌, ℕ, ◌+◌, ◌-◌, ◌<◌, List, length, get_or, sym, ap, refl, subst, arith}
-use Rattle.std.specs.Prelude.{ℤ, ◌≤ℤ◌, slice_index}
-use Rattle.std.specs.List.{All, Contains}
+use Rattle.std.proofs.Common.{◌≡◌, ◌∙◌, ℕ, ◌+◌, ◌-◌, ◌<◌, List, length, sym, ap, refl, subst, arith}
+use Rattle.std.specs.Prelude.{ℤ, ◌≤ℤ◌}
+use Rattle.std.specs.List.{Contains}
 use Rattle.std.proofs.lemmas.List.{get_or_default}
 use Rattle.std.proofs.lemmas.List.Elements.{All-from_get_or, Contains-get_or}
 use Rattle.lab_model.specs.declared.label.Label.{Label}
 use Rattle.lab_model.specs.Film.{rungs_of, segments_of}
 use Rattle.frontier_planner.specs.declared.label.Grid.{Grid}
-use Rattle.frontier_planner.specs.Labels.{AreRungs, Dominates, IsTask, Task, end_value, next_label, start_label}
+use Rattle.frontier_planner.specs.Labels.{AreRungs, Dominates, IsTask, Task, end_value, next_label}
 use Rattle.frontier_planner.specs.Parts.{CertificateParts}
 use Rattle.frontier_planner.specs.Frontier.{frontier}
 use Rattle.frontier_planner.specs.Grid.{IsGrid, exact}
 use Rattle.frontier_planner.specs.Grown.{grown}
 use Rattle.frontier_planner.specs.Read.{Chains, bound_of, certificate_of, list_of_plan, list_value, no_label}
-use Rattle.frontier_planner.specs.Covers.{Covers, HasAbove}
+use Rattle.frontier_planner.specs.Covers.{Covers}
 use Rattle.frontier_planner.specs.Valid.{IsPlace, IsValid, chain_in, label_in, name_in, start_in}
-use Rattle.frontier_planner.specs.Best.{Settles, task_value}
+use Rattle.frontier_planner.specs.Best.{Settles}
 use Rattle.frontier_planner.proofs.Accepts.{accepted}
 use Rattle.frontier_planner.proofs.Covered.{covered_value}
 use Rattle.frontier_planner.proofs.LabelsAreValues.{labels_are_values}

@@ -3,3 +3,4 @@ pub mod Shelf
 pub mod Memory
 pub mod Edge
 pub mod Piece
+pub mod Number

@@ -1,11 +1,11 @@
 -- Rows of utilities and the weights that they make.
-use Rattle.std.proofs.Common.{◌≡◌, ◌∙◌, ℕ, ◌+◌, ◌-◌, ◌*◌, ◌<◌, ◌≤◌, ◌==◌, List, length, max, get_or, drop, take, ap, subst, sym, zero, suc, Bool, cond, arith, zero-add}
+use Rattle.std.proofs.Common.{◌≡◌, ◌∙◌, ℕ, ◌+◌, ◌-◌, ◌*◌, ◌<◌, ◌≤◌, ◌==◌, List, length, max, get_or, drop, take, ap, subst, sym, arith}
 use Rattle.std.proofs.lemmas.List.{get_or-take, get_or-drop, get_or_default, length-drop, length-take-le, take_all}
 use Rattle.std.proofs.lemmas.Nat.{row_fits}
 use Rattle.std.proofs.lemmas.Bool.{cond_both}
 use Rattle.std.proofs.lemmas.Bool.Decides.{nat_tests}
 use Rattle.lab_model.specs.Film.{IsWithin}
-use Rattle.lab_model.specs.Row.{AreUtilities, AreWeights, IsRow, row_of}
+use Rattle.lab_model.specs.Row.{AreWeights, IsRow, row_of}
 use Rattle.lab_model.specs.Weighing.{HasUtility, IsWeighing, Weighing, row_no, utility_of, weighing}
 
 -- a utility by its row and rung

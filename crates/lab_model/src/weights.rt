@@ -4,7 +4,7 @@ ghost use Rattle.std.specs.Prelude.{◌≡◌, ℕ, ◌+◌, ◌*◌, ◌<◌, �
 ghost use Rattle.std.specs.List.{All};
 ghost use Rattle.lab_model.specs.Film.{IsWithin};
 ghost use Rattle.lab_model.specs.Row.{AreRows, AreUtilities, AreWeights, IsRow};
-ghost use Rattle.lab_model.specs.Weighing.{HasUtility, IsWeighing, row_no, table_weighing, utility_of, weighing};
+ghost use Rattle.lab_model.specs.Weighing.{HasUtility, IsWeighing, change_of, row_no, table_weighing, utility_of, weighing};
 
 use std::marker::Model;
 
@@ -46,7 +46,8 @@ fn are_small(row: &[u32]) -> bool
 }
 
 fn never_falls(row: &[u32]) -> bool
-    ensures { IsTrue result ↔ ((rung : ℕ) → rung + 1 < length row.now → slice_index row.now rung ≤ slice_index row.now (rung + 1)) }
+    ensures { IsTrue result ↔ ((rung : ℕ) → rung + 1 < length row.now
+        → slice_index row.now rung ≤ slice_index row.now (rung + 1)) }
 {
     for i in 1..row.len() {
         if row[i] < row[i - 1] {
@@ -98,8 +99,10 @@ impl Weights {
     /// The weights whose one row of utilities serves every segment. `None` exactly where there are none or more
     /// than 16 utilities, they fall, or a number is above 1000000.
     pub fn from_parts(utilities: Vec<u32>, switch: u32, stall: u32, startup: u32) -> Option<Weights>
-        ensures some { IfSome result (λ w. (w ≡ weighing utilities.items switch stall startup) × IsWeighing w) }
-        ensures none { IfNone result (IsWeighing (weighing utilities.items switch stall startup) → ⊥) }
+        ensures some { IfSome result
+            (λ w. (w ≡ weighing utilities.items switch stall startup) × IsWeighing w) }
+        ensures none { IfNone result
+            (IsWeighing (weighing utilities.items switch stall startup) → ⊥) }
     {
         let count = utilities.len();
         if !are_utilities(&utilities, count, 0) || !are_weights(switch, stall, startup) {
@@ -124,8 +127,11 @@ impl Weights {
         stall: u32,
         startup: u32,
     ) -> Option<Weights>
-        ensures some { IfSome result (λ w. (w ≡ table_weighing utilities.items rungs switch stall startup) × IsWeighing w × (0 < w.rows)) }
-        ensures none { IfNone result (IsWeighing (table_weighing utilities.items rungs switch stall startup) → ⊥) }
+        ensures some { IfSome result
+            (λ w. (w ≡ table_weighing utilities.items rungs switch stall startup)
+            × IsWeighing w × (0 < w.rows)) }
+        ensures none { IfNone result
+            (IsWeighing (table_weighing utilities.items rungs switch stall startup) → ⊥) }
     {
         let count = rungs as usize;
         let rows = utilities.len().checked_div(count)?;
@@ -156,6 +162,20 @@ impl Weights {
         ensures limit { result ≤ 1000000 }
     {
         self.utilities[self.row_no(seg) * self.count + rung as usize]
+    }
+
+    /// How far the utility changes to a rung from the rung before, both taken at this segment, 0 to 1000000; 0 where there
+    /// is no rung before.
+    pub fn change(&self, seg: u16, before: Option<u8>, rung: u8) -> u32
+        requires utility { HasUtility self.now seg rung }
+        requires before { IfSome before (λ q. q < self.now.count) }
+        ensures value { result ≡ change_of self.now seg before rung }
+        ensures limit { result ≤ 1000000 }
+    {
+        match before {
+            None => 0,
+            Some(q) => self.utility(seg, rung).abs_diff(self.utility(seg, q)),
+        }
     }
 
     /// The number of utilities of a segment, 1 to 16.

@@ -1,5 +1,5 @@
 -- What a command line asks for, without where its texts lie in memory.
-use Rattle.std.specs.Prelude.{ℕ, Bool, List, Option, map, string_bytes, option_map}
+use Rattle.std.specs.Prelude.{ℕ, Bool, false, List, [], Option, None, map, string_bytes, option_map}
 use Rattle.lab_model.specs.Rules.{RuleKind}
 use Rattle.lab_words.specs.Rules.{spoken}
 use Rattle.lab_words.specs.Spelling.{Text}
@@ -20,6 +20,30 @@ pub record CommandWords : Type 0 where
   pub startup : ℕ
   pub abandon : Bool
   pub seeks : Option Text
+  pub budget : ℕ
+  pub as_certificate : Bool
+  pub certificate : Option Text
+  pub number : ℕ
+
+-- a command that asks for nothing yet
+abbrev pub blank : Verb → CommandWords
+blank verb = record {
+  verb = verb;
+  manifest = [];
+  traces = [];
+  rules = [];
+  buffer_ms = 0;
+  utilities = [];
+  switch = 0;
+  stall = 0;
+  startup = 0;
+  abandon = false;
+  seeks = None;
+  budget = 0;
+  as_certificate = false;
+  certificate = None;
+  number = 0;
+}
 
 -- a rule and its word, without where they lie in memory
 abbrev pub named : NamedRule → Text × RuleKind
@@ -39,4 +63,8 @@ view c = record {
   startup = c.startup;
   abandon = c.abandon;
   seeks = option_map string_bytes c.seeks;
+  budget = c.budget;
+  as_certificate = c.as_certificate;
+  certificate = option_map string_bytes c.certificate;
+  number = c.number;
 }

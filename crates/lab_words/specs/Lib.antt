@@ -5,5 +5,9 @@ pub mod Table
 pub mod Values
 pub mod Settings
 pub mod Simulate
+pub mod Compare
+pub mod Plan
+pub mod Check
+pub mod Demo
 pub mod Words
 pub mod Limits

@@ -1,6 +1,7 @@
 -- The settings that the commands on a manifest share: the buffer, the utilities and the weights.
 use Rattle.std.specs.Prelude.{ℕ, List, [], ◌∷◌, Option, Some, codes}
 use Rattle.clap.specs.Walk.{Row}
+use Rattle.lab_words.specs.Command.{CommandWords}
 use Rattle.lab_words.specs.Spelling.{Text, utilities_of}
 use Rattle.lab_words.specs.Values.{◌>>=◌, number_in, required}
 use Rattle.lab_words.specs.declared.settings.Settings.{Settings}
@@ -43,3 +44,7 @@ settings_in rows = do
 -- the settings, without where they lie in memory
 abbrev pub settings_view : Settings → SettingsWords
 settings_view s = record { buffer_ms = s.buffer_ms; utilities = s.utilities.items; switch = s.switch; stall = s.stall; startup = s.startup }
+
+-- the command with these settings
+abbrev pub with_settings : SettingsWords → CommandWords → CommandWords
+with_settings s c = record c { buffer_ms = s.buffer_ms; utilities = s.utilities; switch = s.switch; stall = s.stall; startup = s.startup }

@@ -2,8 +2,8 @@
 use Rattle.std.specs.Prelude.{List, [], ◌∷◌, Option, Some, codes}
 use Rattle.clap.specs.Simple.{App}
 use Rattle.clap.specs.Walk.{Row}
-use Rattle.lab_words.specs.Command.{CommandWords}
-use Rattle.lab_words.specs.Settings.{settings_in, settings_words}
+use Rattle.lab_words.specs.Command.{CommandWords, blank}
+use Rattle.lab_words.specs.Settings.{settings_in, settings_words, with_settings}
 use Rattle.lab_words.specs.Spelling.{Text}
 use Rattle.lab_words.specs.Table.{table_app}
 use Rattle.lab_words.specs.Values.{◌>>=◌, is_given, optional, required, rule_in}
@@ -32,16 +32,10 @@ simulate_in rows = do
   rule ← rule_in rows
   settings ← settings_in rows
   seeks ← optional (codes "seeks") rows
-  Some (record {
-    verb = verb.Simulate;
+  Some (record (with_settings settings (blank verb.Simulate)) {
     manifest = manifest;
     traces = trace ∷ [];
     rules = rule ∷ [];
-    buffer_ms = settings.buffer_ms;
-    utilities = settings.utilities;
-    switch = settings.switch;
-    stall = settings.stall;
-    startup = settings.startup;
     abandon = is_given (codes "abandon") rows;
     seeks = seeks;
   })

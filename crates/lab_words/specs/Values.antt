@@ -1,7 +1,8 @@
 -- The values of a command's options, by the rows of `clap`'s matches: optional or required, numbers, flags and rules.
 use Rattle.std.specs.Prelude.{◌≡◌, ℕ, ◌==◌, Bool, true, List, [], ◌∷◌, Option, Some, None, Result, Ok, Err, codes, option_and_then, unwrap_or, if◌then◌else◌}
+use Rattle.std.specs.List.{list_any}
 use Rattle.std.specs.Str.{bytes_eq}
-use Rattle.clap.specs.Walk.{Row, first_of}
+use Rattle.clap.specs.Walk.{Row, all_of, first_of}
 use Rattle.lab_model.specs.Rules.{RuleKind}
 use Rattle.lab_words.specs.Rules.{rule_of}
 use Rattle.lab_words.specs.Spelling.{Text, number_of}
@@ -24,6 +25,11 @@ None >>= f = None
 abbrev pub is_stray : Text → Bool
 is_stray [] = true
 is_stray (c ∷ cs) = c == 45
+
+-- one value and more, of which none is stray
+abbrev pub some_plain : List Text → Option (List Text)
+some_plain [] = None
+some_plain (text ∷ texts) = if list_any is_stray (text ∷ texts) then None else Some (text ∷ texts)
 
 -- a value that is given, unless it is stray
 abbrev pub not_stray : Text → Option (Option Text)
@@ -50,6 +56,10 @@ number_or default least most (Some text) = number_of least most text
 -- the number of an option from `least` to `most`, or its default
 unfoldable pub number_in : ℕ → ℕ → ℕ → Text → List Row → Option ℕ
 number_in default least most name rows = option_and_then (number_or default least most) (optional name rows)
+
+-- the values of a word that stands once or more; refused where one is stray
+unfoldable pub several : Text → List Row → Option (List Text)
+several name rows = option_and_then some_plain (all_of name rows)
 
 -- whether a flag is given
 abbrev pub is_given : Text → List Row → Bool

@@ -2,6 +2,10 @@
 use Rattle.std.specs.Prelude.{Bool, false, List, [], ◌∷◌, Option, Some, None, codes, option_and_then, is_some, if◌then◌else◌}
 use Rattle.std.specs.List.{list_any}
 use Rattle.std.specs.Str.{bytes_eq}
+use Rattle.lab_words.specs.Check.{check_app, check_in}
+use Rattle.lab_words.specs.Compare.{compare_app, compare_in}
+use Rattle.lab_words.specs.Demo.{demo_app, demo_in}
+use Rattle.lab_words.specs.Plan.{plan_app, plan_in}
 use Rattle.lab_words.specs.Simulate.{simulate_app, simulate_in}
 use Rattle.lab_words.specs.Spelling.{Text}
 use Rattle.lab_words.specs.Table.{accepted}
@@ -16,15 +20,21 @@ has_dashes words = list_any (λ w. bytes_eq w (codes "--")) words
 
 -- the command that a word names
 abbrev pub verb_of : Text → Option Verb
-verb_of word = if bytes_eq word (codes "simulate") then Some verb.Simulate else None
+verb_of word =
+    if bytes_eq word (codes "simulate") then Some verb.Simulate
+    else if bytes_eq word (codes "compare") then Some verb.Compare
+    else if bytes_eq word (codes "plan") then Some verb.Plan
+    else if bytes_eq word (codes "check") then Some verb.Check
+    else if bytes_eq word (codes "demo") then Some verb.Demo
+    else None
 
 -- what the words behind a command's name ask for
 abbrev pub asked_of : Verb → List Text → Option CommandWords
 asked_of verb.Simulate words = option_and_then simulate_in (accepted simulate_app words)
-asked_of verb.Compare words = None
-asked_of verb.Plan words = None
-asked_of verb.Check words = None
-asked_of verb.Demo words = None
+asked_of verb.Compare words = option_and_then compare_in (accepted compare_app words)
+asked_of verb.Plan words = option_and_then plan_in (accepted plan_app words)
+asked_of verb.Check words = option_and_then check_in (accepted check_app words)
+asked_of verb.Demo words = option_and_then demo_in (accepted demo_app words)
 
 -- the first word is a command
 abbrev pub begins_with_verb : List Text → Bool

@@ -1,13 +1,15 @@
 //! The settings that the commands on a manifest share.
 
+ghost use Rattle.std.specs.Prelude.{◌≡◌};
 ghost use Rattle.clap.specs.Words.{found_of, rows_of};
-ghost use Rattle.lab_words.specs.Settings.{settings_in, settings_view, utilities_in};
+ghost use Rattle.lab_words.specs.Command.{blank, view};
+ghost use Rattle.lab_words.specs.Settings.{settings_in, settings_view, utilities_in, with_settings};
 ghost use Rattle.lab_words.specs.Values.{Gives};
 
-use crate::WordsErr;
 use crate::numbers::utilities_of;
 use crate::table::{Kind, Word};
 use crate::values::{number_in, required};
+use crate::{Command, Verb, WordsErr};
 use clap::ArgMatches;
 use std::alloc::Global;
 
@@ -51,4 +53,20 @@ pub(crate) fn settings_in(alloc: Global, matches: &ArgMatches<'_>) -> Result<Set
         stall: number_in(matches, "stall", 100, 0, 1_000_000)?,
         startup: number_in(matches, "startup", 1, 0, 1_000_000)?,
     })
+}
+
+impl Settings {
+    /// A command that asks for these settings alone.
+    pub(crate) fn command(self, alloc: Global, verb: Verb) -> Command
+        ensures { view result ≡ with_settings (settings_view self) (blank verb) }
+    {
+        Command {
+            buffer_ms: self.buffer_ms,
+            utilities: self.utilities,
+            switch: self.switch,
+            stall: self.stall,
+            startup: self.startup,
+            ..Command::blank(alloc, verb)
+        }
+    }
 }

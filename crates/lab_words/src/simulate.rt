@@ -44,17 +44,12 @@ fn simulate_in(alloc: Global, matches: &ArgMatches<'_>) -> Result<Command, Words
     let settings = settings_in(alloc, matches)?;
     let seeks = optional_file_name(alloc, matches, "seeks")?;
     Ok(Command {
-        verb: Verb::Simulate,
         manifest,
         traces: vec![in alloc; trace]?,
         rules: vec![in alloc; rule]?,
-        buffer_ms: settings.buffer_ms,
-        utilities: settings.utilities,
-        switch: settings.switch,
-        stall: settings.stall,
-        startup: settings.startup,
         abandon: is_given(matches, "abandon"),
         seeks,
+        ..settings.command(alloc, Verb::Simulate)
     })
 }
 

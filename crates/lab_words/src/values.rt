@@ -1,9 +1,10 @@
 //! The values of a command's options, by `clap`'s matches.
 
-ghost use Rattle.std.specs.Prelude.{◌≡◌, option_map, string_bytes};
-ghost use Rattle.clap.specs.Words.{first_of, found_of, rows_of};
+ghost use Rattle.std.specs.Prelude.{◌≡◌, map, option_map, string_bytes};
+ghost use Rattle.std.specs.List.{list_any};
+ghost use Rattle.clap.specs.Words.{all_of, first_of, found_of, rows_of};
 ghost use Rattle.lab_words.specs.Command.{named};
-ghost use Rattle.lab_words.specs.Values.{Gives, is_given, is_stray, number_in, optional, required, rule_in};
+ghost use Rattle.lab_words.specs.Values.{Gives, is_given, is_stray, number_in, optional, required, rule_in, several, some_plain};
 
 use crate::numbers::number_of;
 use crate::rules::rule_of;
@@ -88,6 +89,49 @@ pub(crate) fn number_in(
     match optional(matches, name)? {
         Some(text) => number_of(text, least, most).ok_or(WordsErr::Usage),
         None => Ok(default),
+    }
+}
+
+fn all_of<'m, 'a>(matches: &'m ArgMatches<'a>, name: &str) -> Option<&'m [&'a str]>
+    ensures { option_map (λ texts. map (λ text. text.now) texts.now) result ≡ all_of name.now (rows_of (found_of matches.now)) }
+{
+    matches.get_strs(name)
+}
+
+fn any_stray(texts: &[&str]) -> bool
+    ensures { result ≡ list_any (λ text. is_stray text.now) texts.now }
+{
+    texts.iter().any(|text| is_stray(text))
+}
+
+/// Whether one of the values is stray.
+fn has_stray(texts: &[&str]) -> bool
+    ensures { result ≡ list_any is_stray (map (λ text. text.now) texts.now) }
+{
+    any_stray(texts)
+}
+
+/// The values, of which there is one and none is stray.
+fn some_plain<'m, 'a>(texts: &'m [&'a str]) -> Result<&'m [&'a str], WordsErr>
+    ensures { Gives (λ texts. map (λ text. text.now) texts.now) result (some_plain (map (λ text. text.now) texts.entry.now)) }
+{
+    match texts {
+        [_, ..] if !has_stray(texts) => Ok(texts),
+        _ => Err(WordsErr::Usage),
+    }
+}
+
+/// The values of a word that stands once or more.
+#[tactic(auto, unfolding(crate::specs::Values::several))]
+pub(crate) fn several<'m, 'a>(
+    matches: &'m ArgMatches<'a>,
+    name: &str,
+) -> Result<&'m [&'a str], WordsErr>
+    ensures { Gives (λ texts. map (λ text. text.now) texts.now) result (several name.now (rows_of (found_of matches.now))) }
+{
+    match all_of(matches, name) {
+        Some(texts) => some_plain(texts),
+        None => Err(WordsErr::Usage),
     }
 }
 

@@ -1,0 +1,101 @@
+-- The fields of a line, read one after the other: each is what the bytes say and what stands behind it, or the line is bad.
+use Rattle.std.specs.Prelude.{ℕ, zero, suc, ◌+◌, ◌==◌, ◌&&◌, Bool, List, [], ◌∷◌, ◌++◌, take, drop, position, Option, Some, None, Result, Ok, Err, if◌then◌else◌, ℤ, pos, ◌-ℤ◌, nat_le}
+use Rattle.std.specs.Str.{bytes_eq}
+use Rattle.lab_model.specs.declared.fault.Kind.TheVariants as kind
+use Rattle.lab_model.specs.declared.fault.Key.TheVariants as key
+use Rattle.lab_model.specs.declared.fault.Refusal.{Refusal}
+use Rattle.lab_model.specs.Reading.{refusal}
+use Rattle.lab_io.specs.Sink.{Text}
+use Rattle.lab_io.specs.Number.{numeral}
+
+-- one step and then the next, unless the first was refused
+infixl 10 ◌>>=◌
+abbrev pub ◌>>=◌ : {X Y : Type 0} → Result X Refusal → (X → Result Y Refusal) → Result Y Refusal
+(Ok x) >>= f = f x
+(Err e) >>= f = Err e
+
+-- what was read and the bytes behind it, or the refusal
+abbrev pub Read : Type 0 → Type 0
+Read X = Result (X × Text) Refusal
+
+-- the line of this number, the first being 1, is the first without its form
+abbrev pub bad_line : ℕ → Refusal
+bad_line row = refusal kind.CertLine key.Line row 0
+
+-- the value, where the test passes
+abbrev pub passed : {X : Type 0} → ℕ → Bool → X → Result X Refusal
+passed row test x = if test then Ok x else Err (bad_line row)
+
+-- the value, where there is one
+abbrev pub some_at : {X : Type 0} → ℕ → Option X → Result X Refusal
+some_at row (Some x) = Ok x
+some_at row None = Err (bad_line row)
+
+-- the bytes before a place, and those behind it
+abbrev pub parted : ℕ → Text → Option ℕ → Read Text
+parted row bytes (Some i) = Ok (take i bytes, drop (i + 1) bytes)
+parted row bytes None = Err (bad_line row)
+
+-- a field: what stands before the first byte that ends it
+abbrev pub field_at : ℕ → ℕ → Text → Read Text
+field_at row stop bytes = parted row bytes (position (λ b. b == stop) bytes)
+
+-- this word
+unfoldable pub word_at : ℕ → Text → ℕ → Text → Result Text Refusal
+word_at row word stop bytes = do
+  field ← field_at row stop bytes
+  passed row (bytes_eq field.0 word) field.1
+
+-- a number of at most so many digits
+unfoldable pub number_at : ℕ → ℕ → ℕ → Text → Read ℕ
+number_at row digits stop bytes = do
+  field ← field_at row stop bytes
+  n ← some_at row (numeral digits field.0)
+  Ok (n, field.1)
+
+-- this number
+unfoldable pub known_at : ℕ → ℕ → ℕ → Text → Result Text Refusal
+known_at row known stop bytes = do
+  n ← number_at row 7 stop bytes
+  passed row (n.0 == known) n.1
+
+-- the number below 0 that a text spells behind its `-`
+abbrev pub negative : ℕ → ℕ → Text → Result ℤ Refusal
+negative row digits text = do
+  n ← some_at row (numeral digits text)
+  passed row (nat_le 1 n) (pos 0 -ℤ pos n)
+
+-- the number that a text spells, with a sign
+abbrev pub unsigned_of : ℕ → ℕ → Text → Result ℤ Refusal
+unsigned_of row digits text = do
+  n ← some_at row (numeral digits text)
+  Ok (pos n)
+
+-- the number that a text spells, which may have a `-` before a number that isn't 0
+unfoldable pub signed_of : ℕ → ℕ → Text → Result ℤ Refusal
+signed_of row digits [] = Err (bad_line row)
+signed_of row digits (c ∷ cs) = if c == 45 then negative row digits cs else unsigned_of row digits (c ∷ cs)
+
+-- such a number
+unfoldable pub signed_at : ℕ → ℕ → ℕ → Text → Read ℤ
+signed_at row digits stop bytes = do
+  field ← field_at row stop bytes
+  z ← signed_of row digits field.0
+  Ok (z, field.1)
+
+-- the byte that ends a field, where so many more follow in its line: a space or a newline
+abbrev pub stop_before : ℕ → ℕ
+stop_before zero = 10
+stop_before (suc more) = 32
+
+-- numbers that were read before, and then those that are read
+abbrev pub prepended : List ℕ → Read (List ℕ) → Read (List ℕ)
+prepended before read = read >>= λ ns. Ok (before ++ ns.0, ns.1)
+
+-- so many numbers, to the end of the line
+unfoldable pub numbers_at : ℕ → ℕ → ℕ → Text → Read (List ℕ)
+numbers_at row digits zero bytes = Ok ([], bytes)
+numbers_at row digits (suc more) bytes = do
+  n ← number_at row digits (stop_before more) bytes
+  ns ← numbers_at row digits more n.1
+  Ok (n.0 ∷ ns.0, ns.1)

@@ -1,0 +1,5 @@
+pub mod Form
+pub mod Spelling
+pub mod Fields
+pub mod Reading
+pub mod Walk

@@ -1,0 +1,47 @@
+//! Certificates, and what a check of one says.
+
+use frontier_planner::Chain;
+
+/// A claim that a rung list is the best, with all that a check of it asks for.
+#[derive(Drop)]
+pub struct Certificate {
+    /// Whether it is for a setup with a utility table.
+    pub table: bool,
+    /// The number of segments, 1 to 2000.
+    pub segments: u16,
+    /// The number of rungs, 1 to 16.
+    pub rungs: u8,
+    /// The value of the rung list, in thousandths of a point.
+    pub score: i128,
+    /// The rung of each segment.
+    pub plan: Vec<u8>,
+    /// For each rung the place of a label of segment 0 that dominates the start label.
+    pub starts: Vec<u32>,
+    /// The chains by segment, then rung.
+    pub chains: Vec<Chain>,
+}
+
+/// The chains of one segment, by rung.
+#[derive(Drop)]
+pub struct Layer {
+    /// The chains, one for each rung.
+    pub chains: Vec<Chain>,
+}
+
+/// What a check of a certificate says.
+#[derive(Clone, Copy, PartialEq, Eq, Debug)]
+pub enum Verdict {
+    /// The certificate is valid.
+    Yes,
+    /// It isn't.
+    No {
+        /// The number of the first clause that fails, 1 to 6.
+        clause: u8,
+        /// The segment of the first place where it fails.
+        segment: u16,
+        /// The rung of that place.
+        rung: u8,
+        /// The place of a label in its chain.
+        label: u32,
+    },
+}

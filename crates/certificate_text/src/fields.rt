@@ -1,0 +1,238 @@
+//! The fields of a line, read one after the other.
+ghost use Rattle.std.specs.Prelude.{◌≡◌, ◌==◌, ◌≤◌, ◌∷◌, ◌++◌, [], true, length, position, IfErr, IfOk, IfSome, OnOk, pos};
+ghost use Rattle.std.specs.Str.{all_ascii_digits};
+ghost use Rattle.std.specs.Str.Parse.{digits_value};
+ghost use Rattle.lab_io.specs.Number.{is_number, numeral};
+ghost use Rattle.lab_model.specs.Reading.{Gives};
+ghost use Rattle.certificate_text.specs.Form.{HasDigits, HasSignedDigits};
+ghost use Rattle.certificate_text.specs.Fields.{bad_line, field_at, known_at, negative, number_at, numbers_at, passed, prepended, signed_at, signed_of, some_at, stop_before, unsigned_of, word_at};
+
+use lab_model::{InputFault, Key, Kind, Refusal};
+use std::alloc::Global;
+
+/// The line of this number, the first being 1, is the first without its form.
+pub(crate) fn bad_line(row: u32) -> InputFault
+    ensures { result ≡ InputFault.Refused (bad_line row) }
+{
+    InputFault::Refused(Refusal {
+        kind: Kind::CertLine,
+        key: Key::Line,
+        row,
+        column: 0,
+    })
+}
+
+/// The value, where the test passes.
+pub(crate) fn passed<T: Drop>(row: u32, test: bool, value: T) -> Result<T, InputFault>
+    ensures { Gives (λ x. x) result (passed row test value) }
+{
+    if test { Ok(value) } else { Err(bad_line(row)) }
+}
+
+/// The place of the first byte that ends a field.
+fn first_stop(stop: u8, bytes: &[u8]) -> Option<usize>
+    ensures { result ≡ position (λ b. b == stop) bytes.now }
+{
+    bytes.iter().position(|byte| *byte == stop)
+}
+
+/// What stands before the first byte that ends a field, and what stands behind it.
+pub(crate) fn field_at(row: u32, stop: u8, bytes: &[u8]) -> Result<(&[u8], &[u8]), InputFault>
+    ensures { Gives (λ x. (x.0.now, x.1.now)) result (field_at row stop bytes.now) }
+{
+    match first_stop(stop, bytes) {
+        Some(place) => Ok((&bytes[..place], &bytes[place + 1..])),
+        None => Err(bad_line(row)),
+    }
+}
+
+/// What stands behind this word.
+#[tactic(auto, unfolding(crate::specs::Fields::word_at))]
+pub(crate) fn word_at<'a>(
+    row: u32,
+    word: &str,
+    stop: u8,
+    bytes: &'a [u8],
+) -> Result<&'a [u8], InputFault>
+    ensures { Gives (λ rest. rest.now) result (word_at row word.now stop bytes.now) }
+{
+    let (field, rest) = field_at(row, stop, bytes)?;
+    passed(row, field == word.as_bytes(), rest)
+}
+
+fn are_ascii_digits(bytes: &[u8]) -> bool
+    ensures { result ≡ all_ascii_digits bytes.now }
+{
+    for byte in bytes {
+        if !byte.is_ascii_digit() {
+            return false;
+        }
+    }
+    true
+}
+
+/// Whether a text is `0`, or digits of which the first isn't `0`.
+fn is_number(text: &[u8]) -> bool
+    ensures { result ≡ is_number text.now }
+{
+    match text {
+        [] => false,
+        [digit] => digit.is_ascii_digit(),
+        [first, ..] => *first != b'0' && are_ascii_digits(text),
+    }
+}
+
+/// The number that digits write.
+fn value_of(digits: &[u8]) -> u128
+    requires digits { all_ascii_digits digits.now ≡ true }
+    requires few { length digits.now ≤ 24 }
+    ensures { result ≡ digits_value 10 digits.now }
+{
+    let mut value = 0u128;
+    for digit in digits {
+        value = value * 10 + u128::from(*digit - b'0');
+    }
+    value
+}
+
+/// The number that a text of at most so many digits spells.
+#[tactic(auto, unfolding(lab_io::specs::Number::numeral))]
+fn numeral(digits: usize, text: &[u8]) -> Option<u128>
+    requires { digits ≤ 24 }
+    ensures number { result ≡ numeral digits text.now }
+    ensures digits { IfSome result (λ n. HasDigits digits n) }
+    ensures most { IfSome result (λ n. HasDigits 24 n) }
+{
+    if is_number(text) && text.len() <= digits {
+        Some(value_of(text))
+    } else {
+        None
+    }
+}
+
+/// A number of at most so many digits.
+#[tactic(auto, unfolding(crate::specs::Fields::number_at))]
+pub(crate) fn number_at(
+    row: u32,
+    digits: usize,
+    stop: u8,
+    bytes: &[u8],
+) -> Result<(u64, &[u8]), InputFault>
+    requires { digits ≤ 18 }
+    ensures number { Gives (λ x. (x.0, x.1.now)) result (number_at row digits stop bytes.now) }
+    ensures digits { IfOk result (λ x. HasDigits digits x.0) }
+{
+    let (field, rest) = field_at(row, stop, bytes)?;
+    match numeral(digits, field) {
+        Some(n) => Ok((n as u64, rest)),
+        None => Err(bad_line(row)),
+    }
+}
+
+/// What stands behind this number.
+#[tactic(auto, unfolding(crate::specs::Fields::known_at))]
+pub(crate) fn known_at(row: u32, known: u32, stop: u8, bytes: &[u8]) -> Result<&[u8], InputFault>
+    ensures { Gives (λ rest. rest.now) result (known_at row known stop bytes.now) }
+{
+    let (n, rest) = number_at(row, 7, stop, bytes)?;
+    passed(row, n == u64::from(known), rest)
+}
+
+/// The same number with a sign.
+fn signed(n: u128) -> i128
+    requires { HasDigits 24 n }
+    ensures { result ≡ pos n }
+{
+    n as i128
+}
+
+/// The number below 0 that a text spells behind its `-`.
+fn negative(row: u32, digits: usize, text: &[u8]) -> Result<i128, InputFault>
+    requires { digits ≤ 24 }
+    ensures number { Gives (λ z. z) result (negative row digits text.now) }
+    ensures digits { IfOk result (λ z. HasSignedDigits digits z) }
+{
+    match numeral(digits, text) {
+        Some(n) if n >= 1 => Ok(-signed(n)),
+        _ => Err(bad_line(row)),
+    }
+}
+
+/// The number that a text spells, with a sign.
+fn unsigned_of(row: u32, digits: usize, text: &[u8]) -> Result<i128, InputFault>
+    requires { digits ≤ 24 }
+    ensures number { Gives (λ z. z) result (unsigned_of row digits text.now) }
+    ensures digits { IfOk result (λ z. HasSignedDigits digits z) }
+{
+    match numeral(digits, text) {
+        Some(n) => Ok(signed(n)),
+        None => Err(bad_line(row)),
+    }
+}
+
+/// The number that a text spells, which may have a `-` before a number that isn't 0.
+#[tactic(auto, unfolding(crate::specs::Fields::signed_of))]
+fn signed_of(row: u32, digits: usize, text: &[u8]) -> Result<i128, InputFault>
+    requires { digits ≤ 24 }
+    ensures number { Gives (λ z. z) result (signed_of row digits text.now) }
+    ensures digits { IfOk result (λ z. HasSignedDigits digits z) }
+{
+    match text {
+        [] => Err(bad_line(row)),
+        [b'-', magnitude @ ..] => negative(row, digits, magnitude),
+        [_, ..] => unsigned_of(row, digits, text),
+    }
+}
+
+/// Such a number.
+#[tactic(auto, unfolding(crate::specs::Fields::signed_at))]
+pub(crate) fn signed_at(
+    row: u32,
+    digits: usize,
+    stop: u8,
+    bytes: &[u8],
+) -> Result<(i128, &[u8]), InputFault>
+    requires { digits ≤ 24 }
+    ensures number { Gives (λ x. (x.0, x.1.now)) result (signed_at row digits stop bytes.now) }
+    ensures digits { IfOk result (λ x. HasSignedDigits digits x.0) }
+{
+    let (field, rest) = field_at(row, stop, bytes)?;
+    let z = signed_of(row, digits, field)?;
+    Ok((z, rest))
+}
+
+/// The byte that ends a field, where so many more follow in its line.
+pub(crate) fn stop_before(more: usize) -> u8
+    ensures { result ≡ stop_before more }
+{
+    if more == 0 { b'\n' } else { b' ' }
+}
+
+/// Appends a value, if memory allows it.
+pub(crate) fn push<T: Drop>(into: &mut Vec<T>, value: T) -> Result<(), InputFault>
+    ensures ok { OnOk result (into.new.items ≡ into.old.items ++ value ∷ []) }
+    ensures memory { IfErr result (λ fault. fault ≡ InputFault.Memory) }
+{
+    into.push(value).map_err(|_| InputFault::Memory)
+}
+
+/// Appends so many numbers of at most 7 digits, which stand to the end of a line.
+pub(crate) fn push_numbers<'a>(
+    into: &mut Vec<u32>,
+    row: u32,
+    digits: usize,
+    count: usize,
+    bytes: &'a [u8],
+) -> Result<&'a [u8], InputFault>
+    requires { digits ≤ 7 }
+    ensures { Gives (λ rest. (into.new.items, rest.now)) result
+        (prepended into.old.items (numbers_at row digits count bytes.now)) }
+{
+    let mut rest = bytes;
+    for i in 0..count {
+        let (n, behind) = number_at(row, digits, stop_before(count - i - 1), rest)?;
+        push(into, n as u32)?;
+        rest = behind;
+    }
+    Ok(rest)
+}

@@ -1,0 +1,34 @@
+//! Certificates as text. Each certificate has one spelling, and a text that is no spelling has one first bad line.
+//!
+//! A text is lines of fields, which are parted by one space:
+//!
+//! ```text
+//! abrlab certificate 1     or 2 for a setup with a utility table
+//! segments N                1 to 2000
+//! rungs R                   1 to 16
+//! utilities table           in version 2
+//! score X                   at most 24 digits
+//! plan Q ..                 N numbers of at most 2 digits
+//! start K ..                R numbers of at most 7 digits
+//! layer I Q COUNT           for each segment I and in it for each rung Q
+//! T P V K ..                COUNT labels, each with R names, but for the last segment, which has none
+//! end
+//! ```
+//!
+//! A number is `0`, or digits of which the first isn't `0`; V and X may have a `-` before a number that isn't 0.
+//! T, P and V have at most 18 digits, COUNT and names at most 7, and all COUNTs together are at most 1000000.
+#![tactic(auto)]
+
+mod certificate;
+mod chains;
+mod fields;
+mod head;
+mod lines;
+mod writer;
+
+pub use certificate::{Certificate, Layer, Verdict};
+pub use lines::{Lines, read_certificate};
+pub use writer::write_certificate;
+
+#[cfg(test)]
+mod tests;

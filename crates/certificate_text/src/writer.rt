@@ -1,0 +1,232 @@
+//! Certificates that are written.
+ghost use Rattle.std.specs.Prelude.{◌≡◌, ◌≤◌, ◌∷◌, ◌++◌, ◌*◌, [], codes, length, map};
+ghost use Rattle.std.specs.Fmt.{decimal, signed_decimal};
+ghost use Rattle.lab_io.specs.Piece.{fields_line, later_fields};
+ghost use Rattle.lab_io.specs.Sink.{Puts};
+ghost use Rattle.lab_model.specs.Film.{IsWithin, rungs_of, segments_of};
+ghost use Rattle.frontier_planner.specs.Parts.{chain_parts, plan_parts};
+ghost use Rattle.certificate_text.specs.Form.{AreChains, IsCertificate};
+ghost use Rattle.certificate_text.specs.Spelling.{chain_lines, chains_lines, head_lines, label_fields, label_numbers, label_lines, layer_fields, lines_text, spelling, table_lines, version_text};
+
+use crate::chains::names_per;
+use frontier_planner::{Chain, Plan};
+use lab_io::Piece::{Number, Word};
+use lab_io::{PutErr, Sink, put_fields, put_line, put_number, put_pieces, put_text};
+use lab_model::{Label, Manifest};
+
+/// A number that isn't the first of its line.
+fn put_later_number<O: Sink>(out: &mut O, n: u32) -> Result<(), PutErr>
+    ensures { Puts (O.seen out.old) (32 ∷ decimal n) (O.seen out.new) result }
+{
+    put_text(out, " ")?;
+    put_number(out, n as i128)
+}
+
+/// The numbers that end a line.
+fn put_numbers<O: Sink>(out: &mut O, numbers: &[u32]) -> Result<(), PutErr>
+    ensures { Puts (O.seen out.old) (later_fields (map decimal numbers.now)) (O.seen out.new) result }
+{
+    for number in numbers {
+        put_later_number(out, *number)?;
+    }
+    put_text(out, "\n")
+}
+
+/// The rungs that end a line.
+fn put_rungs<O: Sink>(out: &mut O, rungs: &[u8]) -> Result<(), PutErr>
+    ensures { Puts (O.seen out.old) (later_fields (map decimal rungs.now)) (O.seen out.new) result }
+{
+    for rung in rungs {
+        put_later_number(out, u32::from(*rung))?;
+    }
+    put_text(out, "\n")
+}
+
+/// The line of the rung list.
+fn put_plan<O: Sink>(out: &mut O, rungs: &[u8]) -> Result<(), PutErr>
+    ensures { Puts (O.seen out.old) (fields_line (codes "plan" ∷ map decimal rungs.now)) (O.seen out.new) result }
+{
+    put_text(out, "plan")?;
+    put_rungs(out, rungs)
+}
+
+/// The line of the starts.
+fn put_starts<O: Sink>(out: &mut O, starts: &[u32]) -> Result<(), PutErr>
+    ensures { Puts (O.seen out.old) (fields_line (codes "start" ∷ map decimal starts.now)) (O.seen out.new) result }
+{
+    put_text(out, "start")?;
+    put_numbers(out, starts)
+}
+
+/// The first line.
+fn put_version<O: Sink>(out: &mut O, table: bool) -> Result<(), PutErr>
+    ensures { Puts (O.seen out.old) (fields_line (version_text table ∷ [])) (O.seen out.new) result }
+{
+    if table {
+        put_line(out, "abrlab certificate 2")
+    } else {
+        put_line(out, "abrlab certificate 1")
+    }
+}
+
+/// A line of a word and a count.
+fn put_count<O: Sink>(out: &mut O, word: &str, count: u16) -> Result<(), PutErr>
+    ensures { Puts (O.seen out.old) (fields_line (word.now ∷ decimal count ∷ [])) (O.seen out.new) result }
+{
+    put_fields(out, &[Word(word), Number(count as i128)])
+}
+
+/// The line of the score.
+fn put_score<O: Sink>(out: &mut O, plan: &Plan) -> Result<(), PutErr>
+    ensures { Puts (O.seen out.old) (fields_line (codes "score" ∷ signed_decimal plan.now.score ∷ []))
+        (O.seen out.new) result }
+{
+    put_fields(out, &[Word("score"), Number(plan.score)])
+}
+
+/// The line of version 2.
+fn put_table<O: Sink>(out: &mut O, table: bool) -> Result<(), PutErr>
+    ensures { Puts (O.seen out.old) (lines_text (table_lines table)) (O.seen out.new) result }
+{
+    if table {
+        put_line(out, "utilities table")?;
+    }
+    Ok(())
+}
+
+/// The lines of version and counts.
+fn put_counts<O: Sink>(out: &mut O, m: &Manifest, table: bool) -> Result<(), PutErr>
+    ensures { Puts (O.seen out.old)
+        (fields_line (version_text table ∷ [])
+        ++ (fields_line (codes "segments" ∷ decimal (segments_of m.now) ∷ [])
+        ++ (fields_line (codes "rungs" ∷ decimal (rungs_of m.now) ∷ [])
+        ++ lines_text (table_lines table)))) (O.seen out.new) result }
+{
+    put_version(out, table)?;
+    put_count(out, "segments", m.segments())?;
+    put_count(out, "rungs", u16::from(m.rungs()))?;
+    put_table(out, table)
+}
+
+/// The lines before the chains.
+fn put_head<O: Sink>(out: &mut O, m: &Manifest, plan: &Plan) -> Result<(), PutErr>
+    ensures { Puts (O.seen out.old) (lines_text (head_lines (plan_parts m.now plan.now)))
+        (O.seen out.new) result }
+{
+    put_counts(out, m, plan.table)?;
+    put_score(out, plan)?;
+    put_plan(out, &plan.rungs)?;
+    put_starts(out, &plan.starts)
+}
+
+/// The three numbers of a label.
+fn put_numbers_of_label<O: Sink>(out: &mut O, label: Label) -> Result<(), PutErr>
+    ensures { Puts (O.seen out.old) (label_numbers label) (O.seen out.new) result }
+{
+    put_pieces(
+        out,
+        &[
+            Number(label.t as i128),
+            Word(" "),
+            Number(label.p as i128),
+            Word(" "),
+            Number(label.v as i128),
+        ],
+    )
+}
+
+/// The line of a label.
+fn put_label<O: Sink>(out: &mut O, label: Label, names: &[u32]) -> Result<(), PutErr>
+    ensures { Puts (O.seen out.old) (fields_line (label_fields label names.now)) (O.seen out.new) result }
+{
+    put_numbers_of_label(out, label)?;
+    put_numbers(out, names)
+}
+
+/// The lines of the labels, each with so many of the names.
+fn put_labels<O: Sink>(
+    out: &mut O,
+    per: usize,
+    labels: &[Label],
+    names: &[u32],
+) -> Result<(), PutErr>
+    requires { length names.now ≡ length labels.now * per }
+    ensures { Puts (O.seen out.old) (lines_text (label_lines per labels.now names.now))
+        (O.seen out.new) result }
+{
+    let mut names = names;
+    for label in labels {
+        let (own, later) = names.split_at(per);
+        put_label(out, *label, own)?;
+        names = later;
+    }
+    Ok(())
+}
+
+/// The line before the labels of a chain.
+fn put_layer<O: Sink>(out: &mut O, segment: usize, rung: usize, count: usize) -> Result<(), PutErr>
+    ensures { Puts (O.seen out.old) (fields_line (layer_fields segment rung count))
+        (O.seen out.new) result }
+{
+    put_fields(
+        out,
+        &[
+            Word("layer"),
+            Number(segment as i128),
+            Number(rung as i128),
+            Number(count as i128),
+        ],
+    )
+}
+
+/// The lines of a chain, whose labels have so many names each.
+fn put_chain<O: Sink>(
+    out: &mut O,
+    per: usize,
+    segment: usize,
+    rung: usize,
+    chain: &Chain,
+) -> Result<(), PutErr>
+    requires { length chain.now.names.items ≡ length chain.now.labels.items * per }
+    ensures { Puts (O.seen out.old) (lines_text (chain_lines per segment rung (chain_parts chain.now)))
+        (O.seen out.new) result }
+{
+    let labels = chain.labels.as_slice();
+    put_layer(out, segment, rung, labels.len())?;
+    put_labels(out, per, labels, &chain.names)
+}
+
+/// The lines of the chains, by segment, then rung.
+fn put_chains<O: Sink>(
+    out: &mut O,
+    segments: usize,
+    rungs: usize,
+    chains: &[Chain],
+) -> Result<(), PutErr>
+    requires rungs { IsWithin 1 16 rungs }
+    requires segments { segments ≤ 2000 }
+    requires count { length chains.now ≡ segments * rungs }
+    requires chains { AreChains segments rungs 0 (map chain_parts chains.now) }
+    ensures { Puts (O.seen out.old) (lines_text (chains_lines segments rungs 0 (map chain_parts chains.now)))
+        (O.seen out.new) result }
+{
+    for (number, chain) in chains.iter().enumerate() {
+        let segment = number / rungs;
+        let per = names_per(segments, rungs, segment);
+        put_chain(out, per, segment, number % rungs, chain)?;
+    }
+    Ok(())
+}
+
+/// Puts the text of the certificate of a plan for this film, line by line, and takes no memory of its own.
+///
+/// The plan's counts are the film's, and its numbers have no more digits than the text allows. After an `Err` a
+/// prefix of the text went out, as for every writer.
+pub fn write_certificate<O: Sink>(m: &Manifest, plan: &Plan, out: &mut O) -> Result<(), PutErr>
+    requires { IsCertificate (plan_parts m.now plan.now) }
+    ensures { Puts (O.seen out.old) (spelling (plan_parts m.now plan.now)) (O.seen out.new) result }
+{
+    put_head(out, m, plan)?;
+    put_chains(out, m.segments() as usize, m.rungs() as usize, &plan.chains)?;
+    put_line(out, "end")
+}
