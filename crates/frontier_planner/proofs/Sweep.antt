@@ -16,6 +16,7 @@ use Rattle.lab_model.specs.declared.label.Label.{Label}
 use Rattle.frontier_planner.specs.Covers.{HasAbove}
 use Rattle.frontier_planner.specs.Frontier.{IsKept, label_cmp, undominated}
 use Rattle.frontier_planner.specs.Labels.{Dominates}
+use Rattle.frontier_planner.specs.Staircase.{IsRising}
 use Rattle.frontier_planner.specs.Sweep.{HasUnder, sweep_cmp}
 use Rattle.frontier_planner.proofs.Kept.{dominates_both, dominates_itself, dominates_trans, undominated_is, undominated_same}
 use Rattle.frontier_planner.proofs.Walks.{at_head, at_tail, none_at}
@@ -93,6 +94,7 @@ pub record Swept (xs kept steps : List Label) : Type 0 where
   apart : (m n : Label) → Contains kept m → Contains kept n → Dominates m n → m ≡ n
   under : (p : ℕ) (v : ℤ) → HasUnder steps p v → HasUnder kept p v
   over : (p : ℕ) (v : ℤ) → HasUnder kept p v → HasUnder steps p v
+  pub rising : IsRising steps
 
 -- nothing is kept of no labels
 pub swept_none : Swept [] [] []
@@ -104,6 +106,7 @@ swept_none = record {
   apart = λ m n h k d. absurd (none_at m h);
   under = λ p v h. absurd (none_at h.0 h.1);
   over = λ p v h. absurd (none_at h.0 h.1);
+  rising = λ i j d low inside. absurd (omega (arith, inside));
 }
 
 -- a label under the staircase is dominated by a kept one, and not kept
@@ -116,12 +119,14 @@ swept_dropped xs kept steps l s order covered = record {
   apart = s.apart;
   under = s.under;
   over = s.over;
+  rising = s.rising;
 }
 
 -- any other is kept
 pub swept_kept : (xs kept steps more : List Label) (l : Label) → Swept xs kept steps → ((m : Label) → Contains xs m → NotBefore m l) → (HasUnder steps l.p l.v → ⊥)
+    → IsRising more
     → ((p : ℕ) (v : ℤ) → HasUnder more p v ↔ (HasUnder steps p v ⊎ ((l.p ≤ p) × (v ≤ℤ l.v)))) → Swept (xs ++ l ∷ []) (kept ++ l ∷ []) more
-swept_kept xs kept steps more l s order free adds =
+swept_kept xs kept steps more l s order free rises adds =
     let alone : (m : Label) → Contains kept m → Dominates m l → ⊥ = λ m there d. free (s.over l.p l.v (m, there, d.1, d.2)) in
     let before : (m : Label) → Contains kept m → NotBefore m l = λ m there. order m (s.within m there) in
     record {
@@ -134,6 +139,7 @@ swept_kept xs kept steps more l s order free adds =
           (λ (e : l ≡ m). ⊎_elim (λ old. absurd (alone n old (after_dominates n l (before n old) (subst (λ y. Dominates y n) (sym e) d)))) (λ (f : l ≡ n). sym e ∙ f) (Contains-push_cases kept l n k)) (Contains-push_cases kept l m h);
       under = λ p v h. ⊎_elim (λ old. let up = s.under p v old in (up.0, Contains-append_left kept (l ∷ []) up.0 up.1, up.2, up.3)) (λ new. (l, Contains-push kept l, new.0, new.1)) ((adds p v).0 h);
       over = λ p v h. (adds p v).1 (⊎_elim (λ old. inl (s.over p v (h.0, old, h.2, h.3))) (λ (e : l ≡ h.0). inr (subst (λ (y : Label). (y.p ≤ p) × (v ≤ℤ y.v)) (sym e) (h.2, h.3))) (Contains-push_cases kept l h.0 h.1));
+      rising = rises;
     }
 
 -- what is kept at the end is what no different label dominates

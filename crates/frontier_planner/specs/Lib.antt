@@ -8,6 +8,7 @@ pub mod Read
 pub mod Covers
 pub mod Valid
 pub mod Layers
+pub mod Staircase
 pub mod Sweep
 pub mod Planned
 pub mod Best

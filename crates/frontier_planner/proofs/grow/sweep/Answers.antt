@@ -18,10 +18,19 @@ loop-l-preserved c =
     rw (take_more labels i no_label c.loop-l-test.true)
     (elim c.if-not-covers.branch [
       | then-not-covers+in_ok-add+in_ok-push w ↦
-          rw (w.kept-is, w.staircase-is, w.in_ok-push.ensures.items) (swept_kept _ _ _ _ (get_or labels i no_label) c.loop-l.invariant order (λ h. false≢true (sym w.if-not-covers.true ∙ c.covers.ensures.1 h)) w.in_ok-add.ensures)
+          rw (w.kept-is, w.staircase-is, w.in_ok-push.ensures.items) (swept_kept _ _ _ _ (get_or labels i no_label) c.loop-l.invariant order (λ h. false≢true (sym w.if-not-covers.true ∙ c.covers.ensures.1 h)) w.in_ok-add.ensures.rising w.in_ok-add.ensures.adds)
       | else-not-covers w ↦
           rw (w.kept-is, w.staircase-is) (swept_dropped _ _ _ (get_or labels i no_label) c.loop-l.invariant order (c.covers.ensures.0 w.if-not-covers.false))
     ])
 
 pub returns : goal.returns
 returns c = swept_all _ _ _ (subst (λ xs. Swept xs c.loop-l.kept.items c.loop-l.staircase.steps.items) (take_all c.loop-l.l-index c.args.labels.now c.loop-l-test.false) c.loop-l.invariant)
+
+pub covers-requires : goal.covers-requires
+covers-requires c = c.loop-l.invariant.rising
+
+pub add-requires-clause-rising : goal.add-requires-clause-rising
+add-requires-clause-rising c = c.loop-l.invariant.rising
+
+pub add-requires-clause-free : goal.add-requires-clause-free
+add-requires-clause-free c = λ h. false≢true (sym c.if-not-covers.true ∙ c.covers.ensures.1 h)
