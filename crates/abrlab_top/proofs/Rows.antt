@@ -8,7 +8,9 @@ use Rattle.lab_model.specs.declared.trace.Period.{Period}
 use Rattle.lab_model.specs.Rules.{RuleKind}
 use Rattle.lab_words.specs.declared.Verb.{Verb}
 use Rattle.lab_words.specs.declared.Verb.TheVariants as verb
-use Rattle.lab_words.specs.Words.{CommandWords, begins_with_verb}
+use Rattle.lab_words.specs.Limits.{AreCounted}
+use Rattle.lab_words.specs.Command.{CommandWords}
+use Rattle.lab_words.specs.Words.{begins_with_verb}
 use Rattle.lab_inputs.specs.declared.stop.Ending.{Ending}
 use Rattle.lab_inputs.specs.declared.stop.Ending.TheVariants as ending
 use Rattle.lab_inputs.specs.declared.stop.FileFault.TheVariants as fault
@@ -218,12 +220,12 @@ is_no_memory words old new ending.OutputFailed r h s = let k = h.status in absur
 is_no_memory words old new ending.NoMemory r h s = elim (h.ran.1) as (λ x. IsNoMemory words old new) [
   | inl same ↦ record { command = h.ran.0; out = λ x. inl same.1; err = h.told; text = λ files t. grew_none old.out.written new.out.written (text words files) (ap (λ (s : Seen). s.written) same.1) }
   | inr x ↦ record {
-      command = h.ran.0;
-      out = out_at_end words x.command old.out new.out x.asked x.ends.1;
-      err = h.told;
-      text = λ files t. rw (outcome_asked words x.command files x.asked) (x.ends.2 files t);
-    }
-  ]
+    command = h.ran.0;
+    out = out_at_end words x.command old.out new.out x.asked x.ends.1;
+    err = h.told;
+    text = λ files t. rw (outcome_asked words x.command files x.asked) (x.ends.2 files t);
+  }
+]
 
 -- every answer has its cause
 pub has_cause : (words : List Text) (old new : World) (e : Ending) (r : ℕ) → Known words old new e r → HasCause words old r new
@@ -288,8 +290,9 @@ some_same o c d e h = cc
 prints : (c : CommandWords) (files : Files) (old new : World) (a : Answer) → IsTaken c → c.verb ≡ verb.Simulate → answer_of c files ≡ Ok a → Grew old.out.written a.text new.out.written → new.err ≡ old.err → PrintsTheSession c files old new
 prints c files old new a taken v e grew same =
     let x = simulated c.verb c files a v e in
-    let traces = one_of x.0.traces (ready_traces c files x.0 x.1 ∙ taken.limits.traces) in
-    let rules = one_of c.rules taken.limits.rules in
+    let counts = subst (λ w. AreCounted w (length c.traces) (length c.rules)) v taken.limits.counts in
+    let traces = one_of x.0.traces (ready_traces c files x.0 x.1 ∙ counts.0) in
+    let rules = one_of c.rules counts.1 in
     record {
       inputs = x.0;
       read = x.1;
@@ -366,6 +369,6 @@ pub is_complete : (words : List Text) (old new : World) (e : Ending) (r : ℕ) �
 is_complete words old new e r h = record {
   faultless = λ files t f. completes words old new e r h files t f.shelf (λ x. f.out x.rose);
   sure = λ files t s. completes words old new e r h files t
-    (λ file named there rose. let x = s.shelf file named there in never_rose _ _ x.1 ((leaves_shelf words old new e r h).asks.asks.steady file.1 x.0) rose)
-    (λ x. never_rose _ _ s.faults (x.steady s.out) x.rose);
+      (λ file named there rose. let x = s.shelf file named there in never_rose _ _ x.1 ((leaves_shelf words old new e r h).asks.asks.steady file.1 x.0) rose)
+      (λ x. never_rose _ _ s.faults (x.steady s.out) x.rose);
 }

@@ -30,7 +30,7 @@ pub fetch_wanted : (file : NamedFile) (old new : Shelved) → Fetches old file.1
 fetch_wanted file old new f = elim f.asked as (λ x. AsksSome (file ∷ []) old new) [
   | inl more ↦ record { asked = file ∷ []; later = []; split = refl; asks = record { asked = more; files = f.files; faults = f.faults; sure = f.sure; steady = f.steady } }
   | inr same ↦ record { asked = []; later = file ∷ []; split = refl; asks = record { asked = same ∙ sym (append-nil old.asked); files = f.files; faults = f.faults; sure = f.sure; steady = f.steady } }
-  ]
+]
 
 reads_on : {X Y Z W : Type 0} (file : NamedFile) (seen : X → Y) (seen2 : Z → W) (meant : Files → Result Y FileFault) (after : Y → Result W FileFault) (old new : Shelved) (e : FileErr)
     → Reads file seen meant old (Err e) new → Reads file seen2 (λ files. meant files >>= after) old (Err e) new
