@@ -8,7 +8,9 @@ use Rattle.lab_model.specs.declared.trace.Period.{Period}
 use Rattle.lab_model.specs.Rules.{RuleKind}
 use Rattle.lab_words.specs.declared.Verb.{Verb}
 use Rattle.lab_words.specs.declared.Verb.TheVariants as verb
-use Rattle.lab_words.specs.Words.{CommandWords, begins_with_verb}
+use Rattle.lab_words.specs.Limits.{AreCounted}
+use Rattle.lab_words.specs.Command.{CommandWords}
+use Rattle.lab_words.specs.Words.{begins_with_verb}
 use Rattle.lab_inputs.specs.declared.stop.Ending.{Ending}
 use Rattle.lab_inputs.specs.declared.stop.Ending.TheVariants as ending
 use Rattle.lab_inputs.specs.declared.stop.FileFault.TheVariants as fault
@@ -288,8 +290,9 @@ some_same o c d e h = cc
 prints : (c : CommandWords) (files : Files) (old new : World) (a : Answer) → IsTaken c → c.verb ≡ verb.Simulate → answer_of c files ≡ Ok a → Grew old.out.written a.text new.out.written → new.err ≡ old.err → PrintsTheSession c files old new
 prints c files old new a taken v e grew same =
     let x = simulated c.verb c files a v e in
-    let traces = one_of x.0.traces (ready_traces c files x.0 x.1 ∙ taken.limits.traces) in
-    let rules = one_of c.rules taken.limits.rules in
+    let counts = subst (λ w. AreCounted w (length c.traces) (length c.rules)) v taken.limits.counts in
+    let traces = one_of x.0.traces (ready_traces c files x.0 x.1 ∙ counts.0) in
+    let rules = one_of c.rules counts.1 in
     record {
       inputs = x.0;
       read = x.1;

@@ -4,7 +4,7 @@ use Rattle.lab_io.specs.declared.PutErr.{PutErr}
 use Rattle.lab_io.specs.declared.PutErr.TheVariants as put
 use Rattle.lab_io.specs.Shelf.{Shelved}
 use Rattle.lab_io.specs.Sink.{Text, Seen, Puts, GrewPart, Grew}
-use Rattle.lab_words.specs.Words.{CommandWords}
+use Rattle.lab_words.specs.Command.{CommandWords}
 use Rattle.lab_inputs.specs.declared.stop.Ending.{Ending}
 use Rattle.lab_inputs.specs.declared.stop.Ending.TheVariants as ending
 use Rattle.lab_inputs.specs.declared.stop.Stop.{Stop}

@@ -6,7 +6,8 @@ use Rattle.lab_model.specs.Rules.{RuleKind}
 use Rattle.lab_words.specs.declared.NamedRule.{NamedRule}
 use Rattle.lab_words.specs.declared.Verb.{Verb}
 use Rattle.lab_words.specs.Rules.{spoken}
-use Rattle.lab_words.specs.Words.{CommandWords, asked_of, begins_with_verb, command_of, has_dashes, named, verb_of}
+use Rattle.lab_words.specs.Command.{CommandWords, named}
+use Rattle.lab_words.specs.Words.{asked_of, begins_with_verb, command_of, has_dashes, verb_of}
 use Rattle.abrlab_top.specs.Outcome.{AreTaken, asked_command, if_built, is_built}
 use Rattle.abrlab_top.specs.Rules.{is_built_rule}
 

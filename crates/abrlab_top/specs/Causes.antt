@@ -3,7 +3,8 @@ use Rattle.std.specs.Prelude.{◌≡◌, ◌⊎◌, ℕ, ◌==◌, ◌<◌, ◌-
 use Rattle.std.specs.List.{list_any}
 use Rattle.lab_io.specs.Shelf.{Shelved}
 use Rattle.lab_io.specs.Sink.{Text, Seen, Rose, Grew, GrewPart}
-use Rattle.lab_words.specs.Words.{CommandWords, begins_with_verb}
+use Rattle.lab_words.specs.Command.{CommandWords}
+use Rattle.lab_words.specs.Words.{begins_with_verb}
 use Rattle.lab_inputs.specs.declared.stop.Role.{Role}
 use Rattle.lab_inputs.specs.declared.stop.FileFault.TheVariants as fault
 use Rattle.lab_inputs.specs.declared.stop.Stop.{Stop}

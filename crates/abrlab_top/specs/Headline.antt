@@ -4,7 +4,7 @@ use Rattle.lab_io.specs.Sink.{Text, Grew}
 use Rattle.lab_model.specs.declared.trace.Period.{Period}
 use Rattle.lab_model.specs.Rules.{RuleKind}
 use Rattle.lab_words.specs.declared.Verb.TheVariants as verb
-use Rattle.lab_words.specs.Words.{CommandWords}
+use Rattle.lab_words.specs.Command.{CommandWords}
 use Rattle.lab_inputs.specs.Files.{Files}
 use Rattle.lab_inputs.specs.Inputs.{InputValues}
 use Rattle.lab_inputs.specs.Settings.{ready_of, setup_of}

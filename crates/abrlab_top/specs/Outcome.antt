@@ -4,7 +4,8 @@ use Rattle.std.specs.List.{list_all}
 use Rattle.lab_io.specs.Sink.{Text}
 use Rattle.lab_words.specs.declared.Verb.{Verb}
 use Rattle.lab_words.specs.declared.Verb.TheVariants as verb
-use Rattle.lab_words.specs.Words.{CommandWords, command_of}
+use Rattle.lab_words.specs.Command.{CommandWords}
+use Rattle.lab_words.specs.Words.{command_of}
 use Rattle.lab_inputs.specs.declared.stop.FileFault.{FileFault}
 use Rattle.lab_inputs.specs.declared.stop.FileFault.TheVariants as fault
 use Rattle.lab_inputs.specs.declared.stop.Stop.{Stop}

@@ -3,7 +3,7 @@ use Rattle.std.specs.Prelude.{List, [], ◌∷◌}
 use Rattle.lab_io.specs.Sink.{Text}
 use Rattle.lab_model.specs.declared.trace.Period.{Period}
 use Rattle.lab_model.specs.Rules.{RuleKind}
-use Rattle.lab_words.specs.Words.{CommandWords}
+use Rattle.lab_words.specs.Command.{CommandWords}
 use Rattle.lab_inputs.specs.Inputs.{InputValues}
 use Rattle.lab_inputs.specs.Settings.{setup_of}
 use Rattle.player_core.specs.Available.{all_ahead}

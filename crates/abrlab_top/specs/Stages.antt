@@ -9,7 +9,8 @@ use Rattle.lab_words.specs.declared.Command.{Command}
 use Rattle.lab_words.specs.declared.WordsErr.{WordsErr}
 use Rattle.lab_words.specs.declared.WordsErr.TheVariants as words_err
 use Rattle.lab_words.specs.Limits.{IsWithinLimits}
-use Rattle.lab_words.specs.Words.{CommandWords, begins_with_verb, view}
+use Rattle.lab_words.specs.Command.{CommandWords, view}
+use Rattle.lab_words.specs.Words.{begins_with_verb}
 use Rattle.lab_inputs.specs.declared.stop.Ending.{Ending}
 use Rattle.lab_inputs.specs.declared.stop.Ending.TheVariants as ending
 use Rattle.lab_inputs.specs.Files.{Files, files_of}

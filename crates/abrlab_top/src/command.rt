@@ -3,7 +3,7 @@
 ghost use Rattle.std.specs.Prelude.{◌≡◌, map, string_bytes};
 ghost use Rattle.std.specs.List.{list_all};
 ghost use Rattle.lab_words.specs.Rules.{spoken};
-ghost use Rattle.lab_words.specs.Words.{view};
+ghost use Rattle.lab_words.specs.Command.{view};
 ghost use Rattle.abrlab_top.specs.Outcome.{is_built, is_built_verb};
 ghost use Rattle.abrlab_top.specs.Rules.{is_built_rule};
 ghost use Rattle.abrlab_top.specs.Stages.{AsksCommand, Ends, IsTaken, Ran};

@@ -3,6 +3,7 @@
 
 mod command;
 mod ending;
+mod memory;
 mod rule;
 mod simulate;
 
@@ -14,6 +15,7 @@ use crate::command::run_command;
 use crate::ending::ending_status;
 use lab_inputs::tell;
 use lab_io::{Shelf, Sink};
+pub use memory::{Printed, run_in_memory};
 pub use rule::AnyRule;
 use std::alloc::Global;
 

@@ -2,7 +2,7 @@
 
 ghost use Rattle.std.specs.Prelude.{◌≡◌};
 ghost use Rattle.lab_words.specs.declared.Verb.TheVariants.{Simulate};
-ghost use Rattle.lab_words.specs.Words.{view};
+ghost use Rattle.lab_words.specs.Command.{view};
 ghost use Rattle.lab_inputs.specs.Stages.{IsReady, values_of};
 ghost use Rattle.abrlab_top.specs.Simulate.{simulate};
 ghost use Rattle.abrlab_top.specs.Stages.{Ends, IsTaken, Writes};

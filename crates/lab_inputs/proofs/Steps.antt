@@ -1,6 +1,6 @@
 -- One file after the other: what those before it gave, and what one more adds or refuses.
 use Rattle.std.proofs.Common.{◌≡◌, ℕ, ◌+◌, ◌≤◌, ◌++◌, List, [], ◌∷◌, map, Option, Some, None, Result, Ok, Err, IsOk, ap, sym, ◌∙◌, refl, inl, inr, arith, append_assoc, append-nil, length, length-append, ◌<◌, take, drop, get_or, add-one, drop-cons, subst}
-use Rattle.std.proofs.lemmas.List.{map-append, take-append-drop}
+use Rattle.std.proofs.lemmas.List.{length-map, map-append, take-append-drop}
 use Rattle.std.proofs.Math.Seq.{take-suc}
 use Rattle.std.proofs.lemmas.List.Sums.{sum_by-append, sum_by-cons, sum_by_push}
 use Rattle.std.specs.Result.{IsErrAnd}
@@ -14,7 +14,7 @@ use Rattle.lab_io.specs.Shelf.{Shelved}
 use Rattle.lab_model.specs.Rules.{RuleKind}
 use Rattle.lab_words.specs.declared.NamedRule.{NamedRule}
 use Rattle.lab_words.specs.Rules.{spoken}
-use Rattle.lab_words.specs.Words.{CommandWords, named}
+use Rattle.lab_words.specs.Command.{CommandWords, named}
 use Rattle.lab_inputs.specs.declared.fetch.FileErr.{FileErr}
 use Rattle.lab_inputs.specs.declared.fetch.FileErr.TheVariants as err
 use Rattle.lab_inputs.specs.declared.inputs.FileName.{FileName}
@@ -166,6 +166,13 @@ kinds_same (rule ∷ rules) = ap (λ l. spoken rule.rule ∷ l) (kinds_same rule
 -- the rules of a command, seen in one step
 pub kinds_of_rules : (rules seen : List NamedRule) → seen ≡ rules → map (λ rule. spoken rule.rule) seen ≡ map (λ (rule : Text × RuleKind). rule.1) (map named rules)
 kinds_of_rules rules seen e = rw e (kinds_same rules)
+
+named_length : (rules : List NamedRule) → length (map named rules) ≡ length rules
+named_length rules = length-map rules named
+
+-- the rules of a command, counted through a slice
+pub rules_counted : (rules seen : List NamedRule) → seen ≡ rules → length seen ≡ length (map named rules)
+rules_counted rules seen e = ap length e ∙ sym (named_length rules)
 
 -- a setting does not fit
 pub ready_misfits : (c : CommandWords) (files : Files) (i : InputValues) (setting : Setting) → inputs_of c files ≡ Ok i → Some setting ≡ misfit (setup_of c) (kinds_of c) i.film → ready_of c files ≡ Err (stop.Settings setting)

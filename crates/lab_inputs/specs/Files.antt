@@ -2,7 +2,7 @@
 use Rattle.std.specs.Prelude.{ℕ, ◌+◌, List, [], ◌∷◌, ◌++◌, map, length, Bool, Option, Some, None, Result, Ok, Err, codes, if◌then◌else◌, nat_lt, nat_eq, sum_by}
 use Rattle.std.specs.List.{ends_with}
 use Rattle.lab_io.specs.Sink.{Text}
-use Rattle.lab_words.specs.Words.{CommandWords}
+use Rattle.lab_words.specs.Command.{CommandWords}
 use Rattle.lab_inputs.specs.declared.stop.Role.{Role}
 use Rattle.lab_inputs.specs.declared.stop.Role.TheVariants as role
 use Rattle.lab_inputs.specs.declared.stop.FileFault.{FileFault}

@@ -5,7 +5,7 @@ use Rattle.lab_model.specs.declared.context.Seek.{Seek}
 use Rattle.lab_model.specs.declared.fault.Refusal.{Refusal}
 use Rattle.lab_model.specs.declared.trace.Period.{Period}
 use Rattle.lab_model.specs.Film.{Film, segments_of}
-use Rattle.lab_words.specs.Words.{CommandWords}
+use Rattle.lab_words.specs.Command.{CommandWords}
 use Rattle.manifest_reader.specs.Manifest.{manifest_of}
 use Rattle.seek_script.specs.Script.{seeks_of}
 use Rattle.trace_reader.specs.Trace.{trace_json}

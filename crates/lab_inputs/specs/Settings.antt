@@ -1,11 +1,11 @@
 -- The settings of a command, and the first that does not fit the film.
-use Rattle.std.specs.Prelude.{ℕ, ◌+◌, ◌&&◌, ◌||◌, ◌==◌, Bool, true, not, List, [], ◌∷◌, map, length, Option, Some, None, option_map, Result, Ok, Err, if◌then◌else◌, nat_le, nat_lt}
-use Rattle.std.specs.List.{list_all}
+use Rattle.std.specs.Prelude.{ℕ, ◌+◌, not, List, [], ◌∷◌, map, Option, Some, None, option_map, Result, Ok, Err, if◌then◌else◌}
 use Rattle.lab_model.specs.declared.setup.Setup.{Setup}
-use Rattle.lab_model.specs.Film.{Film, rungs_of, segments_of}
-use Rattle.lab_model.specs.Rules.{RuleKind, fixed, listed, throughput, bola, mpc}
+use Rattle.lab_model.specs.Film.{Film}
+use Rattle.lab_model.specs.Fit.{buffer_fits, utilities_fit}
+use Rattle.lab_model.specs.Rules.{RuleKind, kind_fits}
 use Rattle.lab_model.specs.Weighing.{weighing}
-use Rattle.lab_words.specs.Words.{CommandWords}
+use Rattle.lab_words.specs.Command.{CommandWords}
 use Rattle.lab_inputs.specs.declared.stop.Setting.{Setting}
 use Rattle.lab_inputs.specs.declared.stop.Setting.TheVariants as setting
 use Rattle.lab_inputs.specs.declared.stop.Stop.{Stop}
@@ -21,26 +21,10 @@ setup_of c = record { buffer_ms = c.buffer_ms; weights = weighing c.utilities c.
 abbrev pub kinds_of : CommandWords → List RuleKind
 kinds_of c = map (λ rule. rule.1) c.rules
 
--- the buffer holds a segment
-abbrev pub buffer_fits : Setup → Film → Bool
-buffer_fits s f = nat_le f.seg_ms s.buffer_ms && nat_le s.buffer_ms 10000000
-
--- each rung has a utility, and a table has a row for each segment
-abbrev pub utilities_fit : Setup → Film → Bool
-utilities_fit s f = (s.weights.count == rungs_of f) && ((s.weights.rows == 0) || (s.weights.rows == segments_of f))
-
--- the rule can be asked about this film
-abbrev pub rule_fits : Film → RuleKind → Bool
-rule_fits f (fixed q) = nat_lt q (rungs_of f)
-rule_fits f (listed rungs) = (length rungs == segments_of f) && list_all (λ q. nat_lt q (rungs_of f)) rungs
-rule_fits f (throughput windows) = true
-rule_fits f (bola g) = true
-rule_fits f (mpc horizon) = true
-
 -- the place of the first rule that cannot be asked about the film, the first rule being at this place
 abbrev pub misfit_from : ℕ → List RuleKind → Film → Option ℕ
 misfit_from place [] f = None
-misfit_from place (rule ∷ rules) f = if rule_fits f rule then misfit_from (place + 1) rules f else Some place
+misfit_from place (rule ∷ rules) f = if kind_fits rule f then misfit_from (place + 1) rules f else Some place
 
 -- the first setting that does not fit: the buffer, then the utilities, then the rules by their places from 1
 unfoldable pub misfit : Setup → List RuleKind → Film → Option Setting

@@ -8,8 +8,8 @@ use Rattle.lab_model.specs.declared.fault.InputFault.TheVariants.{Memory, Refuse
 use Rattle.lab_model.specs.Film.{segments_of}
 use Rattle.lab_model.specs.Fit.{SetupFits}
 use Rattle.lab_model.specs.Rules.{KindFits}
-use Rattle.lab_words.specs.Words.{CommandWords}
-use Rattle.seek_script.specs.Within.{SeeksWithin}
+use Rattle.lab_words.specs.Command.{CommandWords}
+use Rattle.lab_model.specs.Seeks.{SeeksFit}
 use Rattle.lab_inputs.specs.declared.fetch.FileErr.{FileErr}
 use Rattle.lab_inputs.specs.declared.fetch.FileErr.TheVariants as err
 use Rattle.lab_inputs.specs.declared.inputs.FileName.{FileName}
@@ -111,7 +111,7 @@ values_of i = record { film = i.manifest; traces = i.traces.items; seeks = i.see
 
 -- the seeks are within the film
 abbrev pub IsSound : Inputs → Type 0
-IsSound i = SeeksWithin i.seeks.items (segments_of i.manifest)
+IsSound i = SeeksFit i.seeks.items (segments_of i.manifest)
 
 -- what is in hand fits the film: the setup, each rule and the seeks; and there is a trace for each that the words name
 pub record IsReady (c : CommandWords) (r : Ready) : Type 0 where

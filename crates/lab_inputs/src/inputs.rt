@@ -3,7 +3,7 @@
 ghost use Rattle.std.specs.Prelude.{◌≡◌, ◌+◌, IfOk, OnOk, length, map, vec_len};
 ghost use Rattle.lab_model.specs.Film.{segments_of};
 ghost use Rattle.lab_model.specs.Reading.{Gives};
-ghost use Rattle.lab_words.specs.Words.{view};
+ghost use Rattle.lab_words.specs.Command.{view};
 ghost use Rattle.manifest_reader.specs.Manifest.{manifest_of};
 ghost use Rattle.seek_script.specs.Script.{seeks_of};
 ghost use Rattle.lab_inputs.specs.Files.{files_of, is_csv, later_files, trace_count};
@@ -110,10 +110,8 @@ impl Inputs {
         ensures sound { IsSound self.old → IsSound self.new }
     {
         let trace = read_trace(alloc, name, bytes)?;
-        match self.traces.push(trace) {
-            Ok(()) => Ok(()),
-            Err(_) => Err(InputFault::Memory),
-        }
+        self.traces.push(trace)?;
+        Ok(())
     }
 
     /// Takes a seek script.

@@ -2,11 +2,12 @@
 
 ghost use Rattle.std.specs.Prelude.{◌≡◌, ◌<◌, ◌-◌, ◌^◌, IfOk, length, map, nat_lt};
 ghost use Rattle.std.specs.List.{list_all};
-ghost use Rattle.lab_words.specs.Limits.{IsWithinLimits};
+ghost use Rattle.lab_model.specs.Rules.{kind_fits};
+ghost use Rattle.lab_words.specs.Limits.{HasFilm, IsWithinLimits};
 ghost use Rattle.lab_words.specs.Rules.{spoken};
-ghost use Rattle.lab_words.specs.Words.{view};
+ghost use Rattle.lab_words.specs.Command.{view};
 ghost use Rattle.lab_inputs.specs.Files.{files_of};
-ghost use Rattle.lab_inputs.specs.Settings.{buffer_fits, kinds_of, misfit, misfit_from, ready_of, rule_fits, setup_of, utilities_fit};
+ghost use Rattle.lab_inputs.specs.Settings.{misfit, misfit_from, ready_of, setup_of};
 ghost use Rattle.lab_inputs.specs.Stages.{Comes, IsReady, values_of};
 
 use crate::inputs::{Inputs, read_inputs};
@@ -25,7 +26,8 @@ pub struct Ready {
 
 /// The setup that the options give.
 fn setup_of(alloc: Global, command: &Command) -> Result<Setup, AllocError>
-    requires { IsWithinLimits (view command.now) }
+    requires limits { IsWithinLimits (view command.now) }
+    requires film { HasFilm (view command.now).verb }
     ensures { IfOk result (λ setup. setup ≡ setup_of (view command.now)) }
 {
     let utilities = Vec::from_slice(alloc, &command.utilities)?;
@@ -39,21 +41,6 @@ fn setup_of(alloc: Global, command: &Command) -> Result<Setup, AllocError>
     }
 }
 
-/// Whether the buffer holds a segment.
-fn buffer_fits(setup: &Setup, m: &Manifest) -> bool
-    ensures { result ≡ buffer_fits setup.now m.now }
-{
-    m.seg_ms() <= setup.buffer_ms && setup.buffer_ms <= 10_000_000
-}
-
-/// Whether each rung has a utility, and a table a row for each segment.
-fn utilities_fit(setup: &Setup, m: &Manifest) -> bool
-    ensures { result ≡ utilities_fit setup.now m.now }
-{
-    let rows = setup.weights.rows();
-    setup.weights.count() == m.rungs() && (rows == 0 || rows == m.segments())
-}
-
 /// Whether each of these is a rung of the ladder.
 fn are_rungs(rungs: &[u8], count: u8) -> bool
     ensures { result ≡ list_all (λ q. nat_lt q count) rungs.now }
@@ -63,7 +50,7 @@ fn are_rungs(rungs: &[u8], count: u8) -> bool
 
 /// Whether the rule can be asked about the film.
 fn rule_fits(rule: &RuleWords, m: &Manifest) -> bool
-    ensures { result ≡ rule_fits m.now (spoken rule.now) }
+    ensures { result ≡ kind_fits (spoken rule.now) m.now }
 {
     match rule {
         RuleWords::Fixed { rung } => *rung < m.rungs(),
@@ -95,10 +82,10 @@ fn misfit(setup: &Setup, rules: &[NamedRule], m: &Manifest) -> Option<Setting>
     requires { length rules.now < 2 ^ 8 - 1 }
     ensures { result ≡ misfit setup.now (map (λ rule. spoken rule.rule) rules.now) m.now }
 {
-    if !buffer_fits(setup, m) {
+    if !setup.buffer_fits(m) {
         return Some(Setting::Buffer);
     }
-    if !utilities_fit(setup, m) {
+    if !setup.utilities_fit(m) {
         return Some(Setting::Utilities);
     }
     misfit_rule(rules, m).map(Setting::Rule)
@@ -106,7 +93,8 @@ fn misfit(setup: &Setup, rules: &[NamedRule], m: &Manifest) -> Option<Setting>
 
 /// What a command has in hand once its files are read and its settings fit the film.
 pub fn prepare<F: Shelf>(alloc: Global, shelf: &mut F, command: &Command) -> Result<Ready, Halt>
-    requires { IsWithinLimits (view command.now) }
+    requires limits { IsWithinLimits (view command.now) }
+    requires film { HasFilm (view command.now).verb }
     ensures ready { Comes (files_of (view command.now)) (λ r. values_of r.inputs) (ready_of (view command.now))
         (F.shelved shelf.old) result (F.shelved shelf.new) }
     ensures fits { IfOk result (λ r. IsReady (view command.now) r) }

@@ -1,5 +1,5 @@
 use Rattle.std.proofs.Common.{map, string_bytes}
-use Rattle.lab_words.specs.Words.{view}
+use Rattle.lab_words.specs.Command.{view}
 use Rattle.abrlab_top.proofs.Whole.{ran}
 use Rattle.abrlab_top.proofs.command.run_command.Goals as goal
 

@@ -1,4 +1,4 @@
-use Rattle.lab_words.specs.Words.{view}
+use Rattle.lab_words.specs.Command.{view}
 use Rattle.lab_inputs.specs.Stages.{values_of}
 use Rattle.std.proofs.Common.{Ok, ap, refl}
 use Rattle.abrlab_top.specs.Simulate.{simulate}

@@ -1,7 +1,7 @@
 use Rattle.std.proofs.Common.{◌≡◌, Ok, ap, sym, ◌∙◌, ◌∷◌, [], map, take, drop, ◌+◌, get_or, string_bytes, refl, arith}
 use Rattle.std.proofs.lemmas.List.{take_all}
 use Rattle.std.proofs.lemmas.List.Sums.{sum_by-append}
-use Rattle.lab_words.specs.Words.{view}
+use Rattle.lab_words.specs.Command.{view}
 use Rattle.lab_inputs.specs.declared.stop.Role.TheVariants as role
 use Rattle.lab_inputs.specs.Files.{NamedFile, later_files, seeks_file, trace_count, trace_files, traces_among}
 use Rattle.lab_inputs.specs.Stages.{file_of, values_of}

@@ -1,12 +1,18 @@
-use Rattle.std.proofs.Common.{sym}
-use Rattle.lab_words.specs.Words.{view}
+use Rattle.std.proofs.Common.{sym, arith}
+use Rattle.lab_words.specs.Command.{view}
 use Rattle.lab_inputs.specs.Files.{files_of}
 use Rattle.lab_inputs.specs.Inputs.{inputs_of}
 use Rattle.lab_inputs.specs.Settings.{kinds_of, misfit, ready_of, setup_of, unless_misfit}
 use Rattle.lab_inputs.specs.Stages.{values_of}
-use Rattle.lab_inputs.proofs.Fits.{all_fits}
-use Rattle.lab_inputs.proofs.Steps.{comes_failed, kinds_of_rules, ready_made, ready_misfits}
+use Rattle.lab_inputs.proofs.Fits.{all_fits, few_rules}
+use Rattle.lab_inputs.proofs.Steps.{comes_failed, kinds_of_rules, ready_made, ready_misfits, rules_counted}
 use Rattle.lab_inputs.proofs.settings.prepare.Goals as goal
+
+pub misfit-requires : goal.misfit-requires
+misfit-requires g c =
+    let few = few_rules (view c.args.command.now).verb _ _ c.requires.limits.counts in
+    let same = rules_counted c.args.command.now.rules.items c.deref.result.now c.deref.ensures.value in
+    omega (arith, few, same)
 
 pub returns-in_err-inputs-clause-ready : goal.returns-in_err-inputs-clause-ready
 unfolding ready_of
