@@ -65,12 +65,16 @@ negative row digits text = do
   n ← some_at row (numeral digits text)
   passed row (nat_le 1 n) (pos 0 -ℤ pos n)
 
+-- the number that a text spells, with a sign
+abbrev pub unsigned_of : ℕ → ℕ → Text → Result ℤ Refusal
+unsigned_of row digits text = do
+  n ← some_at row (numeral digits text)
+  Ok (pos n)
+
 -- the number that a text spells, which may have a `-` before a number that isn't 0
 unfoldable pub signed_of : ℕ → ℕ → Text → Result ℤ Refusal
 signed_of row digits [] = Err (bad_line row)
-signed_of row digits (c ∷ cs) =
-    if c == 45 then negative row digits cs
-    else (some_at row (numeral digits (c ∷ cs)) >>= λ n. Ok (pos n))
+signed_of row digits (c ∷ cs) = if c == 45 then negative row digits cs else unsigned_of row digits (c ∷ cs)
 
 -- such a number
 unfoldable pub signed_at : ℕ → ℕ → ℕ → Text → Read ℤ

@@ -35,6 +35,10 @@ head_lines c =
 abbrev pub label_fields : Label → List ℕ → List Text
 label_fields l names = decimal l.t ∷ decimal l.p ∷ signed_decimal l.v ∷ map decimal names
 
+-- its three numbers
+abbrev pub label_numbers : Label → Text
+label_numbers l = decimal l.t ++ (32 ∷ (decimal l.p ++ (32 ∷ (signed_decimal l.v ++ []))))
+
 -- the lines of the labels, each with so many of the names
 abbrev pub label_lines : ℕ → List Label → List ℕ → List (List Text)
 label_lines per [] names = []

@@ -3,6 +3,7 @@ use Rattle.std.specs.Prelude.{◌≡◌, ℕ, ◌+◌, ◌*◌, ◌==◌, List, 
 use Rattle.lab_model.specs.declared.fault.Refusal.{Refusal}
 use Rattle.lab_model.specs.declared.fault.InputFault.{InputFault}
 use Rattle.lab_model.specs.declared.fault.InputFault.TheVariants.{Memory, Refused}
+use Rattle.lab_model.specs.Reading.{Fails}
 use Rattle.lab_io.specs.Sink.{Text}
 use Rattle.frontier_planner.specs.Parts.{CertificateParts, ChainParts, chain_parts}
 use Rattle.certificate_text.specs.declared.certificate.Layer.{Layer}
@@ -50,8 +51,12 @@ abbrev pub layer_parts : Option Layer → Option (List ChainParts)
 layer_parts (Some layer) = Some (map chain_parts layer.chains.items)
 layer_parts None = None
 
--- what a call does: the next layer or the end; after a refusal each later call answers it; without memory all is as before
+-- the walk after a fault: a refusal stays, and without memory all is as before
+abbrev pub after_fault : Walk → InputFault → Walk
+after_fault w (Refused refusal) = record w { at = Err refusal }
+after_fault w Memory = w
+
+-- what a call does: the next layer or the end, or the refusal, which each later call answers too
 abbrev pub Steps : Walk → Result (Option Layer) InputFault → Walk → Type 0
 Steps old (Ok layer) new = layer_of old ≡ Ok (layer_parts layer, new)
-Steps old (Err (Refused refusal)) new = (layer_of old ≡ Err refusal) × (new ≡ record old { at = Err refusal })
-Steps old (Err Memory) new = new ≡ old
+Steps old (Err fault) new = Fails fault (layer_of old) × (new ≡ after_fault old fault)

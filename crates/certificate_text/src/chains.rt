@@ -6,7 +6,9 @@ ghost use Rattle.frontier_planner.specs.Parts.{chain_parts};
 ghost use Rattle.certificate_text.specs.Form.{names_per};
 ghost use Rattle.certificate_text.specs.Reading.{behind, chain_at, chains_at, end_at, label_at, labels_at, layer_at, nothing_at, numbers_of_label_at, place_of};
 
-use crate::fields::{bad_line, known_at, number_at, push_numbers, signed_at, stop_before, word_at};
+use crate::fields::{
+    bad_line, known_at, number_at, push, push_numbers, signed_at, stop_before, word_at,
+};
 use frontier_planner::Chain;
 use lab_model::{InputFault, Label};
 use std::alloc::Global;
@@ -23,6 +25,7 @@ pub(crate) struct Spot<'a> {
 }
 
 /// The three numbers of a label, before so many names.
+#[tactic(auto, unfolding(crate::specs::Reading::numbers_of_label_at))]
 fn numbers_of_label_at(row: u32, per: usize, bytes: &[u8]) -> Result<(Label, &[u8]), InputFault>
     ensures { Gives (λ x. (x.0, x.1.now)) result (numbers_of_label_at row per bytes.now) }
 {
@@ -33,6 +36,7 @@ fn numbers_of_label_at(row: u32, per: usize, bytes: &[u8]) -> Result<(Label, &[u
 }
 
 /// Appends a label with so many names.
+#[tactic(auto, unfolding(crate::specs::Reading::label_at))]
 fn push_label<'a>(
     chain: &mut Chain,
     row: u32,
@@ -43,7 +47,7 @@ fn push_label<'a>(
         (behind (chain_parts chain.old) (label_at row per bytes.now)) }
 {
     let (label, rest) = numbers_of_label_at(row, per, bytes)?;
-    chain.labels.push(label).map_err(|_| InputFault::Memory)?;
+    push(&mut chain.labels, label)?;
     push_numbers(&mut chain.names, row, 7, per, rest)
 }
 
@@ -67,6 +71,7 @@ fn push_labels<'a>(
 }
 
 /// The line before the labels of a chain: how many they are.
+#[tactic(auto, unfolding(crate::specs::Reading::layer_at))]
 fn layer_at<'a>(segment: u32, rung: u32, at: Spot<'a>) -> Result<(u32, &'a [u8]), InputFault>
     ensures count { Gives (λ x. (x.0, x.1.now)) result
         (layer_at at.entry.row segment rung at.entry.left at.entry.rest.now) }
@@ -84,6 +89,7 @@ fn layer_at<'a>(segment: u32, rung: u32, at: Spot<'a>) -> Result<(u32, &'a [u8])
 }
 
 /// The chain of a segment and rung, whose labels have so many names each.
+#[tactic(auto, unfolding(crate::specs::Reading::chain_at))]
 fn chain_at<'a>(
     alloc: Global,
     per: usize,
@@ -111,48 +117,45 @@ fn chain_at<'a>(
 }
 
 /// How many names stand behind each label of a segment.
-fn names_per(segments: u32, rungs: u32, segment: u32) -> usize
+pub(crate) fn names_per(segments: usize, rungs: usize, segment: usize) -> usize
     requires { segment < segments }
     ensures { result ≡ names_per segments rungs segment }
 {
-    if segment + 1 == segments {
-        0
-    } else {
-        rungs as usize
-    }
+    if segment + 1 == segments { 0 } else { rungs }
 }
 
 /// So many chains from the one with this number on.
 pub(crate) fn chains_at<'a>(
     alloc: Global,
-    segments: u16,
-    rungs: u8,
+    segments: u32,
+    rungs: u32,
     number: u32,
     count: u32,
     at: Spot<'a>,
 ) -> Result<(Vec<Chain>, Spot<'a>), InputFault>
-    requires rungs { 1 ≤ rungs }
+    requires rungs { IsWithin 1 16 rungs }
+    requires segments { segments ≤ 2000 }
     requires number { number + count ≤ segments * rungs }
     requires room { at.row + at.left + count ≤ 3000000000 }
     ensures chains { Gives (λ x. (map chain_parts x.0.items, place_of x.1)) result
         (chains_at segments rungs number count (place_of at.entry)) }
     ensures room { IfOk result (λ x. x.1.row + x.1.left ≡ at.entry.row + at.entry.left + count) }
 {
-    let (segments, rungs) = (u32::from(segments), u32::from(rungs));
     let mut chains = Vec::new(alloc);
     let mut spot = at;
     for i in 0..count {
         let segment = (number + i) / rungs;
         let rung = (number + i) % rungs;
-        let per = names_per(segments, rungs, segment);
+        let per = names_per(segments as usize, rungs as usize, segment as usize);
         let (chain, behind) = chain_at(alloc, per, segment, rung, spot)?;
-        chains.push(chain).map_err(|_| InputFault::Memory)?;
+        push(&mut chains, chain)?;
         spot = behind;
     }
     Ok((chains, spot))
 }
 
 /// The last line, behind which nothing stands.
+#[tactic(auto, unfolding(crate::specs::Reading::end_at))]
 pub(crate) fn end_at(at: Spot<'_>) -> Result<(), InputFault>
     requires { at.row ≤ 4000000000 }
     ensures { Gives (λ done. done) result (end_at (place_of at.entry)) }

@@ -1,11 +1,11 @@
 //! The fields of a line, read one after the other.
-ghost use Rattle.std.specs.Prelude.{◌≡◌, ◌-◌, ◌^◌, ◌≤◌, ◌<◌, true, length, IfOk, IfSome, List, take};
+ghost use Rattle.std.specs.Prelude.{◌≡◌, ◌==◌, ◌≤◌, ◌∷◌, ◌++◌, [], true, length, position, IfErr, IfOk, IfSome, OnOk, pos};
 ghost use Rattle.std.specs.Str.{all_ascii_digits};
 ghost use Rattle.std.specs.Str.Parse.{digits_value};
 ghost use Rattle.lab_io.specs.Number.{is_number, numeral};
 ghost use Rattle.lab_model.specs.Reading.{Gives};
 ghost use Rattle.certificate_text.specs.Form.{HasDigits, HasSignedDigits};
-ghost use Rattle.certificate_text.specs.Fields.{bad_line, field_at, known_at, negative, number_at, numbers_at, passed, prepended, signed_at, signed_of, some_at, stop_before, word_at};
+ghost use Rattle.certificate_text.specs.Fields.{bad_line, field_at, known_at, negative, number_at, numbers_at, passed, prepended, signed_at, signed_of, some_at, stop_before, unsigned_of, word_at};
 
 use lab_model::{InputFault, Key, Kind, Refusal};
 use std::alloc::Global;
@@ -29,17 +29,25 @@ pub(crate) fn passed<T: Drop>(row: u32, test: bool, value: T) -> Result<T, Input
     if test { Ok(value) } else { Err(bad_line(row)) }
 }
 
+/// The place of the first byte that ends a field.
+fn first_stop(stop: u8, bytes: &[u8]) -> Option<usize>
+    ensures { result ≡ position (λ b. b == stop) bytes.now }
+{
+    bytes.iter().position(|byte| *byte == stop)
+}
+
 /// What stands before the first byte that ends a field, and what stands behind it.
 pub(crate) fn field_at(row: u32, stop: u8, bytes: &[u8]) -> Result<(&[u8], &[u8]), InputFault>
     ensures { Gives (λ x. (x.0.now, x.1.now)) result (field_at row stop bytes.now) }
 {
-    match bytes.iter().position(|byte| *byte == stop) {
+    match first_stop(stop, bytes) {
         Some(place) => Ok((&bytes[..place], &bytes[place + 1..])),
         None => Err(bad_line(row)),
     }
 }
 
 /// What stands behind this word.
+#[tactic(auto, unfolding(crate::specs::Fields::word_at))]
 pub(crate) fn word_at<'a>(
     row: u32,
     word: &str,
@@ -88,10 +96,12 @@ fn value_of(digits: &[u8]) -> u128
 }
 
 /// The number that a text of at most so many digits spells.
+#[tactic(auto, unfolding(lab_io::specs::Number::numeral))]
 fn numeral(digits: usize, text: &[u8]) -> Option<u128>
     requires { digits ≤ 24 }
     ensures number { result ≡ numeral digits text.now }
     ensures digits { IfSome result (λ n. HasDigits digits n) }
+    ensures most { IfSome result (λ n. HasDigits 24 n) }
 {
     if is_number(text) && text.len() <= digits {
         Some(value_of(text))
@@ -101,6 +111,7 @@ fn numeral(digits: usize, text: &[u8]) -> Option<u128>
 }
 
 /// A number of at most so many digits.
+#[tactic(auto, unfolding(crate::specs::Fields::number_at))]
 pub(crate) fn number_at(
     row: u32,
     digits: usize,
@@ -119,11 +130,20 @@ pub(crate) fn number_at(
 }
 
 /// What stands behind this number.
+#[tactic(auto, unfolding(crate::specs::Fields::known_at))]
 pub(crate) fn known_at(row: u32, known: u32, stop: u8, bytes: &[u8]) -> Result<&[u8], InputFault>
     ensures { Gives (λ rest. rest.now) result (known_at row known stop bytes.now) }
 {
     let (n, rest) = number_at(row, 7, stop, bytes)?;
     passed(row, n == u64::from(known), rest)
+}
+
+/// The same number with a sign.
+fn signed(n: u128) -> i128
+    requires { HasDigits 24 n }
+    ensures { result ≡ pos n }
+{
+    n as i128
 }
 
 /// The number below 0 that a text spells behind its `-`.
@@ -133,27 +153,39 @@ fn negative(row: u32, digits: usize, text: &[u8]) -> Result<i128, InputFault>
     ensures digits { IfOk result (λ z. HasSignedDigits digits z) }
 {
     match numeral(digits, text) {
-        Some(n) if n >= 1 => Ok(-(n as i128)),
+        Some(n) if n >= 1 => Ok(-signed(n)),
         _ => Err(bad_line(row)),
     }
 }
 
+/// The number that a text spells, with a sign.
+fn unsigned_of(row: u32, digits: usize, text: &[u8]) -> Result<i128, InputFault>
+    requires { digits ≤ 24 }
+    ensures number { Gives (λ z. z) result (unsigned_of row digits text.now) }
+    ensures digits { IfOk result (λ z. HasSignedDigits digits z) }
+{
+    match numeral(digits, text) {
+        Some(n) => Ok(signed(n)),
+        None => Err(bad_line(row)),
+    }
+}
+
 /// The number that a text spells, which may have a `-` before a number that isn't 0.
+#[tactic(auto, unfolding(crate::specs::Fields::signed_of))]
 fn signed_of(row: u32, digits: usize, text: &[u8]) -> Result<i128, InputFault>
     requires { digits ≤ 24 }
     ensures number { Gives (λ z. z) result (signed_of row digits text.now) }
     ensures digits { IfOk result (λ z. HasSignedDigits digits z) }
 {
     match text {
+        [] => Err(bad_line(row)),
         [b'-', magnitude @ ..] => negative(row, digits, magnitude),
-        _ => match numeral(digits, text) {
-            Some(n) => Ok(n as i128),
-            None => Err(bad_line(row)),
-        },
+        [_, ..] => unsigned_of(row, digits, text),
     }
 }
 
 /// Such a number.
+#[tactic(auto, unfolding(crate::specs::Fields::signed_at))]
 pub(crate) fn signed_at(
     row: u32,
     digits: usize,
@@ -176,6 +208,14 @@ pub(crate) fn stop_before(more: usize) -> u8
     if more == 0 { b'\n' } else { b' ' }
 }
 
+/// Appends a value, if memory allows it.
+pub(crate) fn push<T: Drop>(into: &mut Vec<T>, value: T) -> Result<(), InputFault>
+    ensures ok { OnOk result (into.new.items ≡ into.old.items ++ value ∷ []) }
+    ensures memory { IfErr result (λ fault. fault ≡ InputFault.Memory) }
+{
+    into.push(value).map_err(|_| InputFault::Memory)
+}
+
 /// Appends so many numbers of at most 7 digits, which stand to the end of a line.
 pub(crate) fn push_numbers<'a>(
     into: &mut Vec<u32>,
@@ -191,7 +231,7 @@ pub(crate) fn push_numbers<'a>(
     let mut rest = bytes;
     for i in 0..count {
         let (n, behind) = number_at(row, digits, stop_before(count - i - 1), rest)?;
-        into.push(n as u32).map_err(|_| InputFault::Memory)?;
+        push(into, n as u32)?;
         rest = behind;
     }
     Ok(rest)

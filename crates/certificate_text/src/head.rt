@@ -7,7 +7,9 @@ ghost use Rattle.certificate_text.specs.Reading.{count_at, counts_at, counts_of,
 
 use crate::certificate::Certificate;
 use crate::chains::Spot;
-use crate::fields::{bad_line, field_at, number_at, passed, push_numbers, signed_at, word_at};
+use crate::fields::{
+    bad_line, field_at, number_at, passed, push, push_numbers, signed_at, word_at,
+};
 use lab_model::InputFault;
 use std::alloc::Global;
 
@@ -30,6 +32,7 @@ fn version_of(row: u32, line: &[u8]) -> Result<bool, InputFault>
 }
 
 /// The first line.
+#[tactic(auto, unfolding(crate::specs::Reading::version_at))]
 fn version_at(row: u32, bytes: &[u8]) -> Result<(bool, &[u8]), InputFault>
     ensures { Gives (λ x. (x.0, x.1.now)) result (version_at row bytes.now) }
 {
@@ -39,6 +42,7 @@ fn version_at(row: u32, bytes: &[u8]) -> Result<(bool, &[u8]), InputFault>
 }
 
 /// A line of a word and a number from 1 to the most.
+#[tactic(auto, unfolding(crate::specs::Reading::count_at))]
 fn count_at<'a>(
     row: u32,
     word: &str,
@@ -58,6 +62,7 @@ fn count_at<'a>(
 }
 
 /// The line of version 2.
+#[tactic(auto, unfolding(crate::specs::Reading::table_at))]
 fn table_at(row: u32, table: bool, bytes: &[u8]) -> Result<&[u8], InputFault>
     ensures { Gives (λ rest. rest.now) result (table_at row table bytes.now) }
 {
@@ -69,6 +74,7 @@ fn table_at(row: u32, table: bool, bytes: &[u8]) -> Result<&[u8], InputFault>
 }
 
 /// The line of the score.
+#[tactic(auto, unfolding(crate::specs::Reading::score_at))]
 fn score_at(row: u32, bytes: &[u8]) -> Result<(i128, &[u8]), InputFault>
     ensures { Gives (λ x. (x.0, x.1.now)) result (score_at row bytes.now) }
 {
@@ -77,6 +83,7 @@ fn score_at(row: u32, bytes: &[u8]) -> Result<(i128, &[u8]), InputFault>
 }
 
 /// A line of a word and so many numbers.
+#[tactic(auto, unfolding(crate::specs::Reading::list_at))]
 fn list_at<'a>(
     alloc: Global,
     row: u32,
@@ -104,6 +111,7 @@ struct Counts {
 }
 
 /// The lines of version and counts.
+#[tactic(auto, unfolding(crate::specs::Reading::counts_at))]
 fn counts_at(bytes: &[u8]) -> Result<(Counts, &[u8]), InputFault>
     ensures counts { Gives (λ x. (counts_of x.0, x.1.now)) result (counts_at bytes.now) }
     ensures segments { IfOk result (λ x. IsWithin 1 2000 x.0.segments) }
@@ -129,12 +137,13 @@ fn small_numbers(alloc: Global, numbers: &[u32]) -> Result<Vec<u8>, InputFault>
 {
     let mut small = Vec::new(alloc);
     for number in numbers {
-        small.push(*number as u8).map_err(|_| InputFault::Memory)?;
+        push(&mut small, *number as u8)?;
     }
     Ok(small)
 }
 
 /// What stands before the chains, in a certificate that has none yet, and where these begin.
+#[tactic(auto, unfolding(crate::specs::Reading::head_at))]
 pub(crate) fn head_at(alloc: Global, bytes: &[u8]) -> Result<(Certificate, Spot<'_>), InputFault>
     ensures head { Gives (λ x. (certificate_parts x.0, place_of x.1)) result (head_at bytes.now) }
     ensures segments { IfOk result (λ x. IsWithin 1 2000 x.0.segments) }

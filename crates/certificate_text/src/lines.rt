@@ -7,7 +7,7 @@ ghost use Rattle.frontier_planner.specs.Parts.{CertificateParts};
 ghost use Rattle.certificate_text.specs.Form.{IsCertificate, certificate_parts};
 ghost use Rattle.certificate_text.specs.Reading.{certificate_of};
 ghost use Rattle.certificate_text.specs.Spelling.{spelling};
-ghost use Rattle.certificate_text.specs.Walk.{Steps, Walk, begun, standing};
+ghost use Rattle.certificate_text.specs.Walk.{Steps, Walk, after_fault, begun, standing};
 
 use crate::certificate::{Certificate, Layer};
 use crate::chains::{Spot, chains_at, end_at};
@@ -36,6 +36,7 @@ impl<'a> Model for Lines<'a> {
 
 impl<'a> Lines<'a> {
     /// Reads the lines before the first layer. It is refused exactly where a bad line is among them.
+    #[tactic(auto, unfolding(crate::specs::Walk::begun))]
     pub fn begin(alloc: Global, bytes: &'a [u8]) -> Result<Lines<'a>, InputFault>
         ensures { Gives (λ lines. lines) result (begun bytes.now) }
     {
@@ -53,6 +54,7 @@ impl<'a> Lines<'a> {
     ///
     /// It is refused exactly where the lines that it reads hold the first bad line; then every later call answers
     /// the same. After `Memory` the reader stands where it stood.
+    #[tactic(auto, unfolding(crate::specs::Walk::layer_of))]
     pub fn next_layer(&mut self) -> Result<Option<Layer>, InputFault>
         ensures { Steps self.old result self.new }
     {
@@ -65,16 +67,9 @@ impl<'a> Lines<'a> {
                 Err(fault) => Err(self.keep(fault)),
             };
         }
-        let rungs = self.head.rungs;
-        let number = u32::from(self.segment) * u32::from(rungs);
-        let read = chains_at(
-            self.alloc,
-            self.head.segments,
-            rungs,
-            number,
-            u32::from(rungs),
-            self.spot,
-        );
+        let (segments, rungs) = (u32::from(self.head.segments), u32::from(self.head.rungs));
+        let number = u32::from(self.segment) * rungs;
+        let read = chains_at(self.alloc, segments, rungs, number, rungs, self.spot);
         match read {
             Ok((chains, spot)) => {
                 self.segment += 1;
@@ -86,7 +81,10 @@ impl<'a> Lines<'a> {
     }
 
     /// Keeps a refusal for later calls.
-    fn keep(&mut self, fault: InputFault) -> InputFault {
+    fn keep(&mut self, fault: InputFault) -> InputFault
+        ensures fault { result ≡ fault }
+        ensures after { self.new ≡ after_fault self.old fault }
+    {
         if let InputFault::Refused(refusal) = fault {
             self.refused = Some(refusal);
         }
@@ -137,12 +135,13 @@ impl<'a> Lines<'a> {
 }
 
 /// The certificate that the bytes spell. It is refused exactly where they are no spelling, with the first bad line.
+#[tactic(auto, unfolding(crate::specs::Reading::certificate_of))]
 pub fn read_certificate(alloc: Global, bytes: &[u8]) -> Result<Certificate, InputFault>
     ensures exact { Gives certificate_parts result (certificate_of bytes.now) }
 {
     let (head, spot) = head_at(alloc, bytes)?;
-    let count = u32::from(head.segments) * u32::from(head.rungs);
-    let (chains, spot) = chains_at(alloc, head.segments, head.rungs, 0, count, spot)?;
+    let (segments, rungs) = (u32::from(head.segments), u32::from(head.rungs));
+    let (chains, spot) = chains_at(alloc, segments, rungs, 0, segments * rungs, spot)?;
     end_at(spot)?;
     Ok(Certificate { chains, ..head })
 }

@@ -3,22 +3,23 @@ ghost use Rattle.std.specs.Prelude.{◌≡◌, ◌≤◌, ◌∷◌, ◌++◌, �
 ghost use Rattle.std.specs.Fmt.{decimal, signed_decimal};
 ghost use Rattle.lab_io.specs.Piece.{fields_line, later_fields};
 ghost use Rattle.lab_io.specs.Sink.{Puts};
-ghost use Rattle.lab_model.specs.Film.{rungs_of, segments_of};
+ghost use Rattle.lab_model.specs.Film.{IsWithin, rungs_of, segments_of};
 ghost use Rattle.frontier_planner.specs.Parts.{chain_parts, plan_parts};
 ghost use Rattle.certificate_text.specs.Form.{AreChains, IsCertificate};
-ghost use Rattle.certificate_text.specs.Spelling.{chain_lines, chains_lines, head_lines, label_fields, label_lines, layer_fields, lines_text, spelling, table_lines, version_text};
+ghost use Rattle.certificate_text.specs.Spelling.{chain_lines, chains_lines, head_lines, label_fields, label_numbers, label_lines, layer_fields, lines_text, spelling, table_lines, version_text};
 
+use crate::chains::names_per;
 use frontier_planner::{Chain, Plan};
 use lab_io::Piece::{Number, Word};
 use lab_io::{PutErr, Sink, put_fields, put_line, put_number, put_pieces, put_text};
 use lab_model::{Label, Manifest};
 
 /// A number that isn't the first of its line.
-fn put_later_number<O: Sink>(out: &mut O, n: i128) -> Result<(), PutErr>
-    ensures { Puts (O.seen out.old) (32 ∷ signed_decimal n) (O.seen out.new) result }
+fn put_later_number<O: Sink>(out: &mut O, n: u32) -> Result<(), PutErr>
+    ensures { Puts (O.seen out.old) (32 ∷ decimal n) (O.seen out.new) result }
 {
     put_text(out, " ")?;
-    put_number(out, n)
+    put_number(out, n as i128)
 }
 
 /// The numbers that end a line.
@@ -26,7 +27,7 @@ fn put_numbers<O: Sink>(out: &mut O, numbers: &[u32]) -> Result<(), PutErr>
     ensures { Puts (O.seen out.old) (later_fields (map decimal numbers.now)) (O.seen out.new) result }
 {
     for number in numbers {
-        put_later_number(out, *number as i128)?;
+        put_later_number(out, *number)?;
     }
     put_text(out, "\n")
 }
@@ -36,7 +37,7 @@ fn put_rungs<O: Sink>(out: &mut O, rungs: &[u8]) -> Result<(), PutErr>
     ensures { Puts (O.seen out.old) (later_fields (map decimal rungs.now)) (O.seen out.new) result }
 {
     for rung in rungs {
-        put_later_number(out, *rung as i128)?;
+        put_later_number(out, u32::from(*rung))?;
     }
     put_text(out, "\n")
 }
@@ -68,11 +69,19 @@ fn put_version<O: Sink>(out: &mut O, table: bool) -> Result<(), PutErr>
     }
 }
 
-/// A line of a word and a number.
-fn put_count<O: Sink>(out: &mut O, word: &str, n: i128) -> Result<(), PutErr>
-    ensures { Puts (O.seen out.old) (fields_line (word.now ∷ signed_decimal n ∷ [])) (O.seen out.new) result }
+/// A line of a word and a count.
+fn put_count<O: Sink>(out: &mut O, word: &str, count: u16) -> Result<(), PutErr>
+    ensures { Puts (O.seen out.old) (fields_line (word.now ∷ decimal count ∷ [])) (O.seen out.new) result }
 {
-    put_fields(out, &[Word(word), Number(n)])
+    put_fields(out, &[Word(word), Number(count as i128)])
+}
+
+/// The line of the score.
+fn put_score<O: Sink>(out: &mut O, plan: &Plan) -> Result<(), PutErr>
+    ensures { Puts (O.seen out.old) (fields_line (codes "score" ∷ signed_decimal plan.now.score ∷ []))
+        (O.seen out.new) result }
+{
+    put_fields(out, &[Word("score"), Number(plan.score)])
 }
 
 /// The line of version 2.
@@ -94,8 +103,8 @@ fn put_counts<O: Sink>(out: &mut O, m: &Manifest, table: bool) -> Result<(), Put
         ++ lines_text (table_lines table)))) (O.seen out.new) result }
 {
     put_version(out, table)?;
-    put_count(out, "segments", m.segments() as i128)?;
-    put_count(out, "rungs", m.rungs() as i128)?;
+    put_count(out, "segments", m.segments())?;
+    put_count(out, "rungs", u16::from(m.rungs()))?;
     put_table(out, table)
 }
 
@@ -105,18 +114,32 @@ fn put_head<O: Sink>(out: &mut O, m: &Manifest, plan: &Plan) -> Result<(), PutEr
         (O.seen out.new) result }
 {
     put_counts(out, m, plan.table)?;
-    put_count(out, "score", plan.score)?;
+    put_score(out, plan)?;
     put_plan(out, &plan.rungs)?;
     put_starts(out, &plan.starts)
+}
+
+/// The three numbers of a label.
+fn put_numbers_of_label<O: Sink>(out: &mut O, label: Label) -> Result<(), PutErr>
+    ensures { Puts (O.seen out.old) (label_numbers label) (O.seen out.new) result }
+{
+    put_pieces(
+        out,
+        &[
+            Number(label.t as i128),
+            Word(" "),
+            Number(label.p as i128),
+            Word(" "),
+            Number(label.v as i128),
+        ],
+    )
 }
 
 /// The line of a label.
 fn put_label<O: Sink>(out: &mut O, label: Label, names: &[u32]) -> Result<(), PutErr>
     ensures { Puts (O.seen out.old) (fields_line (label_fields label names.now)) (O.seen out.new) result }
 {
-    put_number(out, label.t as i128)?;
-    put_later_number(out, label.p as i128)?;
-    put_later_number(out, label.v as i128)?;
+    put_numbers_of_label(out, label)?;
     put_numbers(out, names)
 }
 
@@ -168,8 +191,9 @@ fn put_chain<O: Sink>(
     ensures { Puts (O.seen out.old) (lines_text (chain_lines per segment rung (chain_parts chain.now)))
         (O.seen out.new) result }
 {
-    put_layer(out, segment, rung, chain.labels.len())?;
-    put_labels(out, per, &chain.labels, &chain.names)
+    let labels = chain.labels.as_slice();
+    put_layer(out, segment, rung, labels.len())?;
+    put_labels(out, per, labels, &chain.names)
 }
 
 /// The lines of the chains, by segment, then rung.
@@ -179,7 +203,8 @@ fn put_chains<O: Sink>(
     rungs: usize,
     chains: &[Chain],
 ) -> Result<(), PutErr>
-    requires rungs { 1 ≤ rungs }
+    requires rungs { IsWithin 1 16 rungs }
+    requires segments { segments ≤ 2000 }
     requires count { length chains.now ≡ segments * rungs }
     requires chains { AreChains segments rungs 0 (map chain_parts chains.now) }
     ensures { Puts (O.seen out.old) (lines_text (chains_lines segments rungs 0 (map chain_parts chains.now)))
@@ -187,7 +212,7 @@ fn put_chains<O: Sink>(
 {
     for (number, chain) in chains.iter().enumerate() {
         let segment = number / rungs;
-        let per = if segment + 1 == segments { 0 } else { rungs };
+        let per = names_per(segments, rungs, segment);
         put_chain(out, per, segment, number % rungs, chain)?;
     }
     Ok(())

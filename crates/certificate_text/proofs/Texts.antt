@@ -1,0 +1,102 @@
+-- The text of a certificate, part by part, and how the writer's loops go through it.
+use Rattle.std.proofs.Common.{◌≡◌, ◌∙◌, ◌+◌, ◌-◌, ◌*◌, ◌/◌, ◌%◌, ◌<◌, ◌≤◌, ℕ, List, [], ◌∷◌, ◌++◌, Bool, true, false, codes, drop, get_or, length, map, take, refl, sym, ap, subst, suc, add-one, append_assoc, append-nil, drop-cons, arith}
+use Rattle.std.specs.Fmt.{decimal, signed_decimal}
+use Rattle.std.specs.List.{flat_map}
+use Rattle.std.proofs.lemmas.List.{drop_all}
+use Rattle.std.proofs.lemmas.List.Concat.{flat_map-append}
+use Rattle.lab_model.specs.declared.label.Label.{Label}
+use Rattle.lab_io.specs.Sink.{Text}
+use Rattle.lab_io.specs.Piece.{fields_line, later_fields}
+use Rattle.frontier_planner.specs.declared.plan.Chain.{Chain}
+use Rattle.frontier_planner.specs.Parts.{CertificateParts, ChainParts, chain_parts}
+use Rattle.certificate_text.specs.Form.{AreChains, IsChain, names_per}
+use Rattle.certificate_text.specs.Spelling.{chain_lines, chains_lines, end_text, head_lines, label_fields, label_numbers, label_lines, lines_text, spelling, table_lines, version_text}
+
+-- ---- the parts
+
+-- the first lines
+abbrev pub counts_text : Bool → ℕ → ℕ → Text
+counts_text table segments rungs =
+    fields_line (version_text table ∷ [])
+    ++ (fields_line (codes "segments" ∷ decimal segments ∷ [])
+    ++ (fields_line (codes "rungs" ∷ decimal rungs ∷ []) ++ lines_text (table_lines table)))
+
+-- score, rung list and starts
+abbrev pub lists_text : CertificateParts → Text
+lists_text c =
+    fields_line (codes "score" ∷ signed_decimal c.score ∷ [])
+    ++ (fields_line (codes "plan" ∷ map decimal c.plan) ++ fields_line (codes "start" ∷ map decimal c.starts))
+
+pub head_text : (c : CertificateParts) → lines_text (head_lines c) ≡ counts_text c.table c.segments c.rungs ++ lists_text c
+head_text c =
+    let version = fields_line (version_text c.table ∷ []) in
+    let segments = fields_line (codes "segments" ∷ decimal c.segments ∷ []) in
+    let rungs = fields_line (codes "rungs" ∷ decimal c.rungs ∷ []) in
+    let table = lines_text (table_lines c.table) in
+    let later : List (List Text) = (codes "score" ∷ signed_decimal c.score ∷ []) ∷ (codes "plan" ∷ map decimal c.plan) ∷ (codes "start" ∷ map decimal c.starts) ∷ [] in
+    let last : lines_text later ≡ lists_text c = ap (λ (t : Text). fields_line (codes "score" ∷ signed_decimal c.score ∷ []) ++ (fields_line (codes "plan" ∷ map decimal c.plan) ++ t)) (append-nil (fields_line (codes "start" ∷ map decimal c.starts))) in
+    let parted : lines_text (table_lines c.table ++ later) ≡ table ++ lists_text c = flat_map-append fields_line (table_lines c.table) later ∙ ap (λ (t : Text). table ++ t) last in
+    ap (λ (t : Text). version ++ (segments ++ (rungs ++ t))) parted
+    ∙ sym (append_assoc version (segments ++ (rungs ++ table)) (lists_text c)
+    ∙ ap (λ (t : Text). version ++ t) (append_assoc segments (rungs ++ table) (lists_text c) ∙ ap (λ (t : Text). segments ++ t) (append_assoc rungs table (lists_text c))))
+
+pub spelling_parts : (c : CertificateParts) → spelling c ≡ lines_text (head_lines c) ++ (lines_text (chains_lines c.segments c.rungs 0 c.chains) ++ fields_line (end_text ∷ []))
+unfolding spelling
+spelling_parts c =
+    let chains = chains_lines c.segments c.rungs 0 c.chains in
+    let last : List (List Text) = (end_text ∷ []) ∷ [] in
+    flat_map-append fields_line (head_lines c) (chains ++ last)
+    ∙ ap (λ (t : Text). lines_text (head_lines c) ++ t) (flat_map-append fields_line chains last)
+
+-- ---- the loops
+
+pub numbers_from : (ns : List ℕ) (i d : ℕ) → i < length ns → later_fields (map decimal (drop i ns)) ≡ (32 ∷ decimal (get_or ns i d)) ++ later_fields (map decimal (drop (i + 1) ns))
+numbers_from ns i d lt = rw (add-one, drop-cons ns i d) refl
+
+pub numbers_end : (ns : List ℕ) (i : ℕ) → length ns ≤ i → later_fields (map decimal (drop i ns)) ≡ 10 ∷ []
+numbers_end ns i h = rw (drop_all i ns h) refl
+
+pub labels_from : (per : ℕ) (ls : List Label) (names : List ℕ) (i : ℕ) (d : Label) → i < length ls
+    → lines_text (label_lines per (drop i ls) names) ≡ fields_line (label_fields (get_or ls i d) (take per names)) ++ lines_text (label_lines per (drop (i + 1) ls) (drop per names))
+labels_from per ls names i d lt = rw (add-one, drop-cons ls i d) refl
+
+pub labels_end : (per : ℕ) (ls : List Label) (names : List ℕ) (i : ℕ) → length ls ≤ i → lines_text (label_lines per (drop i ls) names) ≡ []
+labels_end per ls names i h = rw (drop_all i ls h) refl
+
+chains_cut : (cs : List Chain) (i : ℕ) (c : Chain) → i < length cs → c ≡ get_or cs i c → drop i cs ≡ c ∷ drop (i + 1) cs
+chains_cut cs i c lt is = rw add-one (drop-cons cs i c lt ∙ ap (λ (d : Chain). d ∷ drop (suc i) cs) (sym is))
+
+pub chains_from : (segments rungs per : ℕ) (cs : List Chain) (i : ℕ) (c : Chain) → i < length cs → c ≡ get_or cs i c → per ≡ names_per segments rungs (i / rungs)
+    → lines_text (chain_lines per (i / rungs) (i % rungs) (chain_parts c)) ++ lines_text (chains_lines segments rungs (i + 1) (map chain_parts (drop (i + 1) cs)))
+    ≡ lines_text (chains_lines segments rungs i (map chain_parts (drop i cs)))
+chains_from segments rungs per cs i c lt is e =
+    let later = chains_lines segments rungs (i + 1) (map chain_parts (drop (i + 1) cs)) in
+    let cut : chain_parts c ∷ map chain_parts (drop (i + 1) cs) ≡ map chain_parts (drop i cs) = sym (ap (map chain_parts) (chains_cut cs i c lt is)) in
+    ap (λ (n : ℕ). lines_text (chain_lines n (i / rungs) (i % rungs) (chain_parts c)) ++ lines_text later) e
+    ∙ sym (flat_map-append fields_line (chain_lines (names_per segments rungs (i / rungs)) (i / rungs) (i % rungs) (chain_parts c)) later)
+    ∙ ap (λ (rest : List ChainParts). lines_text (chains_lines segments rungs i rest)) cut
+
+pub chains_end : (segments rungs : ℕ) (cs : List Chain) (i : ℕ) → length cs ≤ i → lines_text (chains_lines segments rungs i (map chain_parts (drop i cs))) ≡ []
+chains_end segments rungs cs i h = rw (drop_all i cs h) refl
+
+-- the form of the chain at a place, and of those behind it
+pub chains_form : (segments rungs : ℕ) (cs : List Chain) (i : ℕ) (c : Chain) → i < length cs → c ≡ get_or cs i c → AreChains segments rungs i (map chain_parts (drop i cs))
+    → IsChain (names_per segments rungs (i / rungs)) (chain_parts c) × AreChains segments rungs (i + 1) (map chain_parts (drop (i + 1) cs))
+chains_form segments rungs cs i c lt is form =
+    subst (λ (rest : List ChainParts). AreChains segments rungs i rest) (ap (map chain_parts) (chains_cut cs i c lt is)) form
+
+-- ---- a label
+
+pub label_text : (l : Label) (names : List ℕ) → label_numbers l ++ later_fields (map decimal names) ≡ fields_line (label_fields l names)
+label_text l names =
+    let later = later_fields (map decimal names) in
+    append_assoc (decimal l.t) (32 ∷ (decimal l.p ++ (32 ∷ (signed_decimal l.v ++ [])))) later
+    ∙ ap (λ (t : Text). decimal l.t ++ 32 ∷ t) (append_assoc (decimal l.p) (32 ∷ (signed_decimal l.v ++ [])) later)
+    ∙ ap (λ (t : Text). decimal l.t ++ 32 ∷ (decimal l.p ++ 32 ∷ (t ++ later))) (append-nil (signed_decimal l.v))
+
+-- how many names are left for the labels that are left
+pub names_left : (labels i per names : ℕ) → i < labels → names ≡ (labels - i) * per → (per ≤ names) × (names ≡ (labels - (i + 1)) * per + per)
+names_left labels i per names lt e =
+    let k : labels - i ≡ (labels - (i + 1)) + 1 = omega arith in
+    let m : names ≡ (labels - (i + 1)) * per + per = e ∙ ap (λ (n : ℕ). n * per) k ∙ omega arith in
+    (omega (arith, m), m)
