@@ -75,11 +75,11 @@ label_takes row per bytes x h =
       own = ns.0.0;
       alone = refl;
       text = first.0
-        ∙ ap (λ (w : Text). decimal t.0.0 ++ 32 ∷ w) (second.0
-        ∙ ap (λ (w : Text). decimal p.0.0 ++ 32 ∷ w) (third.0
-        ∙ ap (λ (w : Text). signed_decimal v.0.0 ++ stop_before per ∷ w) (ap (λ (y : Label × Text). y.1) made_is ∙ names.text)
-        ∙ ap (λ (k : ℕ). signed_decimal v.0.0 ++ stop_before k ∷ (numbers_text ns.0.0 ++ ns.0.1)) (sym names.count_is)))
-        ∙ sym (label_line made ns.0.0 ns.0.1);
+          ∙ ap (λ (w : Text). decimal t.0.0 ++ 32 ∷ w) (second.0
+          ∙ ap (λ (w : Text). decimal p.0.0 ++ 32 ∷ w) (third.0
+          ∙ ap (λ (w : Text). signed_decimal v.0.0 ++ stop_before per ∷ w) (ap (λ (y : Label × Text). y.1) made_is ∙ names.text)
+          ∙ ap (λ (k : ℕ). signed_decimal v.0.0 ++ stop_before k ∷ (numbers_text ns.0.0 ++ ns.0.1)) (sym names.count_is)))
+          ∙ sym (label_line made ns.0.0 ns.0.1);
       spelled = record { t = first.1; p = second.1; v = third.1 };
       count_is = names.count_is;
       digits_are = names.digits_are;
@@ -89,12 +89,15 @@ label_again : (row per : ℕ) (l : Label) (names : List ℕ) (rest : Text) → l
 unfolding label_at numbers_of_label_at
 label_again row per l names rest e s digits =
     let text : fields_line (label_fields l names) ++ rest ≡ decimal l.t ++ 32 ∷ (decimal l.p ++ 32 ∷ (signed_decimal l.v ++ stop_before per ∷ (numbers_text names ++ rest))) =
-        label_line l names rest ∙ ap (λ (k : ℕ). decimal l.t ++ 32 ∷ (decimal l.p ++ 32 ∷ (signed_decimal l.v ++ stop_before k ∷ (numbers_text names ++ rest)))) e in
+    label_line l names rest ∙ ap (λ (k : ℕ). decimal l.t ++ 32 ∷ (decimal l.p ++ 32 ∷ (signed_decimal l.v ++ stop_before k ∷ (numbers_text names ++ rest)))) e in
     let last : numbers_at row 7 per (numbers_text names ++ rest) ≡ Ok (names, rest) = subst (λ (k : ℕ). numbers_at row 7 k (numbers_text names ++ rest) ≡ Ok (names, rest)) e (numbers_again row 7 names rest (lit≤ tt) (lit≤ tt) digits) in
     ap (label_at row per) text
-    ∙ rw (number_again row 18 32 l.t (decimal l.p ++ 32 ∷ (signed_decimal l.v ++ stop_before per ∷ (numbers_text names ++ rest))) (lit≤ tt) (lit≤ tt) (lit≤ tt) s.t,
+    ∙ rw (
+      number_again row 18 32 l.t (decimal l.p ++ 32 ∷ (signed_decimal l.v ++ stop_before per ∷ (numbers_text names ++ rest))) (lit≤ tt) (lit≤ tt) (lit≤ tt) s.t,
       number_again row 18 32 l.p (signed_decimal l.v ++ stop_before per ∷ (numbers_text names ++ rest)) (lit≤ tt) (lit≤ tt) (lit≤ tt) s.p,
-      signed_again row 18 (stop_before per) l.v (numbers_text names ++ rest) (lit≤ tt) (lit≤ tt) (stop_low per) s.v, last) refl
+      signed_again row 18 (stop_before per) l.v (numbers_text names ++ rest) (lit≤ tt) (lit≤ tt) (stop_low per) s.v,
+      last,
+    ) refl
 
 -- ---- labels
 
@@ -122,8 +125,8 @@ labels_take row per (suc more) bytes x h =
     let whole : (joined (one_label t.label t.own) others.0.0, others.0.1) ≡ x = ap (λ (c : ChainParts). (joined c others.0.0, others.0.1)) (sym t.alone) ∙ ok_is (joined one.0.0 others.0.0, others.0.1) x others.2 in
     subst (λ (y : ChainParts × Text). TakesLabels per (suc more) bytes y) whole (record {
       text = t.text ∙ ap (λ (w : Text). fields_line (label_fields t.label t.own) ++ w) ts.text
-        ∙ sym (append_assoc (fields_line (label_fields t.label t.own)) (lines_text (label_lines per others.0.0.labels others.0.0.names)) others.0.1)
-        ∙ ap (λ (w : Text). w ++ others.0.1) (sym (lines_joined per t.label others.0.0.labels t.own others.0.0.names t.count_is));
+          ∙ sym (append_assoc (fields_line (label_fields t.label t.own)) (lines_text (label_lines per others.0.0.labels others.0.0.names)) others.0.1)
+          ∙ ap (λ (w : Text). w ++ others.0.1) (sym (lines_joined per t.label others.0.0.labels t.own others.0.0.names t.count_is));
       count_is = ap suc ts.count_is;
       chain = record {
         labels = All-cons IsSpelled t.label others.0.0.labels t.spelled ts.chain.labels;
@@ -183,9 +186,10 @@ layer_takes row segment rung left bytes x h =
     let ta = known_takes row segment 32 w.0 a.0 a.1 in
     let tb = known_takes row rung 32 a.0 b.0 b.1 in
     let tn = number_takes row 7 10 b.0 n.0 (lit≤ tt) n.1 in
-    subst (λ (y : ℕ × Text). (bytes ≡ fields_line (layer_fields segment rung y.0) ++ y.1) × (y.0 ≤ left)) p.1
-    (tw ∙ ap (λ (t : Text). codes "layer" ++ 32 ∷ t) (ta ∙ ap (λ (t : Text). decimal segment ++ 32 ∷ t) (tb ∙ ap (λ (t : Text). decimal rung ++ 32 ∷ t) tn.0)) ∙ sym (layer_line segment rung n.0.0 n.0.1),
-    grind (arith, nat_tests, p.0))
+    subst (λ (y : ℕ × Text). (bytes ≡ fields_line (layer_fields segment rung y.0) ++ y.1) × (y.0 ≤ left)) p.1 (
+      tw ∙ ap (λ (t : Text). codes "layer" ++ 32 ∷ t) (ta ∙ ap (λ (t : Text). decimal segment ++ 32 ∷ t) (tb ∙ ap (λ (t : Text). decimal rung ++ 32 ∷ t) tn.0)) ∙ sym (layer_line segment rung n.0.0 n.0.1),
+      grind (arith, nat_tests, p.0),
+    )
 
 layer_again : (row segment rung left count : ℕ) (rest : Text) → HasDigits 7 segment → HasDigits 7 rung → HasDigits 7 count → count ≤ left
     → layer_at row segment rung left (fields_line (layer_fields segment rung count) ++ rest) ≡ Ok (count, rest)
@@ -193,10 +197,13 @@ unfolding layer_at
 layer_again row segment rung left count rest a b n le =
     let test : nat_le count left ≡ true = grind (arith, nat_tests) in
     ap (layer_at row segment rung left) (layer_line segment rung count rest)
-    ∙ rw (word_again row (codes "layer") 32 (decimal segment ++ 32 ∷ (decimal rung ++ 32 ∷ (decimal count ++ 10 ∷ rest))) refl,
+    ∙ rw (
+      word_again row (codes "layer") 32 (decimal segment ++ 32 ∷ (decimal rung ++ 32 ∷ (decimal count ++ 10 ∷ rest))) refl,
       known_again row segment 32 (decimal rung ++ 32 ∷ (decimal count ++ 10 ∷ rest)) (lit≤ tt) a,
       known_again row rung 32 (decimal count ++ 10 ∷ rest) (lit≤ tt) b,
-      number_again row 7 10 count rest (lit≤ tt) (lit≤ tt) (lit≤ tt) n, test) refl
+      number_again row 7 10 count rest (lit≤ tt) (lit≤ tt) (lit≤ tt) n,
+      test,
+    ) refl
 
 -- what was read as a chain
 record TakesChain (per segment rung : ℕ) (p : Place) (x : ChainParts × Place) : Type 0 where
@@ -213,8 +220,8 @@ chain_takes per segment rung p x h =
     let tc = labels_take (p.row + 1) per n.0.0 n.0.1 c.0 c.1 in
     subst (λ (y : ChainParts × Place). TakesChain per segment rung p y) (ok_is (c.0.0, place (p.row + 1 + n.0.0) (p.left - n.0.0) c.0.1) x c.2) (record {
       text = tn.0 ∙ ap (λ (t : Text). fields_line (layer_fields segment rung n.0.0) ++ t) tc.text
-        ∙ sym (append_assoc (fields_line (layer_fields segment rung n.0.0)) (lines_text (label_lines per c.0.0.labels c.0.0.names)) c.0.1)
-        ∙ ap (λ (k : ℕ). (fields_line (layer_fields segment rung k) ++ lines_text (label_lines per c.0.0.labels c.0.0.names)) ++ c.0.1) (sym tc.count_is);
+          ∙ sym (append_assoc (fields_line (layer_fields segment rung n.0.0)) (lines_text (label_lines per c.0.0.labels c.0.0.names)) c.0.1)
+          ∙ ap (λ (k : ℕ). (fields_line (layer_fields segment rung k) ++ lines_text (label_lines per c.0.0.labels c.0.0.names)) ++ c.0.1) (sym tc.count_is);
       chain = tc.chain;
       left = omega (arith, tn.1, tc.count_is);
     })
@@ -224,9 +231,9 @@ chain_again : (per segment rung : ℕ) (c : ChainParts) (p : Place) (rest : Text
 unfolding chain_at
 chain_again per segment rung c p rest e form a b le most =
     let text : p.rest ≡ fields_line (layer_fields segment rung (length c.labels)) ++ (lines_text (label_lines per c.labels c.names) ++ rest) =
-        e ∙ append_assoc (fields_line (layer_fields segment rung (length c.labels))) (lines_text (label_lines per c.labels c.names)) rest in
+    e ∙ append_assoc (fields_line (layer_fields segment rung (length c.labels))) (lines_text (label_lines per c.labels c.names)) rest in
     let first : layer_at p.row segment rung p.left p.rest ≡ Ok (length c.labels, lines_text (label_lines per c.labels c.names) ++ rest) =
-        ap (layer_at p.row segment rung p.left) text ∙ layer_again p.row segment rung p.left (length c.labels) (lines_text (label_lines per c.labels c.names) ++ rest) a b (omega arith) le in
+    ap (layer_at p.row segment rung p.left) text ∙ layer_again p.row segment rung p.left (length c.labels) (lines_text (label_lines per c.labels c.names) ++ rest) a b (omega arith) le in
     rw (first, labels_again (p.row + 1) per c.labels c.names rest form.labels form.whole form.names) refl
 
 -- ---- chains
@@ -250,8 +257,8 @@ chains_take segments rungs number (suc more) p x h =
     let ts = chains_take segments rungs (number + 1) more one.0.1 others.0 others.1 in
     subst (λ (y : List ChainParts × Place). TakesChains segments rungs number (suc more) p y) (ok_is (one.0.0 ∷ others.0.0, others.0.1) x others.2) (record {
       text = t.text ∙ ap (λ (w : Text). lines_text (own one.0.0) ++ w) ts.text
-        ∙ sym (append_assoc (lines_text (own one.0.0)) (lines_text (chains_lines segments rungs (number + 1) others.0.0)) others.0.1.rest)
-        ∙ ap (λ (w : Text). w ++ others.0.1.rest) (sym (flat_map-append fields_line (own one.0.0) (chains_lines segments rungs (number + 1) others.0.0)));
+          ∙ sym (append_assoc (lines_text (own one.0.0)) (lines_text (chains_lines segments rungs (number + 1) others.0.0)) others.0.1.rest)
+          ∙ ap (λ (w : Text). w ++ others.0.1.rest) (sym (flat_map-append fields_line (own one.0.0) (chains_lines segments rungs (number + 1) others.0.0)));
       count_is = ap suc ts.count_is;
       chains = (t.chain, ts.chains);
       left = omega (arith, t.left, ts.left);
@@ -265,9 +272,9 @@ chains_again segments rungs number (c ∷ cs) p rest one few far e form fits mos
     let own = chain_lines (names_per segments rungs (number / rungs)) (number / rungs) (number % rungs) c in
     let later = lines_text (chains_lines segments rungs (number + 1) cs) ++ rest in
     let text : p.rest ≡ lines_text own ++ later =
-        e ∙ ap (λ (w : Text). w ++ rest) (flat_map-append fields_line own (chains_lines segments rungs (number + 1) cs)) ∙ append_assoc (lines_text own) (lines_text (chains_lines segments rungs (number + 1) cs)) rest in
+    e ∙ ap (λ (w : Text). w ++ rest) (flat_map-append fields_line own (chains_lines segments rungs (number + 1) cs)) ∙ append_assoc (lines_text own) (lines_text (chains_lines segments rungs (number + 1) cs)) rest in
     let first = chain_again (names_per segments rungs (number / rungs)) (number / rungs) (number % rungs) c p later text form.0
-        (small_quotient number rungs (omega (arith, far))) (small_rest number rungs one few) (omega (arith, fits)) most in
+    (small_quotient number rungs (omega (arith, far))) (small_rest number rungs one few) (omega (arith, fits)) most in
     let others = chains_again segments rungs (number + 1) cs (place (p.row + 1 + length c.labels) (p.left - length c.labels) later) rest one few (omega (arith, far)) refl form.1 (omega (arith, fits)) (omega (arith, most)) in
     (others.0, rw (first, others.1) refl, others.2)
   where

@@ -6,11 +6,15 @@ use Rattle.std.specs.Str.{bytes_eq}
 use Rattle.std.proofs.lemmas.Bool.{and_parts}
 use Rattle.std.proofs.lemmas.Bool.Decides.{nat_tests}
 use Rattle.lab_model.specs.declared.fault.Refusal.{Refusal}
+use Rattle.std.specs.Prelude.{IfOk}
+use Rattle.lab_model.specs.declared.fault.InputFault.{InputFault}
+use Rattle.lab_model.specs.Reading.{Gives}
 use Rattle.lab_model.specs.Film.{IsWithin}
 use Rattle.lab_io.specs.Sink.{Text}
 use Rattle.lab_io.specs.Piece.{fields_line, later_fields}
 use Rattle.frontier_planner.specs.Parts.{CertificateParts}
-use Rattle.certificate_text.specs.Form.{HasDigits, HasSignedDigits, IsCertificate, IsHead}
+use Rattle.certificate_text.specs.declared.certificate.Certificate.{Certificate}
+use Rattle.certificate_text.specs.Form.{HasDigits, HasSignedDigits, IsCertificate, IsHead, certificate_parts}
 use Rattle.certificate_text.specs.Fields.{◌>>=◌, field_at, number_at, numbers_at, passed, signed_at, stop_before, word_at}
 use Rattle.certificate_text.specs.Reading.{Counts, Place, certificate_of, chains_at, count_at, counts_at, end_at, head_at, list_at, nothing_at, score_at, score_row, table_at, version_at, version_of}
 use Rattle.certificate_text.specs.Spelling.{chains_lines, end_text, head_lines, lines_text, spelling, table_lines, table_text, version_text}
@@ -164,9 +168,9 @@ counts_take bytes x h =
     let tb = table_takes 4 v.0.0 r.0.1 t.0 t.1 in
     subst (λ (y : Counts × Text). TakesCounts bytes y) (ok_is (counts v.0.0 n.0.0 r.0.0, t.0) x t.2) (record {
       text = tv ∙ ap (λ (w : Text). version_text v.0.0 ++ 10 ∷ w) (tn.0
-        ∙ ap (λ (w : Text). fields_line (codes "segments" ∷ decimal n.0.0 ∷ []) ++ w) (tr.0
-        ∙ ap (λ (w : Text). fields_line (codes "rungs" ∷ decimal r.0.0 ∷ []) ++ w) tb))
-        ∙ sym (counts_line v.0.0 n.0.0 r.0.0 t.0);
+          ∙ ap (λ (w : Text). fields_line (codes "segments" ∷ decimal n.0.0 ∷ []) ++ w) (tr.0
+          ∙ ap (λ (w : Text). fields_line (codes "rungs" ∷ decimal r.0.0 ∷ []) ++ w) tb))
+          ∙ sym (counts_line v.0.0 n.0.0 r.0.0 t.0);
       segments = tn.1;
       rungs = tr.1;
     })
@@ -175,10 +179,12 @@ counts_again : (t : Bool) (n r : ℕ) (rest : Text) → IsWithin 1 2000 n → Is
 unfolding counts_at
 counts_again t n r rest a b =
     ap counts_at (counts_line t n r rest)
-    ∙ rw (version_again 1 t (fields_line (codes "segments" ∷ decimal n ∷ []) ++ (fields_line (codes "rungs" ∷ decimal r ∷ []) ++ (lines_text (table_lines t) ++ rest))),
+    ∙ rw (
+      version_again 1 t (fields_line (codes "segments" ∷ decimal n ∷ []) ++ (fields_line (codes "rungs" ∷ decimal r ∷ []) ++ (lines_text (table_lines t) ++ rest))),
       count_again 2 (codes "segments") 2000 n (fields_line (codes "rungs" ∷ decimal r ∷ []) ++ (lines_text (table_lines t) ++ rest)) refl (lit≤ tt) a,
       count_again 3 (codes "rungs") 16 r (lines_text (table_lines t) ++ rest) refl (lit≤ tt) b,
-      table_again 4 t rest) refl
+      table_again 4 t rest,
+    ) refl
 
 -- ---- the head
 
@@ -223,10 +229,10 @@ head_takes bytes x h =
     let c = made_head k.0.0 z.0.0 p.0.0 s.0.0 in
     subst (λ (y : CertificateParts × Place). TakesHead bytes y) (ok_is (c, first_place k.0.0.table s.0.1) x s.2) (record {
       text = tk.text ∙ ap (λ (w : Text). counts_text k.0.0.table k.0.0.segments k.0.0.rungs ++ w) (tz.0
-        ∙ ap (λ (w : Text). fields_line (codes "score" ∷ signed_decimal z.0.0 ∷ []) ++ w) (tp.0
-        ∙ ap (λ (w : Text). fields_line (codes "plan" ∷ map decimal p.0.0) ++ w) ts.0)
-        ∙ sym (lists_line c s.0.1))
-        ∙ sym (head_line c s.0.1);
+          ∙ ap (λ (w : Text). fields_line (codes "score" ∷ signed_decimal z.0.0 ∷ []) ++ w) (tp.0
+          ∙ ap (λ (w : Text). fields_line (codes "plan" ∷ map decimal p.0.0) ++ w) ts.0)
+          ∙ sym (lists_line c s.0.1))
+          ∙ sym (head_line c s.0.1);
       head = record { segments = tk.segments; rungs = tk.rungs; score = tz.1; plan_length = tp.1; plan = tp.2; starts_length = ts.1; starts = ts.2 };
       left = refl;
     })
@@ -235,10 +241,13 @@ pub head_again : (c : CertificateParts) (rest : Text) → IsHead c → head_at (
 unfolding head_at
 head_again c rest form =
     ap head_at (head_line c rest)
-    ∙ rw (counts_again c.table c.segments c.rungs (lists_text c ++ rest) form.segments form.rungs, lists_line c rest,
+    ∙ rw (
+      counts_again c.table c.segments c.rungs (lists_text c ++ rest) form.segments form.rungs,
+      lists_line c rest,
       score_again (score_row c.table) c.score (fields_line (codes "plan" ∷ map decimal c.plan) ++ (fields_line (codes "start" ∷ map decimal c.starts) ++ rest)) form.score,
       list_again (score_row c.table + 1) (codes "plan") 2 c.segments c.plan (fields_line (codes "start" ∷ map decimal c.starts) ++ rest) refl (lit≤ tt) (lit≤ tt) form.segments.0 form.plan_length form.plan,
-      list_again (score_row c.table + 2) (codes "start") 7 c.rungs c.starts rest refl (lit≤ tt) (lit≤ tt) form.rungs.0 form.starts_length form.starts) refl
+      list_again (score_row c.table + 2) (codes "start") 7 c.rungs c.starts rest refl (lit≤ tt) (lit≤ tt) form.rungs.0 form.starts_length form.starts,
+    ) refl
 
 -- ---- the end
 
@@ -270,13 +279,14 @@ certificate_takes bytes c h =
     let td = end_takes b.0.1 d.0 d.1 in
     let made : CertificateParts = record a.0.0 { chains = b.0.0 } in
     subst (λ (y : CertificateParts). IsCertificate y × (bytes ≡ spelling y)) (ok_is made c d.2) (
-    record {
-      head = record { segments = ta.head.segments; rungs = ta.head.rungs; score = ta.head.score; plan_length = ta.head.plan_length; plan = ta.head.plan; starts_length = ta.head.starts_length; starts = ta.head.starts };
-      count = tb.count_is;
-      chains = tb.chains;
-      labels = omega (arith, tb.left, ta.left);
-    },
-    ta.text ∙ ap (λ (w : Text). lines_text (head_lines a.0.0) ++ w) (tb.text ∙ ap (λ (w : Text). lines_text (chains_lines a.0.0.segments a.0.0.rungs 0 b.0.0) ++ w) td) ∙ sym (spelling_parts made))
+      record {
+        head = record { segments = ta.head.segments; rungs = ta.head.rungs; score = ta.head.score; plan_length = ta.head.plan_length; plan = ta.head.plan; starts_length = ta.head.starts_length; starts = ta.head.starts };
+        count = tb.count_is;
+        chains = tb.chains;
+        labels = omega (arith, tb.left, ta.left);
+      },
+      ta.text ∙ ap (λ (w : Text). lines_text (head_lines a.0.0) ++ w) (tb.text ∙ ap (λ (w : Text). lines_text (chains_lines a.0.0.segments a.0.0.rungs 0 b.0.0) ++ w) td) ∙ sym (spelling_parts made),
+    )
 
 -- what is of the form is read from its spelling
 pub certificate_again : (c : CertificateParts) → IsCertificate c → certificate_of (spelling c) ≡ Ok c
@@ -293,5 +303,11 @@ certificate_again c form =
     at_most n r a b = grind (arith, a, b)
 
 -- certificates of the form with equal spellings are equal
-pub one_spelling : (c d : CertificateParts) → IsCertificate c → IsCertificate d → spelling c ≡ spelling d → c ≡ d
-one_spelling c d form other e = ok_is c d (sym (certificate_again c form) ∙ ap certificate_of e ∙ certificate_again d other)
+pub same_spelling : (c d : CertificateParts) → IsCertificate c → IsCertificate d → spelling c ≡ spelling d → c ≡ d
+same_spelling c d form other e = ok_is c d (sym (certificate_again c form) ∙ ap certificate_of e ∙ certificate_again d other)
+
+-- the same of what a call gave
+pub is_found : (bytes : Text) (answer : Result Certificate InputFault) → Gives certificate_parts answer (certificate_of bytes)
+    → IfOk answer (λ c. IsCertificate (certificate_parts c) × (bytes ≡ spelling (certificate_parts c)))
+is_found bytes (Ok c) h = certificate_takes bytes (certificate_parts c) h
+is_found bytes (Err fault) h = tt

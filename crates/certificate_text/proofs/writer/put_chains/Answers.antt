@@ -8,10 +8,10 @@ use Rattle.certificate_text.proofs.writer.put_chains.Goals as goal
 pub loop-number-preserved : goal.loop-number-preserved
 loop-number-preserved g c = record {
   puts = λ end answer h.
-    c.loop-number.invariant.puts end answer
-    (puts_as _ _ _ _ _ (chains_from c.args.segments c.args.rungs c.names_per-per.result c.args.chains.now c.loop-number.number c.index-chains-number.result c.loop-number-test.true c.index-chains-number.is c.names_per-per.ensures)
-    (puts_more _ _ _ (lines_text (chain_lines c.names_per-per.result (c.loop-number.number / c.args.rungs) (c.loop-number.number % c.args.rungs) (chain_parts c.index-chains-number.result)))
-    (lines_text (chains_lines c.args.segments c.args.rungs (c.loop-number.number + 1) (map chain_parts (drop (c.loop-number.number + 1) c.args.chains.now)))) _ _ _ c.in_ok-put_chain.was c.put_chain.ensures h));
+      c.loop-number.invariant.puts end answer
+      (puts_as _ _ _ _ _ (chains_from c.args.segments c.args.rungs c.names_per-per.result c.args.chains.now c.loop-number.number c.index-chains-number.result c.loop-number-test.true c.index-chains-number.is c.names_per-per.ensures)
+      (puts_more _ _ _ (lines_text (chain_lines c.names_per-per.result (c.loop-number.number / c.args.rungs) (c.loop-number.number % c.args.rungs) (chain_parts c.index-chains-number.result)))
+      (lines_text (chains_lines c.args.segments c.args.rungs (c.loop-number.number + 1) (map chain_parts (drop (c.loop-number.number + 1) c.args.chains.now)))) _ _ _ c.in_ok-put_chain.was c.put_chain.ensures h));
   form = (chains_form c.args.segments c.args.rungs c.args.chains.now c.loop-number.number c.index-chains-number.result c.loop-number-test.true c.index-chains-number.is c.loop-number.invariant.form).1;
 }
 
