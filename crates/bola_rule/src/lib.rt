@@ -96,7 +96,8 @@ impl Bola {
         requires setup { SetupFits set.now m.now }
         requires segment { c.now.next < segments_of m.now }
         requires level { c.now.level ≤ set.now.buffer_ms - m.now.seg_ms }
-        ensures value { result ≡ find (bola_is_best self.now m.now set.now c.now) (rungs_below (rungs_of m.now)) }
+        ensures value { result ≡
+            find (bola_is_best self.now m.now set.now c.now) (rungs_below (rungs_of m.now)) }
         ensures film { IsFilm m.now }
     {
         (0..m.rungs()).find(|rung| self.is_best(m, set, c, *rung))

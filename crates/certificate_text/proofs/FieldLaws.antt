@@ -58,7 +58,8 @@ free_at stop (b ∷ bs) (suc k) h lt = free_at stop bs k (and_parts (not (b == s
 same_byte : (n : ℕ) → (n == n) ≡ true
 same_byte n = grind (arith, nat_tests)
 
-field_takes : (row stop : ℕ) (bytes : Text) (x : Text × Text) → field_at row stop bytes ≡ Ok x → bytes ≡ x.0 ++ stop ∷ x.1
+-- what stands before and behind the byte that ends a field
+pub field_takes : (row stop : ℕ) (bytes : Text) (x : Text × Text) → field_at row stop bytes ≡ Ok x → bytes ≡ x.0 ++ stop ∷ x.1
 field_takes row stop bytes x h = go (position (λ b. b == stop) bytes) refl h
   where
     go : (o : Option ℕ) → position (λ b. b == stop) bytes ≡ o → parted row bytes o ≡ Ok x → bytes ≡ x.0 ++ stop ∷ x.1

@@ -2,3 +2,5 @@ pub mod Values
 pub mod Loops
 pub mod FieldLaws
 pub mod Texts
+pub mod CertificateLaws
+pub mod HeadLaws

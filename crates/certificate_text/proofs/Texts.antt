@@ -1,5 +1,5 @@
 -- The text of a certificate, part by part, and how the writer's loops go through it.
-use Rattle.std.proofs.Common.{◌≡◌, ◌∙◌, ◌+◌, ◌-◌, ◌*◌, ◌/◌, ◌%◌, ◌<◌, ◌≤◌, ℕ, List, [], ◌∷◌, ◌++◌, Bool, true, false, codes, drop, get_or, length, map, take, refl, sym, ap, add-one, append_assoc, append-nil, drop-cons, arith}
+use Rattle.std.proofs.Common.{◌≡◌, ◌∙◌, ◌+◌, ◌-◌, ◌*◌, ◌/◌, ◌%◌, ◌<◌, ◌≤◌, ℕ, List, [], ◌∷◌, ◌++◌, Bool, true, false, codes, drop, get_or, length, map, take, refl, sym, ap, subst, suc, add-one, append_assoc, append-nil, drop-cons, arith}
 use Rattle.std.specs.Fmt.{decimal, signed_decimal}
 use Rattle.std.specs.List.{flat_map}
 use Rattle.std.proofs.lemmas.List.{drop_all}
@@ -7,7 +7,7 @@ use Rattle.std.proofs.lemmas.List.Concat.{flat_map-append}
 use Rattle.lab_model.specs.declared.label.Label.{Label}
 use Rattle.lab_io.specs.Sink.{Text}
 use Rattle.lab_io.specs.Piece.{fields_line, later_fields}
-use Rattle.frontier_planner.specs.declared.plan.Chain.{Chain}
+use Rattle.frontier_planner.specs.declared.plans.Chain.{Chain}
 use Rattle.frontier_planner.specs.Parts.{CertificateParts, ChainParts, chain_parts}
 use Rattle.certificate_text.specs.Form.{AreChains, IsChain, names_per}
 use Rattle.certificate_text.specs.Spelling.{chain_lines, chains_lines, end_text, head_lines, label_fields, label_numbers, label_lines, lines_text, spelling, table_lines, version_text}
@@ -63,23 +63,27 @@ labels_from per ls names i d lt = rw (add-one, drop-cons ls i d) refl
 pub labels_end : (per : ℕ) (ls : List Label) (names : List ℕ) (i : ℕ) → length ls ≤ i → lines_text (label_lines per (drop i ls) names) ≡ []
 labels_end per ls names i h = rw (drop_all i ls h) refl
 
-pub chains_from : (segments rungs : ℕ) (cs : List Chain) (i : ℕ) (d : Chain) → i < length cs
-    → lines_text (chains_lines segments rungs i (map chain_parts (drop i cs)))
-    ≡ lines_text (chain_lines (names_per segments rungs (i / rungs)) (i / rungs) (i % rungs) (chain_parts (get_or cs i d))) ++ lines_text (chains_lines segments rungs (i + 1) (map chain_parts (drop (i + 1) cs)))
-chains_from segments rungs cs i d lt =
-    let own = chain_lines (names_per segments rungs (i / rungs)) (i / rungs) (i % rungs) (chain_parts (get_or cs i d)) in
-    let cut : map chain_parts (drop i cs) ≡ chain_parts (get_or cs i d) ∷ map chain_parts (drop (i + 1) cs) = rw (add-one, drop-cons cs i d) refl in
-    ap (λ (rest : List ChainParts). lines_text (chains_lines segments rungs i rest)) cut ∙ flat_map-append fields_line own (chains_lines segments rungs (i + 1) (map chain_parts (drop (i + 1) cs)))
+chains_cut : (cs : List Chain) (i : ℕ) (c : Chain) → i < length cs → c ≡ get_or cs i c → drop i cs ≡ c ∷ drop (i + 1) cs
+chains_cut cs i c lt is = rw add-one (drop-cons cs i c lt ∙ ap (λ (d : Chain). d ∷ drop (suc i) cs) (sym is))
+
+pub chains_from : (segments rungs per : ℕ) (cs : List Chain) (i : ℕ) (c : Chain) → i < length cs → c ≡ get_or cs i c → per ≡ names_per segments rungs (i / rungs)
+    → lines_text (chain_lines per (i / rungs) (i % rungs) (chain_parts c)) ++ lines_text (chains_lines segments rungs (i + 1) (map chain_parts (drop (i + 1) cs)))
+    ≡ lines_text (chains_lines segments rungs i (map chain_parts (drop i cs)))
+chains_from segments rungs per cs i c lt is e =
+    let later = chains_lines segments rungs (i + 1) (map chain_parts (drop (i + 1) cs)) in
+    let cut : chain_parts c ∷ map chain_parts (drop (i + 1) cs) ≡ map chain_parts (drop i cs) = sym (ap (map chain_parts) (chains_cut cs i c lt is)) in
+    ap (λ (n : ℕ). lines_text (chain_lines n (i / rungs) (i % rungs) (chain_parts c)) ++ lines_text later) e
+    ∙ sym (flat_map-append fields_line (chain_lines (names_per segments rungs (i / rungs)) (i / rungs) (i % rungs) (chain_parts c)) later)
+    ∙ ap (λ (rest : List ChainParts). lines_text (chains_lines segments rungs i rest)) cut
 
 pub chains_end : (segments rungs : ℕ) (cs : List Chain) (i : ℕ) → length cs ≤ i → lines_text (chains_lines segments rungs i (map chain_parts (drop i cs))) ≡ []
 chains_end segments rungs cs i h = rw (drop_all i cs h) refl
 
 -- the form of the chain at a place, and of those behind it
-pub chains_form : (segments rungs : ℕ) (cs : List Chain) (i : ℕ) (d : Chain) → i < length cs → AreChains segments rungs i (map chain_parts (drop i cs))
-    → IsChain (names_per segments rungs (i / rungs)) (chain_parts (get_or cs i d)) × AreChains segments rungs (i + 1) (map chain_parts (drop (i + 1) cs))
-chains_form segments rungs cs i d lt form =
-    let cut : map chain_parts (drop i cs) ≡ chain_parts (get_or cs i d) ∷ map chain_parts (drop (i + 1) cs) = rw (add-one, drop-cons cs i d) refl in
-    rw cut at form
+pub chains_form : (segments rungs : ℕ) (cs : List Chain) (i : ℕ) (c : Chain) → i < length cs → c ≡ get_or cs i c → AreChains segments rungs i (map chain_parts (drop i cs))
+    → IsChain (names_per segments rungs (i / rungs)) (chain_parts c) × AreChains segments rungs (i + 1) (map chain_parts (drop (i + 1) cs))
+chains_form segments rungs cs i c lt is form =
+    subst (λ (rest : List ChainParts). AreChains segments rungs i rest) (ap (map chain_parts) (chains_cut cs i c lt is)) form
 
 -- ---- a label
 

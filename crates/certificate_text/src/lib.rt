@@ -27,7 +27,7 @@ mod lines;
 mod writer;
 
 pub use certificate::{Certificate, Layer, Verdict};
-pub use lines::{Lines, read_certificate};
+pub use lines::{Lines, one_spelling, read_certificate};
 pub use writer::write_certificate;
 
 #[cfg(test)]

@@ -134,14 +134,33 @@ impl<'a> Lines<'a> {
     }
 }
 
-/// The certificate that the bytes spell. It is refused exactly where they are no spelling, with the first bad line.
+/// No certificate of the form has a spelling that another one has.
+pub fn one_spelling()
+    ensures { (c d : CertificateParts) → IsCertificate c → IsCertificate d
+        → spelling c ≡ spelling d → c ≡ d }
+{}
+
 #[tactic(auto, unfolding(crate::specs::Reading::certificate_of))]
-pub fn read_certificate(alloc: Global, bytes: &[u8]) -> Result<Certificate, InputFault>
-    ensures exact { Gives certificate_parts result (certificate_of bytes.now) }
+fn certificate_of(alloc: Global, bytes: &[u8]) -> Result<Certificate, InputFault>
+    ensures { Gives certificate_parts result (certificate_of bytes.now) }
 {
     let (head, spot) = head_at(alloc, bytes)?;
     let (segments, rungs) = (u32::from(head.segments), u32::from(head.rungs));
     let (chains, spot) = chains_at(alloc, segments, rungs, 0, segments * rungs, spot)?;
     end_at(spot)?;
     Ok(Certificate { chains, ..head })
+}
+
+/// The certificate that the bytes spell. It is refused exactly where they are no spelling, with the first bad line.
+pub fn read_certificate(alloc: Global, bytes: &[u8]) -> Result<Certificate, InputFault>
+    // What is read is of the form, and the bytes are its spelling.
+    ensures found { IfOk result (λ c. IsCertificate (certificate_parts c)
+        × (bytes.now ≡ spelling (certificate_parts c))) }
+    // What was written is read again.
+    ensures again { (c : CertificateParts) → IsCertificate c → bytes.now ≡ spelling c
+        → Gives certificate_parts result (Ok c) }
+    // Which line is the first bad one.
+    ensures exact { Gives certificate_parts result (certificate_of bytes.now) }
+{
+    certificate_of(alloc, bytes)
 }

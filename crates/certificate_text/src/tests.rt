@@ -182,8 +182,11 @@ fn film(alloc: Global, segments: u16, rungs: u8) -> Result<Manifest, Fail> {
 fn rewritten(alloc: Global, text: &str) -> Result<SureSink, Fail> {
     let certificate = read_certificate(alloc, text.as_bytes())?;
     let film = film(alloc, certificate.segments, certificate.rungs)?;
-    if film.segments() != certificate.segments || film.rungs() != certificate.rungs {
-        return Err("the film has other counts".into());
+    if film.segments() != certificate.segments {
+        return Err("the film has other segments".into());
+    }
+    if film.rungs() != certificate.rungs {
+        return Err("the film has other rungs".into());
     }
     let plan = Plan {
         table: certificate.table,

@@ -77,11 +77,11 @@ fn put_count<O: Sink>(out: &mut O, word: &str, count: u16) -> Result<(), PutErr>
 }
 
 /// The line of the score.
-fn put_score<O: Sink>(out: &mut O, score: i128) -> Result<(), PutErr>
-    ensures { Puts (O.seen out.old) (fields_line (codes "score" ∷ signed_decimal score ∷ []))
+fn put_score<O: Sink>(out: &mut O, plan: &Plan) -> Result<(), PutErr>
+    ensures { Puts (O.seen out.old) (fields_line (codes "score" ∷ signed_decimal plan.now.score ∷ []))
         (O.seen out.new) result }
 {
-    put_fields(out, &[Word("score"), Number(score)])
+    put_fields(out, &[Word("score"), Number(plan.score)])
 }
 
 /// The line of version 2.
@@ -114,7 +114,7 @@ fn put_head<O: Sink>(out: &mut O, m: &Manifest, plan: &Plan) -> Result<(), PutEr
         (O.seen out.new) result }
 {
     put_counts(out, m, plan.table)?;
-    put_score(out, plan.score)?;
+    put_score(out, plan)?;
     put_plan(out, &plan.rungs)?;
     put_starts(out, &plan.starts)
 }
@@ -191,8 +191,9 @@ fn put_chain<O: Sink>(
     ensures { Puts (O.seen out.old) (lines_text (chain_lines per segment rung (chain_parts chain.now)))
         (O.seen out.new) result }
 {
-    put_layer(out, segment, rung, chain.labels.len())?;
-    put_labels(out, per, &chain.labels, &chain.names)
+    let labels = chain.labels.as_slice();
+    put_layer(out, segment, rung, labels.len())?;
+    put_labels(out, per, labels, &chain.names)
 }
 
 /// The lines of the chains, by segment, then rung.

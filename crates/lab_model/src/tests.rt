@@ -99,7 +99,10 @@ fn setups_fit_their_manifest(rt: HostRuntime) -> Result<(), Fail> {
         );
         assert!(rt; weights.count() > 1 && weights.rows() == 0);
         assert_eq!(rt; weights.utility(7, 1), 10);
-        assert_eq!(rt; (weights.change(7, None, 1), weights.change(7, Some(1), 0)), (0, 10));
+        assert_eq!(rt;
+            (weights.change(7, None, 1), weights.change(7, Some(1), 0)),
+            (0, 10)
+        );
         let set = Setup {
             buffer_ms,
             weights,

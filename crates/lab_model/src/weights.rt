@@ -46,7 +46,8 @@ fn are_small(row: &[u32]) -> bool
 }
 
 fn never_falls(row: &[u32]) -> bool
-    ensures { IsTrue result ↔ ((rung : ℕ) → rung + 1 < length row.now → slice_index row.now rung ≤ slice_index row.now (rung + 1)) }
+    ensures { IsTrue result ↔ ((rung : ℕ) → rung + 1 < length row.now
+        → slice_index row.now rung ≤ slice_index row.now (rung + 1)) }
 {
     for i in 1..row.len() {
         if row[i] < row[i - 1] {
@@ -98,8 +99,10 @@ impl Weights {
     /// The weights whose one row of utilities serves every segment. `None` exactly where there are none or more
     /// than 16 utilities, they fall, or a number is above 1000000.
     pub fn from_parts(utilities: Vec<u32>, switch: u32, stall: u32, startup: u32) -> Option<Weights>
-        ensures some { IfSome result (λ w. (w ≡ weighing utilities.items switch stall startup) × IsWeighing w) }
-        ensures none { IfNone result (IsWeighing (weighing utilities.items switch stall startup) → ⊥) }
+        ensures some { IfSome result
+            (λ w. (w ≡ weighing utilities.items switch stall startup) × IsWeighing w) }
+        ensures none { IfNone result
+            (IsWeighing (weighing utilities.items switch stall startup) → ⊥) }
     {
         let count = utilities.len();
         if !are_utilities(&utilities, count, 0) || !are_weights(switch, stall, startup) {
@@ -124,8 +127,11 @@ impl Weights {
         stall: u32,
         startup: u32,
     ) -> Option<Weights>
-        ensures some { IfSome result (λ w. (w ≡ table_weighing utilities.items rungs switch stall startup) × IsWeighing w × (0 < w.rows)) }
-        ensures none { IfNone result (IsWeighing (table_weighing utilities.items rungs switch stall startup) → ⊥) }
+        ensures some { IfSome result
+            (λ w. (w ≡ table_weighing utilities.items rungs switch stall startup)
+            × IsWeighing w × (0 < w.rows)) }
+        ensures none { IfNone result
+            (IsWeighing (table_weighing utilities.items rungs switch stall startup) → ⊥) }
     {
         let count = rungs as usize;
         let rows = utilities.len().checked_div(count)?;

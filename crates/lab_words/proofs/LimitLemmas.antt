@@ -1,5 +1,5 @@
 -- What a command line asks for keeps its limits.
-use Rattle.std.proofs.Common.{◌≡◌, ◌++◌, length-append, ◌&&◌, ◌<◌, ◌≤◌, ◌+◌, ◌⊎◌, ℕ, List, [], ◌∷◌, Bool, true, false, Option, Some, None, Result, Ok, Err, IfOk, length, refl, sym, ap, subst, arith, cond, inl, inr, zero, suc, option_map, option_and_then, codes, zero-add, lit≤}
+use Rattle.std.proofs.Common.{◌≡◌, ◌++◌, length-append, ◌&&◌, ◌<◌, ◌≤◌, ◌+◌, ◌⊎◌, ℕ, List, [], ◌∷◌, Bool, true, false, Option, Some, None, Result, Ok, Err, IfOk, length, refl, sym, ap, subst, arith, cond, inl, inr, zero, suc, option_map, option_and_then, codes, lit≤}
 use Rattle.std.proofs.lemmas.Bool.Decides.{nat_tests}
 use Rattle.std.proofs.lemmas.List.Splits.{length-slice_split}
 use Rattle.std.specs.List.{All, after_first, before_first, list_any, slice_split}

@@ -1,7 +1,6 @@
 -- How numbers and lists of numbers are spelled on the command line.
-use Rattle.std.specs.Prelude.{ℕ, ◌&&◌, ◌==◌, Bool, true, false, not, List, [], ◌∷◌, Option, Some, None, length, if◌then◌else◌, nat_le, option_map, option_and_then}
+use Rattle.std.specs.Prelude.{ℕ, ◌&&◌, ◌==◌, Bool, true, List, [], ◌∷◌, Option, Some, None, length, if◌then◌else◌, nat_le, option_map, option_and_then}
 use Rattle.std.specs.List.{slice_split}
-use Rattle.std.specs.Str.{all_ascii_digits}
 use Rattle.std.specs.Str.Parse.{digits_value}
 pub use Rattle.lab_io.specs.Number.{is_number}
 pub use Rattle.lab_io.specs.Sink.{Text}

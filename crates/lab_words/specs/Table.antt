@@ -1,5 +1,5 @@
 -- A command as a table of its words, and what `clap` makes of it.
-use Rattle.std.specs.Prelude.{true, false, Bool, List, [], ◌∷◌, Option, Some, None, codes, if◌then◌else◌}
+use Rattle.std.specs.Prelude.{true, false, Bool, List, [], ◌∷◌, Option, Some, None, if◌then◌else◌}
 use Rattle.clap.specs.Faults.{fault_of}
 use Rattle.clap.specs.Kinds.{Kinds}
 use Rattle.clap.specs.Simple.{App, new_app, new_rule, with_rule, on_top, matches_of}

@@ -1,9 +1,8 @@
 -- What RobustMPC keeps stays what its history says, and its choice is the history's.
-use Rattle.std.proofs.Common.{◌≡◌, ◌∙◌, ℕ, ◌+◌, ◌-◌, ◌*◌, ◌/◌, ◌<◌, ◌≤◌, List, [], ◌∷◌, ◌++◌, length, drop, sym, ap, arith, append_assoc, append-nil, length-append, length-drop, drop-drop, max}
+use Rattle.std.proofs.Common.{◌≡◌, ◌∙◌, ℕ, ◌+◌, ◌-◌, ◌*◌, ◌/◌, ◌<◌, ◌≤◌, List, [], ◌∷◌, ◌++◌, length, sym, ap, arith, append_assoc, append-nil, length-drop, max}
 use Rattle.std.specs.Prelude.{slice_index}
 use Rattle.std.specs.Int.{abs_diff}
 use Rattle.std.specs.List.{All, fold}
-use Rattle.std.proofs.lemmas.List.{drop-append-le}
 use Rattle.std.proofs.lemmas.List.Elements.{All-nil, All-cons, All-append, All-head, All-tail, All-drop}
 use Rattle.circular_buffer.specs.Buffer.{Buffer, buffer, keep_last}
 use Rattle.lab_model.specs.declared.setup.Setup.{Setup}
@@ -12,6 +11,7 @@ use Rattle.lab_model.specs.Film.{Film, IsWithin}
 use Rattle.lab_model.specs.Horizon.{horizon_score}
 use Rattle.lab_model.specs.Mpc.{best_list, lists_ahead, mpc_choice}
 use Rattle.lab_model.specs.Rates.{error_after, errors_from, errors_of, greatest, harmonic_of, last_of, robust_rate}
+use Rattle.lab_model.proofs.Histories.{last_of_push}
 use Rattle.mpc_rule.specs.Recall.{IsRing, Recall, StandsFor, rate_ahead}
 
 -- ---- the rings keep their limits
@@ -41,14 +41,6 @@ greatest_most high xs all = greatest_from_most high 0 xs (omega arith) all
 
 -- ---- one more sample
 
-keep_again : (n : ℕ) (xs : List ℕ) (x : ℕ) → last_of n (last_of n xs ++ x ∷ []) ≡ last_of n (xs ++ x ∷ [])
-keep_again n xs x =
-    let k = length xs - n in
-    let inner = drop-append-le k xs (x ∷ []) (omega arith) in
-    let cut = length-drop k xs in let one = length-append (drop k xs) (x ∷ []) in let all = length-append xs (x ∷ []) in
-    let at : k + (length (drop k xs ++ x ∷ []) - n) ≡ length (xs ++ x ∷ []) - n = omega (arith, cut, one, all) in
-    ap (drop (length (drop k xs ++ x ∷ []) - n)) (sym inner) ∙ drop-drop (length (drop k xs ++ x ∷ []) - n) k (xs ++ x ∷ []) ∙ ap (λ (m : ℕ). drop m (xs ++ x ∷ [])) at
-
 errors_from_more : (before cs : List ℕ) (x : ℕ) → errors_from before (cs ++ x ∷ []) ≡ errors_from before cs ++ error_after (before ++ cs) x ∷ []
 errors_from_more before [] x = ap (λ (h : List ℕ). error_after h x ∷ []) (sym (append-nil before))
 errors_from_more before (c ∷ cs) x =
@@ -73,8 +65,8 @@ stands_more old now [] x e s some is rates errors = let long = ap length s.rates
 stands_more old now (c ∷ cs) x e s some is rates errors =
     let error : e ≡ error_after (c ∷ cs) x = is ∙ ap (λ (r : List ℕ). 1000 * abs_diff (harmonic_of r) x / x) s.rates in
     record {
-      rates = rates ∙ ap (λ (r : List ℕ). last_of 5 (r ++ x ∷ [])) s.rates ∙ keep_again 5 (c ∷ cs) x;
-      errors = errors ∙ (λ i. last_of 5 (s.errors i ++ error i ∷ [])) ∙ keep_again 5 (errors_of (c ∷ cs)) (error_after (c ∷ cs) x)
+      rates = rates ∙ ap (λ (r : List ℕ). last_of 5 (r ++ x ∷ [])) s.rates ∙ last_of_push 5 (c ∷ cs) x;
+      errors = errors ∙ (λ i. last_of 5 (s.errors i ++ error i ∷ [])) ∙ last_of_push 5 (errors_of (c ∷ cs)) (error_after (c ∷ cs) x)
           ∙ ap (last_of 5) (sym (errors_from_more (c ∷ []) cs x));
     }
 

@@ -12,8 +12,8 @@ mod search;
 
 use circular_buffer::HeapCircularBuffer;
 use lab_model::{Context, Manifest, Rule, Sample, Setup};
-use ring::{error_in, greatest_in, harmonic_in};
-use search::Outlook;
+use ring::{KEPT, error_in, greatest_in, harmonic_in};
+use search::{LONGEST, Outlook};
 use std::alloc::{AllocError, Global};
 use std::marker::Model;
 
@@ -64,13 +64,13 @@ impl RobustMpc {
         ensures stands { IfOk result (λ r. StandsFor r []) }
         ensures bad { (result ≡ Err MpcErr.BadHorizon) ↔ (¬ IsWithin 1 5 horizon) }
     {
-        if horizon == 0 || horizon > 5 {
+        if horizon == 0 || horizon as usize > LONGEST {
             return Err(MpcErr::BadHorizon);
         }
         Ok(RobustMpc {
             horizon,
-            rates: HeapCircularBuffer::with_capacity(alloc, 5)?,
-            errors: HeapCircularBuffer::with_capacity(alloc, 5)?,
+            rates: HeapCircularBuffer::with_capacity(alloc, KEPT)?,
+            errors: HeapCircularBuffer::with_capacity(alloc, KEPT)?,
         })
     }
 

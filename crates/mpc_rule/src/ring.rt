@@ -9,13 +9,16 @@ ghost use Rattle.mpc_rule.specs.Recall.{IsRing};
 use circular_buffer::HeapCircularBuffer;
 use lab_model::harmonic;
 
+/// How many rates and how many errors are kept.
+pub(crate) const KEPT: usize = 5;
+
 /// The numbers of a ring, in order, in the first places of an array.
-fn array_of(ring: &HeapCircularBuffer<u64>) -> [u64; 5]
+fn array_of(ring: &HeapCircularBuffer<u64>) -> [u64; KEPT]
     requires { length ring.now.items ≤ 5 }
     ensures { take (length ring.now.items) result ≡ ring.now.items }
 {
     let (front, back) = ring.as_slices();
-    let mut numbers = [0; 5];
+    let mut numbers = [0; KEPT];
     numbers[..front.len()].copy_from_slice(front);
     numbers[front.len()..front.len() + back.len()].copy_from_slice(back);
     numbers

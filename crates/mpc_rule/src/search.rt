@@ -6,6 +6,9 @@ ghost use Rattle.mpc_rule.specs.Search.{CouldBeat, IsDraft, IsOutlook, best_afte
 
 use lab_model::{Context, Manifest, Setup, ceil_div};
 
+/// The longest horizon, in segments.
+pub(crate) const LONGEST: usize = 5;
+
 /// What a choice is made from.
 #[derive(Clone, Copy)]
 pub(crate) struct Outlook<'a> {
@@ -22,7 +25,7 @@ pub(crate) struct Outlook<'a> {
 #[derive(Clone, Copy)]
 pub(crate) struct Draft {
     /// The rungs, of which the first `count` are chosen.
-    pub(crate) rungs: [u8; 5],
+    pub(crate) rungs: [u8; LONGEST],
     pub(crate) count: u8,
     /// The level after these segments, in milliseconds.
     pub(crate) level: u32,
@@ -38,7 +41,7 @@ impl Outlook<'_> {
         ensures draft { IsDraft self.now result (segments_ahead self.now) }
     {
         Draft {
-            rungs: [0; 5],
+            rungs: [0; LONGEST],
             count: 0,
             level: self.context.level,
             score: 0,

@@ -163,19 +163,14 @@ fn choices(rt: HostRuntime) -> Result<(), Fail> {
         let rule = told(&rt, alloc, horizon, kbps)?;
         let set = setup(alloc, 8000, &utilities, changes)?;
         let context = Context { level, next, last };
-        assert!(rt;
-            set.fits(&m)
-                && rule.fits(&m)
-                && next < 5
-                && level <= 7000
-                && set.buffer_ms == 8000
-                && last.unwrap_or(0) < 3
-        );
-        assert!(rt; !rule.rates.is_empty());
         if let Some(before) = last {
             assert!(rt; before < m.rungs());
         }
+        assert!(rt; !rule.rates.is_empty());
         assert_eq!(rt; rule.rate_ahead(), rate, "after {kbps:?}");
+        assert!(rt; set.fits(&m) && rule.fits(&m));
+        assert!(rt; level <= 7000 && set.buffer_ms == 8000 && m.seg_ms() == 1000);
+        assert!(rt; next < m.segments());
         assert_eq!(rt; rule.choose(&m, &set, &context), rung, "after {kbps:?}");
         assert_eq!(rt; plain_rung(row), rung, "after {kbps:?}");
     }

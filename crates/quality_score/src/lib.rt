@@ -37,7 +37,8 @@ fn weighed(w: &Weights, changes: u64, stall_ms: u64, startup_ms: u64) -> u128
     requires changes { changes ≤ 40000000000 }
     requires stall { stall_ms ≤ 1000000000000000 }
     requires startup { startup_ms ≤ 1000000000000000 }
-    ensures value { result ≡ w.now.switch * changes + w.now.stall * stall_ms + w.now.startup * startup_ms }
+    ensures value { result ≡
+        w.now.switch * changes + w.now.stall * stall_ms + w.now.startup * startup_ms }
     ensures limit { result ≤ 3000000000000000000000 }
 {
     w.switch() as u128 * changes as u128
@@ -66,7 +67,8 @@ impl Tally {
         requires utility { HasUtility w.now p.segment p.rung }
         requires before { IfSome self.old.last (λ q. q < w.now.count) }
         requires count { self.old.count < 40000 }
-        ensures stands { (ps : List Played) → StandsFor w.now ps self.old → StandsFor w.now (ps ++ p ∷ []) self.new }
+        ensures stands { (ps : List Played) → StandsFor w.now ps self.old
+            → StandsFor w.now (ps ++ p ∷ []) self.new }
         ensures last { self.new.last ≡ Some p.rung }
         ensures more { self.new.count ≡ self.old.count + 1 }
     {
@@ -80,7 +82,8 @@ impl Tally {
     pub fn total(&self, stall_ms: u64, startup_ms: u64, w: &Weights) -> i128
         requires stall { stall_ms ≤ 1000000000000000 }
         requires startup { startup_ms ≤ 1000000000000000 }
-        ensures { (ps : List Played) → StandsFor w.now ps self.now → result ≡ score_of w.now ps stall_ms startup_ms }
+        ensures { (ps : List Played) → StandsFor w.now ps self.now
+            → result ≡ score_of w.now ps stall_ms startup_ms }
     {
         1000 * self.utilities as i128 - weighed(w, self.changes, stall_ms, startup_ms) as i128
     }

@@ -26,7 +26,10 @@ impl Model for Window {
 
     ghost view = { λ w. record { width = w.ring.capacity; rates = w.ring.items } };
 
-    ghost invariant = { λ w. IsWithin 1 100 w.ring.capacity × (length w.ring.items ≤ w.ring.capacity) × All (λ c. c ≤ 10000000000) w.ring.items × (w.sum ≡ Rattle.std.specs.Prelude.sum w.ring.items) };
+    ghost invariant = { λ w. IsWithin 1 100 w.ring.capacity
+        × (length w.ring.items ≤ w.ring.capacity)
+        × All (λ c. c ≤ 10000000000) w.ring.items
+        × (w.sum ≡ Rattle.std.specs.Prelude.sum w.ring.items) };
 }
 
 impl Window {

@@ -1,6 +1,10 @@
 //! What a plan is.
 
+ghost use Rattle.std.specs.Prelude.{◌≡◌};
+ghost use Rattle.frontier_planner.specs.declared.plans.PlanErr.TheVariants.{Memory};
+
 use lab_model::Label;
+use std::alloc::{AllocError, AllocFailed};
 
 /// The labels of one segment and rung, in order.
 #[derive(Drop)]
@@ -29,6 +33,15 @@ pub struct Plan {
     pub chains: Vec<Chain>,
 }
 
+/// The plan on a grid, which need not be the best.
+#[derive(Drop)]
+pub struct CoarsePlan {
+    /// The plan that is read off the coarse frontiers.
+    pub plan: Plan,
+    /// What no rung list comes to more than, in thousandths of a point.
+    pub bound: i128,
+}
+
 /// Why there is no plan.
 #[derive(Clone, Copy, PartialEq, Eq, Debug)]
 pub enum PlanErr {
@@ -39,4 +52,20 @@ pub enum PlanErr {
     },
     /// Memory was wanting.
     Memory,
+}
+
+impl From<AllocError> for PlanErr {
+    ghost from_gives = { λ _ e. e ≡ Memory };
+
+    fn from(_refused: AllocError) -> PlanErr {
+        PlanErr::Memory
+    }
+}
+
+impl<T: Drop> From<AllocFailed<T>> for PlanErr {
+    ghost from_gives = { λ _ e. e ≡ Memory };
+
+    fn from(_refused: AllocFailed<T>) -> PlanErr {
+        PlanErr::Memory
+    }
 }

@@ -1,0 +1,31 @@
+use Rattle.std.proofs.Common.{◌∙◌, sym, ap, ◌<◌, ◌≤◌, [], subst, to_z, of_z}
+use Rattle.lab_model.specs.declared.label.Label.{Label}
+use Rattle.frontier_planner.specs.Parts.{chain_parts}
+use Rattle.certificate_check.specs.Clauses.{count_of, end_verdict, layer_of, range_verdict}
+use Rattle.std.proofs.lemmas.Int.{to_z-of_z}
+use Rattle.std.specs.Int.{w128}
+use Rattle.std.specs.Prelude.{int_le}
+use Rattle.frontier_planner.specs.Labels.{end_value}
+use Rattle.certificate_check.specs.Scheme.{first_no, tested}
+use Rattle.certificate_check.proofs.InRange.{times_in}
+use Rattle.certificate_check.proofs.Scheme.{first_more, first_none, first_stop, yes_at}
+use Rattle.certificate_check.proofs.checker.Checker.ends_of_chain.Goals as goal
+
+pub loop-place-init : goal.loop-place-init
+loop-place-init c = first_none _
+
+pub ends_below-low-requires : goal.ends_below-low-requires
+ends_below-low-requires c =
+    let k = c.loop-place.place in
+    let count = c.count_of-place-end.ensures in
+    let low = c.loop-place-test.true in
+    let range = yes_at (range_verdict 0 c.args.segment c.args.rung (chain_parts c.args.chain.now) (layer_of [])) (count_of (chain_parts c.args.chain.now)) k c.requires.ranges (subst (λ n. k < n) count low) in
+    subst (λ (l : Label). l.p ≤ 1000000000000000) (sym c.label_of.ensures) (times_in 0 c.args.segment c.args.rung (chain_parts c.args.chain.now) (layer_of []) k range).1
+
+pub loop-place-preserved : goal.loop-place-preserved
+loop-place-preserved c =
+    first_more _ _ _ c.loop-place.invariant (c.tested-verdict.ensures ∙ ap (tested 5 c.args.segment c.args.rung c.loop-place.place) (c.ends_below-low.ensures ∙ ap (λ l. int_le (end_value c.args.self.now l) (to_z w128 (of_z w128 c.args.bound))) c.label_of.ensures)) (sym c.is_no.ensures ∙ c.if-is_no.false)
+
+pub returns-then-is_no : goal.returns-then-is_no
+returns-then-is_no c =
+    first_stop _ _ _ _ c.loop-place-test.true c.loop-place.invariant (c.tested-verdict.ensures ∙ ap (tested 5 c.args.segment c.args.rung c.loop-place.place) (c.ends_below-low.ensures ∙ ap (λ l. int_le (end_value c.args.self.now l) (to_z w128 (of_z w128 c.args.bound))) c.label_of.ensures)) (sym c.is_no.ensures ∙ c.if-is_no.true) ∙ ap (first_no _) c.count_of-place-end.ensures ∙ ap (λ b. first_no (end_verdict c.args.self.now b c.args.segment c.args.rung (chain_parts c.args.chain.now)) (count_of (chain_parts c.args.chain.now))) (to_z-of_z w128 c.args.bound c.ranges.bound)

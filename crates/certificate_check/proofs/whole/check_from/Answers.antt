@@ -1,0 +1,29 @@
+use Rattle.std.proofs.Common.{◌≡◌, ◌∙◌, sym, ap, subst, to_z, of_z}
+use Rattle.std.specs.Int.{w128}
+use Rattle.std.proofs.lemmas.Int.{to_z-of_z}
+use Rattle.certificate_check.specs.Verdict.{verdict_of}
+use Rattle.certificate_text.specs.Form.{certificate_parts}
+use Rattle.frontier_planner.specs.Labels.{IsTask, task_of}
+use Rattle.certificate_check.proofs.Sound.{certifies}
+use Rattle.certificate_check.proofs.Verdicts.{valid_yes, yes_valid}
+use Rattle.certificate_check.proofs.whole.check_from.Goals as goal
+
+pub returns-clause-verdict : goal.returns-clause-verdict
+returns-clause-verdict c =
+    let g = task_of c.args.m.now c.args.clock.now c.args.set.now c.args.ahead in
+    c.verdict_on.ensures ∙ ap (λ h. verdict_of h (certificate_parts c.args.cert.now) (to_z w128 (of_z w128 c.args.bound))) c.new-checker.ensures.value ∙ ap (verdict_of g (certificate_parts c.args.cert.now)) (to_z-of_z w128 c.args.bound c.ranges.bound)
+
+pub returns-clause-valid : goal.returns-clause-valid
+returns-clause-valid c =
+    let g = task_of c.args.m.now c.args.clock.now c.args.set.now c.args.ahead in
+    let parts = certificate_parts c.args.cert.now in
+    let said : c.verdict_on.result ≡ verdict_of g parts c.args.bound = returns-clause-verdict c in
+    (λ passed. yes_valid g parts c.args.bound (sym said ∙ passed), λ valid. said ∙ valid_yes g parts c.args.bound c.requires.form.head.segments.0 valid)
+
+pub returns-clause-sound : goal.returns-clause-sound
+returns-clause-sound c =
+    let g = task_of c.args.m.now c.args.clock.now c.args.set.now c.args.ahead in
+    let parts = certificate_parts c.args.cert.now in
+    let said : c.verdict_on.result ≡ verdict_of g parts c.args.bound = returns-clause-verdict c in
+    let is : IsTask g = subst IsTask c.new-checker.ensures.value c.new-checker.ensures.task in
+    λ passed. certifies g parts c.args.bound is c.requires.form.head.segments.0 c.requires.form.head.plan_length (yes_valid g parts c.args.bound (sym said ∙ passed))

@@ -1,0 +1,32 @@
+-- The form that the tests of a layer need, and what they need of what was found before.
+use Rattle.std.specs.Prelude.{◌≡◌, ℕ, ◌+◌, ◌<◌, ◌≤◌, List, length}
+use Rattle.lab_model.specs.Film.{rungs_of, segments_of}
+use Rattle.frontier_planner.specs.declared.plan.Chain.{Chain}
+use Rattle.frontier_planner.specs.Labels.{AreRungs, Task}
+use Rattle.frontier_planner.specs.Parts.{CertificateParts}
+use Rattle.frontier_planner.specs.Valid.{chain_in}
+use Rattle.certificate_text.specs.Form.{IsChain}
+use Rattle.certificate_check.specs.Clauses.{count_of, layer_of}
+
+-- the chains of a segment have the form that the grammar gives, with so many names a label
+pub record IsLayer (per : ℕ) (chains : List Chain) : Type 0 where
+  pub rungs : length chains ≤ 16
+  pub chain : (q : ℕ) → q < length chains → IsChain per (layer_of chains q)
+  pub count : (q : ℕ) → q < length chains → count_of (layer_of chains q) ≤ 1000000
+
+-- the chains are those of this segment of the certificate
+pub record IsLayerOf (c : CertificateParts) (i : ℕ) (chains : List Chain) : Type 0 where
+  pub count : length chains ≡ c.rungs
+  pub same : (q : ℕ) → q < c.rungs → layer_of chains q ≡ chain_in c i q
+
+-- a segment with this number, and the next one, have as many chains as the film has rungs, and the film has both
+pub record AreBoth (g : Task) (i : ℕ) (here next : List Chain) : Type 0 where
+  pub segment : i + 1 < segments_of g.film
+  pub rungs : length here ≡ rungs_of g.film
+  pub next_rungs : length next ≡ rungs_of g.film
+
+-- the last segment has as many chains as the film has rungs, and the plan is a rung list
+pub record MayEnd (g : Task) (i : ℕ) (last : List Chain) (plan : List ℕ) : Type 0 where
+  pub segment : i + 1 ≡ segments_of g.film
+  pub rungs : length last ≡ rungs_of g.film
+  pub list : AreRungs g (segments_of g.film) plan

@@ -1,0 +1,5 @@
+pub mod Scheme
+pub mod Clauses
+pub mod Layers
+pub mod Verdict
+pub mod Soundness

@@ -1,0 +1,35 @@
+-- The verdict on a certificate: the first failing clause, each over the whole certificate, with the first place where it fails.
+use Rattle.std.specs.Prelude.{ℕ, ◌+◌, ◌-◌, ℤ}
+use Rattle.frontier_planner.specs.Labels.{Task}
+use Rattle.frontier_planner.specs.Parts.{CertificateParts}
+use Rattle.frontier_planner.specs.Valid.{chain_in}
+use Rattle.certificate_text.specs.declared.certificate.Verdict.{Verdict}
+use Rattle.certificate_text.specs.Form.{names_per}
+use Rattle.certificate_check.specs.Scheme.{both, first_no}
+use Rattle.certificate_check.specs.Clauses.{counts_verdict, ends_verdict, names_verdict, plan_verdict, ranges_verdict, score_verdict, starts_held, starts_verdict}
+
+-- V2 of the labels of a segment of a certificate
+abbrev pub ranges_in : CertificateParts → ℕ → Verdict
+ranges_in c i = ranges_verdict (names_per c.segments c.rungs i) c.rungs i (chain_in c i) (chain_in c (i + 1))
+
+-- V4 of the labels of a segment of a certificate
+abbrev pub names_in : Task → CertificateParts → ℕ → Verdict
+names_in g c i = names_verdict g (names_per c.segments c.rungs i) c.rungs i (chain_in c i) (chain_in c (i + 1))
+
+-- V1, V2 of plan and starts, and V2 of the labels of so many segments
+unfoldable pub ranges_up_to : Task → CertificateParts → ℕ → Verdict
+ranges_up_to g c n =
+    both (counts_verdict g c.table c.segments c.rungs)
+    (both (plan_verdict c.segments c.rungs c.plan) (both (starts_verdict c.rungs c.starts (chain_in c 0)) (first_no (ranges_in c) n)))
+
+-- V3, and V4 of the labels of so many segments
+unfoldable pub claims_up_to : Task → CertificateParts → ℕ → Verdict
+claims_up_to g c n = both (starts_held g c.rungs c.starts (chain_in c 0)) (first_no (names_in g c) n)
+
+-- V5 and V6
+unfoldable pub ends_in : Task → CertificateParts → ℤ → Verdict
+ends_in g c bound = both (ends_verdict g bound c.rungs (c.segments - 1) (chain_in c (c.segments - 1))) (score_verdict g c.plan c.score)
+
+-- the verdict, with this bound in V5
+unfoldable pub verdict_of : Task → CertificateParts → ℤ → Verdict
+verdict_of g c bound = both (ranges_up_to g c c.segments) (both (claims_up_to g c c.segments) (ends_in g c bound))

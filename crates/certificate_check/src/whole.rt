@@ -1,0 +1,119 @@
+//! The checks of whole certificates.
+
+ghost use Rattle.std.specs.Prelude.{◌≡◌, ◌↔◌, ◌<◌, ◌≤◌};
+ghost use Rattle.lab_model.specs.Fit.{SetupFits};
+ghost use Rattle.player_core.specs.Available.{all_ahead};
+ghost use Rattle.frontier_planner.specs.Labels.{task_of};
+ghost use Rattle.frontier_planner.specs.Valid.{IsValid};
+ghost use Rattle.certificate_text.specs.declared.certificate.Verdict.TheVariants.{Yes};
+ghost use Rattle.certificate_text.specs.Form.{IsCertificate, certificate_parts, names_per};
+ghost use Rattle.certificate_check.specs.Layers.{IsLayer, IsLayerOf};
+ghost use Rattle.certificate_check.specs.Soundness.{Certifies};
+ghost use Rattle.certificate_check.specs.Verdict.{verdict_of};
+
+use crate::checker::Checker;
+use certificate_text::{Certificate, Verdict};
+use frontier_planner::Chain;
+use lab_model::{Manifest, Setup};
+use network_clock::Clock;
+
+/// So many milliseconds of media ahead that every film within the limits is there at instant 0.
+const ALL_AHEAD: u32 = 120_000_000;
+
+/// The chains of a segment, by rung.
+fn layer(cert: &Certificate, segment: u16) -> &[Chain]
+    requires form { IsCertificate (certificate_parts cert.now) }
+    requires segment { segment < cert.now.segments }
+    ensures own { IsLayerOf (certificate_parts cert.now) segment result.now }
+    ensures form { IsLayer (names_per cert.now.segments cert.now.rungs segment) result.now }
+{
+    let rungs = cert.rungs as usize;
+    let start = segment as usize * rungs;
+    &cert.chains[start..start + rungs]
+}
+
+/// The verdict of this checker on a certificate, with this bound in V5.
+fn verdict_on(checker: &Checker<'_>, cert: &Certificate, bound: i128) -> Verdict
+    requires { IsCertificate (certificate_parts cert.now) }
+    ensures { result ≡ verdict_of checker.now (certificate_parts cert.now) bound }
+{
+    let head = checker.head_verdict(cert.table, cert.segments, cert.rungs, &cert.plan);
+    let last = cert.segments - 1;
+    let mut found = checker.found_first(head, &cert.starts, layer(cert, 0));
+    for segment in 0..last {
+        let here = layer(cert, segment);
+        let next = layer(cert, segment + 1);
+        found = checker.found_more(found, segment, here, next);
+    }
+    checker.verdict(
+        found,
+        last,
+        layer(cert, last),
+        &cert.plan,
+        cert.score,
+        bound,
+    )
+}
+
+/// The verdict on a certificate, with this bound in V5, where `ahead` milliseconds of media, at most 120000000, are
+/// there at instant 0: yes exactly where it is valid, else the first failing clause with the first place where it
+/// fails.
+///
+/// A yes means that the certificate's rung list has its score, and that no rung list has a value above the bound,
+/// whoever made the certificate. It takes no memory.
+pub fn check_from(
+    m: &Manifest,
+    clock: &Clock,
+    set: &Setup,
+    ahead: u32,
+    cert: &Certificate,
+    bound: i128,
+) -> Verdict
+    requires setup { SetupFits set.now m.now }
+    requires ahead { ahead ≤ 120000000 }
+    requires form { IsCertificate (certificate_parts cert.now) }
+    ensures verdict { result ≡
+        verdict_of (task_of m.now clock.now set.now ahead) (certificate_parts cert.now) bound }
+    ensures valid { (result ≡ Yes) ↔
+        IsValid (task_of m.now clock.now set.now ahead) (certificate_parts cert.now) bound }
+    ensures sound { result ≡ Yes →
+        Certifies (task_of m.now clock.now set.now ahead) cert.now.plan.items cert.now.score bound }
+{
+    let checker = Checker::new(m, clock, set, ahead);
+    verdict_on(&checker, cert, bound)
+}
+
+/// The verdict for a film on demand: see `check_from`.
+pub fn check_bound(
+    m: &Manifest,
+    clock: &Clock,
+    set: &Setup,
+    cert: &Certificate,
+    bound: i128,
+) -> Verdict
+    requires setup { SetupFits set.now m.now }
+    requires form { IsCertificate (certificate_parts cert.now) }
+    ensures verdict { result ≡
+        verdict_of (task_of m.now clock.now set.now all_ahead) (certificate_parts cert.now) bound }
+    ensures valid { (result ≡ Yes) ↔
+        IsValid (task_of m.now clock.now set.now all_ahead) (certificate_parts cert.now) bound }
+    ensures sound { result ≡ Yes →
+        Certifies (task_of m.now clock.now set.now all_ahead) cert.now.plan.items cert.now.score bound }
+{
+    check_from(m, clock, set, ALL_AHEAD, cert, bound)
+}
+
+/// The verdict for a film on demand, with the certificate's own score as the bound. A yes means that its rung list
+/// has its score, and that no rung list has a greater value.
+pub fn check(m: &Manifest, clock: &Clock, set: &Setup, cert: &Certificate) -> Verdict
+    requires setup { SetupFits set.now m.now }
+    requires form { IsCertificate (certificate_parts cert.now) }
+    ensures verdict { result ≡
+        verdict_of (task_of m.now clock.now set.now all_ahead) (certificate_parts cert.now) cert.now.score }
+    ensures valid { (result ≡ Yes) ↔
+        IsValid (task_of m.now clock.now set.now all_ahead) (certificate_parts cert.now) cert.now.score }
+    ensures sound { result ≡ Yes → Certifies (task_of m.now clock.now set.now all_ahead)
+        cert.now.plan.items cert.now.score cert.now.score }
+{
+    check_bound(m, clock, set, cert, cert.score)
+}

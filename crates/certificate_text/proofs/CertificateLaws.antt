@@ -1,0 +1,285 @@
+-- Certificates: what is read is of the form and spelled so, and what is of the form is read from its spelling.
+use Rattle.std.proofs.Common.{◌≡◌, ◌∙◌, ◌+◌, ◌-◌, ◌*◌, ◌/◌, ◌%◌, ◌^◌, ◌<◌, ◌≤◌, ◌&&◌, ◌==◌, ◌++◌, ℕ, zero, suc, List, [], ◌∷◌, Bool, true, false, Result, Ok, Err, codes, cond, drop, length, length-append, map, nat_le, take, refl, sym, ap, subst, inl, inr, ℤ, add-one, append_assoc, append-nil, arith, lit≤}
+use Rattle.std.specs.List.{All, flat_map}
+use Rattle.std.specs.Fmt.{decimal, signed_decimal}
+use Rattle.std.specs.Str.{bytes_eq}
+use Rattle.std.proofs.lemmas.Bool.{and_parts, cases_lt, eqb-true}
+use Rattle.std.proofs.lemmas.Bool.Decides.{nat_tests}
+use Rattle.std.proofs.lemmas.List.{drop_at, length-drop, length-take, take_at, take-append-drop}
+use Rattle.std.proofs.lemmas.List.Concat.{flat_map-append}
+use Rattle.std.proofs.lemmas.List.Elements.{All-append, All-cons, All-drop, All-head, All-nil, All-tail, All-take}
+use Rattle.std.proofs.Math.Nat.{div-le_self, mod-lt}
+use Rattle.lab_model.specs.declared.fault.Refusal.{Refusal}
+use Rattle.lab_model.specs.declared.label.Label.{Label}
+use Rattle.lab_io.specs.Sink.{Text}
+use Rattle.lab_io.specs.Piece.{fields_line, later_fields}
+use Rattle.frontier_planner.specs.Parts.{ChainParts}
+use Rattle.certificate_text.specs.Form.{AreChains, HasDigits, IsChain, IsSpelled, label_count, names_per}
+use Rattle.certificate_text.specs.Fields.{◌>>=◌, Read, known_at, number_at, numbers_at, passed, signed_at, stop_before, word_at}
+use Rattle.certificate_text.specs.Reading.{Place, Walks, chain_at, chains_at, joined, label_at, labels_at, layer_at, numbers_of_label_at}
+use Rattle.certificate_text.specs.Spelling.{chain_lines, chains_lines, label_fields, label_lines, layer_fields, lines_text}
+use Rattle.certificate_text.proofs.Loops.{given, ok_is}
+use Rattle.certificate_text.proofs.FieldLaws.{TakesNumbers, bind_ok, known_again, known_takes, later_numbers, number_again, number_takes, numbers_again, numbers_take, numbers_text, passed_ok, signed_again, signed_takes, stop_low, word_again, word_takes}
+
+-- where a reader stands
+abbrev place : ℕ → ℕ → Text → Place
+place row left rest = record { row = row; left = left; rest = rest }
+
+-- ---- a label
+
+-- the text of a label's line
+label_line : (l : Label) (names : List ℕ) (rest : Text) → fields_line (label_fields l names) ++ rest
+    ≡ decimal l.t ++ 32 ∷ (decimal l.p ++ 32 ∷ (signed_decimal l.v ++ stop_before (length names) ∷ (numbers_text names ++ rest)))
+label_line l names rest =
+    let later : later_fields (map decimal names) ++ rest ≡ stop_before (length names) ∷ (numbers_text names ++ rest) = ap (λ (t : Text). t ++ rest) (later_numbers names) in
+    append_assoc (decimal l.t) (32 ∷ (decimal l.p ++ 32 ∷ (signed_decimal l.v ++ later_fields (map decimal names)))) rest
+    ∙ ap (λ (t : Text). decimal l.t ++ 32 ∷ t) (append_assoc (decimal l.p) (32 ∷ (signed_decimal l.v ++ later_fields (map decimal names))) rest)
+    ∙ ap (λ (t : Text). decimal l.t ++ 32 ∷ (decimal l.p ++ 32 ∷ t)) (append_assoc (signed_decimal l.v) (later_fields (map decimal names)) rest)
+    ∙ ap (λ (t : Text). decimal l.t ++ 32 ∷ (decimal l.p ++ 32 ∷ (signed_decimal l.v ++ t))) later
+
+-- a label alone
+abbrev one_label : Label → List ℕ → ChainParts
+one_label l names = record { labels = l ∷ []; names = names }
+
+-- the same with what stands behind it
+abbrev given_pair : Label × Text → List ℕ × Text → ChainParts × Text
+given_pair y ns = (one_label y.0 ns.0, ns.1)
+
+-- what was read as the line of a label
+record TakesLabel (per : ℕ) (bytes : Text) (x : ChainParts × Text) : Type 0 where
+  label : Label
+  own : List ℕ
+  alone : x.0 ≡ one_label label own
+  text : bytes ≡ fields_line (label_fields label own) ++ x.1
+  spelled : IsSpelled label
+  count_is : length own ≡ per
+  digits_are : All (HasDigits 7) own
+
+label_takes : (row per : ℕ) (bytes : Text) (x : ChainParts × Text) → label_at row per bytes ≡ Ok x → TakesLabel per bytes x
+unfolding label_at numbers_of_label_at
+label_takes row per bytes x h =
+    let l = bind_ok (numbers_of_label_at row per bytes) (λ label. numbers_at row 7 per label.1 >>= λ names. Ok (record { labels = label.0 ∷ []; names = names.0 }, names.1)) x h in
+    let ns = bind_ok (numbers_at row 7 per l.0.1) (λ names. Ok (record { labels = l.0.0 ∷ []; names = names.0 }, names.1)) x l.2 in
+    let t = bind_ok (number_at row 18 32 bytes) (λ t. number_at row 18 32 t.1 >>= λ p. signed_at row 18 (stop_before per) p.1 >>= λ v. Ok (record { t = t.0; p = p.0; v = v.0 }, v.1)) l.0 l.1 in
+    let p = bind_ok (number_at row 18 32 t.0.1) (λ p. signed_at row 18 (stop_before per) p.1 >>= λ v. Ok (record { t = t.0.0; p = p.0; v = v.0 }, v.1)) l.0 t.2 in
+    let v = bind_ok (signed_at row 18 (stop_before per) p.0.1) (λ v. Ok (record { t = t.0.0; p = p.0.0; v = v.0 }, v.1)) l.0 p.2 in
+    let first = number_takes row 18 32 bytes t.0 (lit≤ tt) t.1 in
+    let second = number_takes row 18 32 t.0.1 p.0 (lit≤ tt) p.1 in
+    let third = signed_takes row 18 (stop_before per) p.0.1 v.0 (lit≤ tt) v.1 in
+    let names = numbers_take row 7 per l.0.1 ns.0 (lit≤ tt) ns.1 in
+    let made : Label = record { t = t.0.0; p = p.0.0; v = v.0.0 } in
+    let made_is : (made, v.0.1) ≡ l.0 = ok_is (made, v.0.1) l.0 v.2 in
+    let whole : (one_label l.0.0 ns.0.0, ns.0.1) ≡ x = ok_is (one_label l.0.0 ns.0.0, ns.0.1) x ns.2 in
+    subst (λ (y : ChainParts × Text). TakesLabel per bytes y) (ap (λ (y : Label × Text). given_pair y ns.0) made_is ∙ whole) (record {
+      label = made;
+      own = ns.0.0;
+      alone = refl;
+      text = first.0
+          ∙ ap (λ (w : Text). decimal t.0.0 ++ 32 ∷ w) (second.0
+          ∙ ap (λ (w : Text). decimal p.0.0 ++ 32 ∷ w) (third.0
+          ∙ ap (λ (w : Text). signed_decimal v.0.0 ++ stop_before per ∷ w) (ap (λ (y : Label × Text). y.1) made_is ∙ names.text)
+          ∙ ap (λ (k : ℕ). signed_decimal v.0.0 ++ stop_before k ∷ (numbers_text ns.0.0 ++ ns.0.1)) (sym names.count_is)))
+          ∙ sym (label_line made ns.0.0 ns.0.1);
+      spelled = record { t = first.1; p = second.1; v = third.1 };
+      count_is = names.count_is;
+      digits_are = names.digits_are;
+    })
+
+label_again : (row per : ℕ) (l : Label) (names : List ℕ) (rest : Text) → length names ≡ per → IsSpelled l → All (HasDigits 7) names → label_at row per (fields_line (label_fields l names) ++ rest) ≡ Ok (one_label l names, rest)
+unfolding label_at numbers_of_label_at
+label_again row per l names rest e s digits =
+    let text : fields_line (label_fields l names) ++ rest ≡ decimal l.t ++ 32 ∷ (decimal l.p ++ 32 ∷ (signed_decimal l.v ++ stop_before per ∷ (numbers_text names ++ rest))) =
+    label_line l names rest ∙ ap (λ (k : ℕ). decimal l.t ++ 32 ∷ (decimal l.p ++ 32 ∷ (signed_decimal l.v ++ stop_before k ∷ (numbers_text names ++ rest)))) e in
+    let last : numbers_at row 7 per (numbers_text names ++ rest) ≡ Ok (names, rest) = subst (λ (k : ℕ). numbers_at row 7 k (numbers_text names ++ rest) ≡ Ok (names, rest)) e (numbers_again row 7 names rest (lit≤ tt) (lit≤ tt) digits) in
+    ap (label_at row per) text
+    ∙ rw (
+      number_again row 18 32 l.t (decimal l.p ++ 32 ∷ (signed_decimal l.v ++ stop_before per ∷ (numbers_text names ++ rest))) (lit≤ tt) (lit≤ tt) (lit≤ tt) s.t,
+      number_again row 18 32 l.p (signed_decimal l.v ++ stop_before per ∷ (numbers_text names ++ rest)) (lit≤ tt) (lit≤ tt) (lit≤ tt) s.p,
+      signed_again row 18 (stop_before per) l.v (numbers_text names ++ rest) (lit≤ tt) (lit≤ tt) (stop_low per) s.v,
+      last,
+    ) refl
+
+-- ---- labels
+
+lines_joined : (per : ℕ) (l : Label) (ls : List Label) (own ns : List ℕ) → length own ≡ per
+    → lines_text (label_lines per (l ∷ ls) (own ++ ns)) ≡ fields_line (label_fields l own) ++ lines_text (label_lines per ls ns)
+lines_joined per l ls own ns e = rw (take_at own ns per e, drop_at own ns per e) refl
+
+-- what was read as so many labels
+record TakesLabels (per count : ℕ) (bytes : Text) (x : ChainParts × Text) : Type 0 where
+  text : bytes ≡ lines_text (label_lines per x.0.labels x.0.names) ++ x.1
+  count_is : length x.0.labels ≡ count
+  chain : IsChain per x.0
+
+labels_take : (row per count : ℕ) (bytes : Text) (x : ChainParts × Text) → labels_at row per count bytes ≡ Ok x → TakesLabels per count bytes x
+unfolding labels_at
+labels_take row per zero bytes x h =
+    let none : ChainParts = record { labels = []; names = [] } in
+    subst (λ (y : ChainParts × Text). TakesLabels per 0 bytes y) (ok_is (none, bytes) x h)
+    (record { text = refl; count_is = refl; chain = record { labels = All-nil IsSpelled; whole = omega arith; names = All-nil (HasDigits 7) } })
+labels_take row per (suc more) bytes x h =
+    let one = bind_ok (label_at row per bytes) (λ one. labels_at (row + 1) per more one.1 >>= λ others. Ok (joined one.0 others.0, others.1)) x h in
+    let others = bind_ok (labels_at (row + 1) per more one.0.1) (λ others. Ok (joined one.0.0 others.0, others.1)) x one.2 in
+    let t = label_takes row per bytes one.0 one.1 in
+    let ts = labels_take (row + 1) per more one.0.1 others.0 others.1 in
+    let whole : (joined (one_label t.label t.own) others.0.0, others.0.1) ≡ x = ap (λ (c : ChainParts). (joined c others.0.0, others.0.1)) (sym t.alone) ∙ ok_is (joined one.0.0 others.0.0, others.0.1) x others.2 in
+    subst (λ (y : ChainParts × Text). TakesLabels per (suc more) bytes y) whole (record {
+      text = t.text ∙ ap (λ (w : Text). fields_line (label_fields t.label t.own) ++ w) ts.text
+          ∙ sym (append_assoc (fields_line (label_fields t.label t.own)) (lines_text (label_lines per others.0.0.labels others.0.0.names)) others.0.1)
+          ∙ ap (λ (w : Text). w ++ others.0.1) (sym (lines_joined per t.label others.0.0.labels t.own others.0.0.names t.count_is));
+      count_is = ap suc ts.count_is;
+      chain = record {
+        labels = All-cons IsSpelled t.label others.0.0.labels t.spelled ts.chain.labels;
+        whole = length-append t.own others.0.0.names ∙ whole_length per (length others.0.0.labels) (length t.own) (length others.0.0.names) t.count_is ts.chain.whole;
+        names = All-append (HasDigits 7) t.own others.0.0.names t.digits_are ts.chain.names;
+      };
+    })
+  where
+    whole_length : (per count own others : ℕ) → own ≡ per → others ≡ count * per → own + others ≡ suc count * per
+    whole_length per count own others e f = omega (arith, e, f)
+
+no_names : (ns : List ℕ) → length ns ≡ 0 → ns ≡ []
+no_names [] h = refl
+no_names (n ∷ ns) h = absurd (omega (arith, h))
+
+labels_again : (row per : ℕ) (ls : List Label) (ns : List ℕ) (rest : Text) → All IsSpelled ls → length ns ≡ length ls * per → All (HasDigits 7) ns
+    → labels_at row per (length ls) (lines_text (label_lines per ls ns) ++ rest) ≡ Ok (record { labels = ls; names = ns }, rest)
+unfolding labels_at
+labels_again row per [] ns rest spelled whole digits =
+    let none = no_names ns (omega (arith, whole)) in
+    ap (λ (names : List ℕ). given (chain [] names, rest)) (sym none)
+  where
+    chain : List Label → List ℕ → ChainParts
+    chain ls ns = record { labels = ls; names = ns }
+labels_again row per (l ∷ ls) ns rest spelled whole digits =
+    let split = split_names per (length ls) (length ns) whole in
+    let own = take per ns in
+    let later = drop per ns in
+    let own_length : length own ≡ per = omega (arith, length-take per ns, split.0) in
+    let later_length : length later ≡ length ls * per = omega (arith, length-drop per ns, split.1) in
+    let first = label_again row per l own (lines_text (label_lines per ls later) ++ rest) own_length (All-head IsSpelled l ls spelled) (All-take (HasDigits 7) per ns digits) in
+    let others = labels_again (row + 1) per ls later rest (All-tail IsSpelled l ls spelled) later_length (All-drop (HasDigits 7) per ns digits) in
+    rw (append_assoc (fields_line (label_fields l own)) (lines_text (label_lines per ls later)) rest, first, others, take-append-drop per ns) refl
+  where
+    split_names : (per count names : ℕ) → names ≡ suc count * per → (per ≤ names) × (names ≡ per + count * per)
+    split_names per count names e = (omega (arith, e), omega (arith, e))
+
+-- ---- a chain
+
+layer_line : (segment rung count : ℕ) (rest : Text) → fields_line (layer_fields segment rung count) ++ rest
+    ≡ codes "layer" ++ 32 ∷ (decimal segment ++ 32 ∷ (decimal rung ++ 32 ∷ (decimal count ++ 10 ∷ rest)))
+layer_line segment rung count rest =
+    ap (λ (t : Text). codes "layer" ++ 32 ∷ t)
+    (append_assoc (decimal segment) (32 ∷ (decimal rung ++ 32 ∷ (decimal count ++ 10 ∷ []))) rest
+    ∙ ap (λ (t : Text). decimal segment ++ 32 ∷ t) (append_assoc (decimal rung) (32 ∷ (decimal count ++ 10 ∷ [])) rest
+    ∙ ap (λ (t : Text). decimal rung ++ 32 ∷ t) (append_assoc (decimal count) (10 ∷ []) rest)))
+
+layer_takes : (row segment rung left : ℕ) (bytes : Text) (x : ℕ × Text) → layer_at row segment rung left bytes ≡ Ok x → (bytes ≡ fields_line (layer_fields segment rung x.0) ++ x.1) × (x.0 ≤ left)
+unfolding layer_at
+layer_takes row segment rung left bytes x h =
+    let w = bind_ok (word_at row (codes "layer") 32 bytes) (λ word. known_at row segment 32 word >>= λ first. known_at row rung 32 first >>= λ second. number_at row 7 10 second >>= λ count. passed row (nat_le count.0 left) count) x h in
+    let a = bind_ok (known_at row segment 32 w.0) (λ first. known_at row rung 32 first >>= λ second. number_at row 7 10 second >>= λ count. passed row (nat_le count.0 left) count) x w.2 in
+    let b = bind_ok (known_at row rung 32 a.0) (λ second. number_at row 7 10 second >>= λ count. passed row (nat_le count.0 left) count) x a.2 in
+    let n = bind_ok (number_at row 7 10 b.0) (λ count. passed row (nat_le count.0 left) count) x b.2 in
+    let p = passed_ok row (nat_le n.0.0 left) n.0 x n.2 in
+    let tw = word_takes row (codes "layer") 32 bytes w.0 w.1 in
+    let ta = known_takes row segment 32 w.0 a.0 a.1 in
+    let tb = known_takes row rung 32 a.0 b.0 b.1 in
+    let tn = number_takes row 7 10 b.0 n.0 (lit≤ tt) n.1 in
+    subst (λ (y : ℕ × Text). (bytes ≡ fields_line (layer_fields segment rung y.0) ++ y.1) × (y.0 ≤ left)) p.1 (
+      tw ∙ ap (λ (t : Text). codes "layer" ++ 32 ∷ t) (ta ∙ ap (λ (t : Text). decimal segment ++ 32 ∷ t) (tb ∙ ap (λ (t : Text). decimal rung ++ 32 ∷ t) tn.0)) ∙ sym (layer_line segment rung n.0.0 n.0.1),
+      grind (arith, nat_tests, p.0),
+    )
+
+layer_again : (row segment rung left count : ℕ) (rest : Text) → HasDigits 7 segment → HasDigits 7 rung → HasDigits 7 count → count ≤ left
+    → layer_at row segment rung left (fields_line (layer_fields segment rung count) ++ rest) ≡ Ok (count, rest)
+unfolding layer_at
+layer_again row segment rung left count rest a b n le =
+    let test : nat_le count left ≡ true = grind (arith, nat_tests) in
+    ap (layer_at row segment rung left) (layer_line segment rung count rest)
+    ∙ rw (
+      word_again row (codes "layer") 32 (decimal segment ++ 32 ∷ (decimal rung ++ 32 ∷ (decimal count ++ 10 ∷ rest))) refl,
+      known_again row segment 32 (decimal rung ++ 32 ∷ (decimal count ++ 10 ∷ rest)) (lit≤ tt) a,
+      known_again row rung 32 (decimal count ++ 10 ∷ rest) (lit≤ tt) b,
+      number_again row 7 10 count rest (lit≤ tt) (lit≤ tt) (lit≤ tt) n,
+      test,
+    ) refl
+
+-- what was read as a chain
+record TakesChain (per segment rung : ℕ) (p : Place) (x : ChainParts × Place) : Type 0 where
+  text : p.rest ≡ lines_text (chain_lines per segment rung x.0) ++ x.1.rest
+  chain : IsChain per x.0
+  left : x.1.left + length x.0.labels ≡ p.left
+
+chain_takes : (per segment rung : ℕ) (p : Place) (x : ChainParts × Place) → chain_at per segment rung p ≡ Ok x → TakesChain per segment rung p x
+unfolding chain_at
+chain_takes per segment rung p x h =
+    let n = bind_ok (layer_at p.row segment rung p.left p.rest) (λ count. labels_at (p.row + 1) per count.0 count.1 >>= λ chain. Ok (chain.0, place (p.row + 1 + count.0) (p.left - count.0) chain.1)) x h in
+    let c = bind_ok (labels_at (p.row + 1) per n.0.0 n.0.1) (λ chain. Ok (chain.0, place (p.row + 1 + n.0.0) (p.left - n.0.0) chain.1)) x n.2 in
+    let tn = layer_takes p.row segment rung p.left p.rest n.0 n.1 in
+    let tc = labels_take (p.row + 1) per n.0.0 n.0.1 c.0 c.1 in
+    subst (λ (y : ChainParts × Place). TakesChain per segment rung p y) (ok_is (c.0.0, place (p.row + 1 + n.0.0) (p.left - n.0.0) c.0.1) x c.2) (record {
+      text = tn.0 ∙ ap (λ (t : Text). fields_line (layer_fields segment rung n.0.0) ++ t) tc.text
+          ∙ sym (append_assoc (fields_line (layer_fields segment rung n.0.0)) (lines_text (label_lines per c.0.0.labels c.0.0.names)) c.0.1)
+          ∙ ap (λ (k : ℕ). (fields_line (layer_fields segment rung k) ++ lines_text (label_lines per c.0.0.labels c.0.0.names)) ++ c.0.1) (sym tc.count_is);
+      chain = tc.chain;
+      left = omega (arith, tn.1, tc.count_is);
+    })
+
+chain_again : (per segment rung : ℕ) (c : ChainParts) (p : Place) (rest : Text) → p.rest ≡ lines_text (chain_lines per segment rung c) ++ rest → IsChain per c → HasDigits 7 segment → HasDigits 7 rung
+    → length c.labels ≤ p.left → p.left ≤ 1000000 → chain_at per segment rung p ≡ Ok (c, place (p.row + 1 + length c.labels) (p.left - length c.labels) rest)
+unfolding chain_at
+chain_again per segment rung c p rest e form a b le most =
+    let text : p.rest ≡ fields_line (layer_fields segment rung (length c.labels)) ++ (lines_text (label_lines per c.labels c.names) ++ rest) =
+    e ∙ append_assoc (fields_line (layer_fields segment rung (length c.labels))) (lines_text (label_lines per c.labels c.names)) rest in
+    let first : layer_at p.row segment rung p.left p.rest ≡ Ok (length c.labels, lines_text (label_lines per c.labels c.names) ++ rest) =
+    ap (layer_at p.row segment rung p.left) text ∙ layer_again p.row segment rung p.left (length c.labels) (lines_text (label_lines per c.labels c.names) ++ rest) a b (omega arith) le in
+    rw (first, labels_again (p.row + 1) per c.labels c.names rest form.labels form.whole form.names) refl
+
+-- ---- chains
+
+-- what was read as so many chains
+pub record TakesChains (segments rungs number count : ℕ) (p : Place) (x : List ChainParts × Place) : Type 0 where
+  pub text : p.rest ≡ lines_text (chains_lines segments rungs number x.0) ++ x.1.rest
+  pub count_is : length x.0 ≡ count
+  pub chains : AreChains segments rungs number x.0
+  pub left : x.1.left + label_count x.0 ≡ p.left
+
+pub chains_take : (segments rungs number count : ℕ) (p : Place) (x : List ChainParts × Place) → chains_at segments rungs number count p ≡ Ok x → TakesChains segments rungs number count p x
+unfolding chains_at
+chains_take segments rungs number zero p x h =
+    subst (λ (y : List ChainParts × Place). TakesChains segments rungs number 0 p y) (ok_is ([], p) x h) (record { text = refl; count_is = refl; chains = tt; left = omega arith })
+chains_take segments rungs number (suc more) p x h =
+    let own = chain_lines (names_per segments rungs (number / rungs)) (number / rungs) (number % rungs) in
+    let one = bind_ok (chain_at (names_per segments rungs (number / rungs)) (number / rungs) (number % rungs) p) (λ chain. chains_at segments rungs (number + 1) more chain.1 >>= λ others. Ok (chain.0 ∷ others.0, others.1)) x h in
+    let others = bind_ok (chains_at segments rungs (number + 1) more one.0.1) (λ others. Ok (one.0.0 ∷ others.0, others.1)) x one.2 in
+    let t = chain_takes (names_per segments rungs (number / rungs)) (number / rungs) (number % rungs) p one.0 one.1 in
+    let ts = chains_take segments rungs (number + 1) more one.0.1 others.0 others.1 in
+    subst (λ (y : List ChainParts × Place). TakesChains segments rungs number (suc more) p y) (ok_is (one.0.0 ∷ others.0.0, others.0.1) x others.2) (record {
+      text = t.text ∙ ap (λ (w : Text). lines_text (own one.0.0) ++ w) ts.text
+          ∙ sym (append_assoc (lines_text (own one.0.0)) (lines_text (chains_lines segments rungs (number + 1) others.0.0)) others.0.1.rest)
+          ∙ ap (λ (w : Text). w ++ others.0.1.rest) (sym (flat_map-append fields_line (own one.0.0) (chains_lines segments rungs (number + 1) others.0.0)));
+      count_is = ap suc ts.count_is;
+      chains = (t.chain, ts.chains);
+      left = omega (arith, t.left, ts.left);
+    })
+
+pub chains_again : (segments rungs number : ℕ) (cs : List ChainParts) (p : Place) (rest : Text) → 1 ≤ rungs → rungs ≤ 16 → number + length cs ≤ 32000 → p.rest ≡ lines_text (chains_lines segments rungs number cs) ++ rest
+    → AreChains segments rungs number cs → label_count cs ≤ p.left → p.left ≤ 1000000 → (q : Place) × (chains_at segments rungs number (length cs) p ≡ Ok (cs, q)) × (q.rest ≡ rest)
+unfolding chains_at
+chains_again segments rungs number [] p rest one few far e form fits most = (p, refl, e)
+chains_again segments rungs number (c ∷ cs) p rest one few far e form fits most =
+    let own = chain_lines (names_per segments rungs (number / rungs)) (number / rungs) (number % rungs) c in
+    let later = lines_text (chains_lines segments rungs (number + 1) cs) ++ rest in
+    let text : p.rest ≡ lines_text own ++ later =
+    e ∙ ap (λ (w : Text). w ++ rest) (flat_map-append fields_line own (chains_lines segments rungs (number + 1) cs)) ∙ append_assoc (lines_text own) (lines_text (chains_lines segments rungs (number + 1) cs)) rest in
+    let first = chain_again (names_per segments rungs (number / rungs)) (number / rungs) (number % rungs) c p later text form.0
+    (small_quotient number rungs (omega (arith, far))) (small_rest number rungs one few) (omega (arith, fits)) most in
+    let others = chains_again segments rungs (number + 1) cs (place (p.row + 1 + length c.labels) (p.left - length c.labels) later) rest one few (omega (arith, far)) refl form.1 (omega (arith, fits)) (omega (arith, most)) in
+    (others.0, rw (first, others.1) refl, others.2)
+  where
+    small_quotient : (n d : ℕ) → n ≤ 32000 → n / d < 10 ^ 7
+    small_quotient n d le = let q = div-le_self n d in omega (arith, q, le)
+
+    small_rest : (n d : ℕ) → 1 ≤ d → d ≤ 16 → n % d < 10 ^ 7
+    small_rest n d low high = let r = mod-lt n {m = d} low in omega (arith, r, high)
