@@ -1,6 +1,6 @@
 -- What each answer of a run has for a cause, from the cause of its ending.
 use Rattle.std.proofs.Common.{◌≡◌, ◌⊎◌, ℕ, ◌<◌, ◌^◌, ◌-◌, ◌==◌, ◌||◌, ◌&&◌, ◌++◌, List, [], ◌∷◌, Bool, true, false, Option, Some, None, Result, Ok, Err, IsSome, ap, sym, ◌∙◌, refl, arith, inl, inr, append-nil, subst, length, rules}
-use Rattle.std.specs.List.{Contains}
+use Rattle.std.specs.List.{Contains, list_any}
 use Rattle.std.proofs.lemmas.List.Elements.{Contains-append_right}
 use Rattle.lab_io.specs.Shelf.{Shelved}
 use Rattle.lab_io.specs.Sink.{Text, Seen, Rose, Grew, GrewPart}
@@ -32,7 +32,8 @@ use Rattle.abrlab_top.specs.Headline.{PrintsTheSession, Simulates}
 use Rattle.abrlab_top.specs.Outcome.{AreTaken, Outcome, answer_by, answer_of, asked_command, is_built, is_built_verb, named_files, outcome, status, stop_status, text}
 use Rattle.abrlab_top.specs.Simulate.{case_on, simulate}
 use Rattle.abrlab_top.specs.Stages.{Ends, EndsOf, IsTaken, OutFails, Ran, ending_status}
-use Rattle.abrlab_top.proofs.Words.{begins, is_built_command}
+use Rattle.abrlab_top.proofs.Whole.{session_printed}
+use Rattle.abrlab_top.proofs.Words.{begins}
 
 -- what is known of a run at its end: why it ended so, what `err` was told, and the status
 pub record Known (words : List Text) (old new : World) (e : Ending) (r : ℕ) : Type 0 where
@@ -81,7 +82,7 @@ stop_among : (why : Stop) (r n : ℕ) → r ≡ stop_status why → r ≡ n → 
 stop_among why r n e h = subst (λ m. IsAmong m (3 ∷ 4 ∷ [])) (sym e ∙ h) (stop_is why)
 
 -- a stop has none of the other statuses
-never_stopped : {A : Type 0} (why : Stop) (r n : ℕ) → r ≡ stop_status why → r ≡ n → IsAmong n (3 ∷ 4 ∷ []) ≡ (false ≡ true) → A
+never_stopped : {A : Type 0} (why : Stop) (r n : ℕ) → r ≡ stop_status why → r ≡ n → list_any (λ m. m == n) (3 ∷ 4 ∷ []) ≡ false → A
 never_stopped why r n e h k = let x = stop_among why r n e h in cc
 
 known_stop : (why : Stop) → IsAmong (stop_status why) (0 ∷ 2 ∷ 3 ∷ 4 ∷ 5 ∷ 9 ∷ [])
@@ -278,10 +279,6 @@ one_of : {A : Type 0} (xs : List A) → length xs ≡ 1 → (x : A) × (xs ≡ x
 one_of [] e = absurd (omega arith)
 one_of (x ∷ []) e = (x, refl)
 one_of (x ∷ y ∷ xs) e = absurd (omega arith)
-
-session_printed : (c : CommandWords) (i : InputValues) (periods : List Period) (rule : Text × RuleKind) → i.traces ≡ periods ∷ [] → c.rules ≡ rule ∷ [] → (simulate c i).text ≡ session_text (session_of (case_on c i periods rule.1)) (setup_of c).weights
-unfolding simulate
-session_printed c i periods rule e h = rw (e, h) refl
 
 some_same : (o : Option CommandWords) (c d : CommandWords) → o ≡ Some c → o ≡ Some d → c ≡ d
 some_same o c d e h = cc
