@@ -336,7 +336,7 @@ not_read_status : (words : List Text) (old new : World) (c : CommandWords) (role
     → AreAccepted at.before files → Rose (old.shelf.faults at.name) (new.shelf.faults at.name)
     → ((file : NamedFile) → Contains (named_files words) file → IsSome (files file.1) → Rose (old.shelf.faults file.1) (new.shelf.faults file.1) → ⊥) → 4 ≡ status words files
 not_read_status words old new c role files None at n asked built ok rose faultless =
-    rw (is_outcome words c files _ asked (answer_lacks c.verb c files (stop.File role fault.NotRead) (first_half _ _ built) (lacking c.manifest (later_files c) at.before at.later (role, at.name) files at.split ok n))) refl
+    rw (is_outcome words c files _ asked (answer_lacks c.verb c files (stop.File role fault.NotRead) built (lacking c.manifest (later_files c) at.before at.later (role, at.name) files at.split ok n))) refl
 not_read_status words old new c role files (Some bytes) at n asked built ok rose faultless =
     absurd (faultless (role, at.name) (rw (named_by words c asked) (contained (files_of c) at.before at.later (role, at.name) at.split)) (rw n refl) rose)
 

@@ -15,7 +15,6 @@ use Rattle.lab_inputs.specs.Inputs.{◌>>=◌}
 use Rattle.lab_inputs.specs.Notes.{stop_note, usage_note}
 use Rattle.lab_inputs.specs.Settings.{kinds_of, ready_of}
 use Rattle.abrlab_top.specs.Answer.{Answer, printed}
-use Rattle.abrlab_top.specs.Rules.{is_built_rule}
 use Rattle.abrlab_top.specs.Simulate.{simulate}
 
 -- ---- the words
@@ -28,9 +27,9 @@ is_built_verb verb.Plan = false
 is_built_verb verb.Check = false
 is_built_verb verb.Demo = false
 
--- the command and its rules are built
+-- the command is built
 abbrev pub is_built : CommandWords → Bool
-is_built c = is_built_verb c.verb && list_all is_built_rule (kinds_of c)
+is_built c = is_built_verb c.verb
 
 -- the command, where it is built
 abbrev pub if_built : CommandWords → Option CommandWords

@@ -1,18 +1,14 @@
 //! The command that the words ask for, and what became of it.
 
 ghost use Rattle.std.specs.Prelude.{◌≡◌, map, string_bytes};
-ghost use Rattle.std.specs.List.{list_all};
-ghost use Rattle.lab_words.specs.Rules.{spoken};
 ghost use Rattle.lab_words.specs.Command.{view};
 ghost use Rattle.abrlab_top.specs.Outcome.{is_built, is_built_verb};
-ghost use Rattle.abrlab_top.specs.Rules.{is_built_rule};
 ghost use Rattle.abrlab_top.specs.Stages.{AsksCommand, Ends, IsTaken, Ran};
 
-use crate::rule::is_built_rule;
 use crate::simulate::simulate;
 use lab_inputs::Ending;
 use lab_io::{Shelf, Sink};
-use lab_words::{Command, NamedRule, Verb, WordsErr, read_words};
+use lab_words::{Command, Verb, WordsErr, read_words};
 use std::alloc::Global;
 
 fn is_built_verb(verb: Verb) -> bool
@@ -24,17 +20,11 @@ fn is_built_verb(verb: Verb) -> bool
     }
 }
 
-fn are_built_rules(rules: &[NamedRule]) -> bool
-    ensures { result ≡ list_all (λ rule. is_built_rule (spoken rule.rule)) rules.now }
-{
-    rules.iter().all(|rule| is_built_rule(&rule.rule))
-}
-
-/// Whether the command and its rules are built.
+/// Whether the command is built.
 fn is_built(command: &Command) -> bool
     ensures { result ≡ is_built (view command.now) }
 {
-    is_built_verb(command.verb) && are_built_rules(&command.rules)
+    is_built_verb(command.verb)
 }
 
 /// The command that the words ask for.

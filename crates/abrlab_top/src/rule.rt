@@ -1,13 +1,17 @@
 //! The rules of a command line.
 
-ghost use Rattle.std.specs.Prelude.{◌≡◌, [], IfOk, true};
-ghost use Rattle.abrlab_top.specs.Rules.{StandsFor, is_built_rule, kind_of};
+ghost use Rattle.std.specs.Prelude.{◌≡◌, [], IfOk};
+ghost use Rattle.lab_words.specs.Limits.{IsRuleWithin};
 ghost use Rattle.lab_words.specs.Rules.{spoken};
+ghost use Rattle.abrlab_top.specs.Rules.{StandsFor, kind_of};
 
+use bola_rule::Bola;
 use lab_model::{Context, Manifest, NoMemory, Rule, Sample, Setup};
 use lab_words::RuleWords;
+use mpc_rule::{MpcErr, RobustMpc};
 use player_core::{Fixed, Listed};
 use std::alloc::Global;
+use throughput_rule::{RuleErr, Throughput};
 
 /// A rule of a command line.
 #[derive(Drop)]
@@ -16,6 +20,12 @@ pub enum AnyRule {
     Fixed(Fixed),
     /// A rung for each segment.
     Listed(Listed),
+    /// The least mean of some windows of samples.
+    Throughput(Throughput),
+    /// BOLA.
+    Bola(Bola),
+    /// RobustMPC.
+    Mpc(RobustMpc),
 }
 
 impl Rule for AnyRule {
@@ -27,6 +37,9 @@ impl Rule for AnyRule {
         match self {
             AnyRule::Fixed(rule) => rule.fits(m),
             AnyRule::Listed(rule) => rule.fits(m),
+            AnyRule::Throughput(rule) => rule.fits(m),
+            AnyRule::Bola(rule) => rule.fits(m),
+            AnyRule::Mpc(rule) => rule.fits(m),
         }
     }
 
@@ -34,6 +47,9 @@ impl Rule for AnyRule {
         match self {
             AnyRule::Fixed(rule) => rule.observe(s),
             AnyRule::Listed(rule) => rule.observe(s),
+            AnyRule::Throughput(rule) => rule.observe(s),
+            AnyRule::Bola(rule) => rule.observe(s),
+            AnyRule::Mpc(rule) => rule.observe(s),
         }
     }
 
@@ -41,23 +57,16 @@ impl Rule for AnyRule {
         match self {
             AnyRule::Fixed(rule) => rule.choose(m, set, c),
             AnyRule::Listed(rule) => rule.choose(m, set, c),
+            AnyRule::Throughput(rule) => rule.choose(m, set, c),
+            AnyRule::Bola(rule) => rule.choose(m, set, c),
+            AnyRule::Mpc(rule) => rule.choose(m, set, c),
         }
-    }
-}
-
-/// Whether rules of this kind are built.
-pub(crate) fn is_built_rule(rule: &RuleWords) -> bool
-    ensures { result ≡ is_built_rule (spoken rule.now) }
-{
-    match rule {
-        RuleWords::Fixed { .. } | RuleWords::List { .. } => true,
-        RuleWords::Throughput { .. } | RuleWords::Bola { .. } | RuleWords::Mpc { .. } => false,
     }
 }
 
 /// The rule that the words spell, before its first sample.
 pub(crate) fn any_rule(alloc: Global, rule: &RuleWords) -> Result<AnyRule, NoMemory>
-    requires { is_built_rule (spoken rule.now) ≡ true }
+    requires { IsRuleWithin (spoken rule.now) }
     ensures kind { IfOk result (λ r. kind_of r ≡ spoken rule.now) }
     ensures told { IfOk result (λ r. StandsFor r []) }
 {
@@ -67,8 +76,19 @@ pub(crate) fn any_rule(alloc: Global, rule: &RuleWords) -> Result<AnyRule, NoMem
             let rungs = Vec::from_slice(alloc, rungs)?;
             Ok(AnyRule::Listed(Listed::new(rungs)))
         }
-        RuleWords::Throughput { .. } | RuleWords::Bola { .. } | RuleWords::Mpc { .. } => {
-            unreachable!()
-        }
+        RuleWords::Throughput { windows } => match Throughput::new(alloc, windows) {
+            Ok(rule) => Ok(AnyRule::Throughput(rule)),
+            Err(RuleErr::Memory) => Err(NoMemory),
+            Err(RuleErr::BadWindows) => unreachable!(),
+        },
+        RuleWords::Bola { g } => match Bola::new(*g) {
+            Some(rule) => Ok(AnyRule::Bola(rule)),
+            None => unreachable!(),
+        },
+        RuleWords::Mpc { horizon } => match RobustMpc::new(alloc, *horizon) {
+            Ok(rule) => Ok(AnyRule::Mpc(rule)),
+            Err(MpcErr::Memory) => Err(NoMemory),
+            Err(MpcErr::BadHorizon) => unreachable!(),
+        },
     }
 }

@@ -168,4 +168,5 @@ fn start(text: &str, count: usize) -> &str {
     text.get(..count).unwrap_or(text)
 }
 
+mod rules;
 mod simulate;

@@ -164,8 +164,9 @@ fn refused_words(rt: HostRuntime) -> Result<(), Fail> {
         "simulate --manifest m --trace t --rule fixed:1 --utilities 10,0",
         "simulate --manifest m --manifest m --trace t --rule fixed:1 --utilities 0,10",
         "simulate --manifest m --rule fixed:1 --utilities 0,10",
-        "simulate --manifest m --trace t --rule mpc:5 --utilities 0,10",
-        "simulate --manifest m --trace t --rule bola:5 --utilities 0,10",
+        "simulate --manifest m --trace t --rule mpc:6 --utilities 0,10",
+        "simulate --manifest m --trace t --rule bola:0 --utilities 0,10",
+        "simulate --manifest m --trace t --rule throughput:3,5,0 --utilities 0,10",
         "simulate --manifest m --trace t --rule fixed:1 --utilities 0,10 --seeks=",
     ];
     let note = "abrlab: usage: simulate, compare, plan, check, demo\n";
