@@ -1,11 +1,9 @@
 -- What each answer of a run has for a cause, from the cause of its ending.
-use Rattle.std.proofs.Common.{◌≡◌, ◌⊎◌, ℕ, ◌<◌, ◌^◌, ◌-◌, ◌==◌, ◌||◌, ◌&&◌, ◌++◌, List, [], ◌∷◌, Bool, true, false, Option, Some, None, Result, Ok, Err, IsSome, ap, sym, ◌∙◌, refl, arith, inl, inr, append-nil, subst, length, rules}
+use Rattle.std.proofs.Common.{◌≡◌, ◌⊎◌, ℕ, ◌<◌, ◌^◌, ◌-◌, ◌==◌, ◌||◌, ◌++◌, List, [], ◌∷◌, Bool, true, false, Option, Some, None, Result, Ok, Err, IsSome, ap, sym, ◌∙◌, refl, arith, inl, inr, append-nil, subst, length}
 use Rattle.std.specs.List.{Contains, list_any}
 use Rattle.std.proofs.lemmas.List.Elements.{Contains-append_right}
 use Rattle.lab_io.specs.Shelf.{Shelved}
 use Rattle.lab_io.specs.Sink.{Text, Seen, Rose, Grew, GrewPart}
-use Rattle.lab_model.specs.declared.trace.Period.{Period}
-use Rattle.lab_model.specs.Rules.{RuleKind}
 use Rattle.lab_words.specs.declared.Verb.{Verb}
 use Rattle.lab_words.specs.declared.Verb.TheVariants as verb
 use Rattle.lab_words.specs.Limits.{AreCounted}
@@ -18,20 +16,18 @@ use Rattle.lab_inputs.specs.declared.stop.Role.{Role}
 use Rattle.lab_inputs.specs.declared.stop.Stop.{Stop}
 use Rattle.lab_inputs.specs.declared.stop.Stop.TheVariants as stop
 use Rattle.lab_inputs.specs.Files.{Files, NamedFile, files_of, later_files}
-use Rattle.lab_inputs.specs.Inputs.{◌>>=◌, AreAccepted, InputValues, inputs_of}
+use Rattle.lab_inputs.specs.Inputs.{AreAccepted, InputValues, inputs_of}
 use Rattle.lab_inputs.specs.Notes.{Told}
-use Rattle.lab_inputs.specs.Settings.{ready_of, setup_of}
+use Rattle.lab_inputs.specs.Settings.{ready_of}
 use Rattle.lab_inputs.specs.Stages.{Asks, AsksFor, AsksSome, AsksUpTo, Means, Stops, Tells}
 use Rattle.lab_inputs.proofs.Files.{asks_all, asks_none}
 use Rattle.lab_inputs.proofs.Steps.{bind_ok, lacking, ok_same, ready_traces, stops_some}
-use Rattle.player_core.specs.Session.{session_of}
-use Rattle.session_report.specs.Session.{session_text}
 use Rattle.abrlab_top.specs.Answer.{Answer}
-use Rattle.abrlab_top.specs.Causes.{AtTheEnd, HasCause, IsAmong, IsComplete, IsDone, IsNoMemory, IsNotRead, IsOutputFailed, IsRefused, IsStatus, IsSure, IsUsage, LeavesShelf, NoFaults, World, answers_to}
+use Rattle.abrlab_top.specs.Causes.{AtTheEnd, HasCause, IsAmong, IsComplete, IsDone, IsNoMemory, IsNotRead, IsOutputFailed, IsRefused, IsStatus, IsUsage, LeavesShelf, World, answers_to}
 use Rattle.abrlab_top.specs.Headline.{PrintsTheSession, Simulates}
 use Rattle.abrlab_top.specs.Outcome.{AreTaken, Outcome, answer_by, answer_of, asked_command, is_built, is_built_verb, named_files, outcome, status, stop_status, text}
-use Rattle.abrlab_top.specs.Simulate.{case_on, simulate}
-use Rattle.abrlab_top.specs.Stages.{Ends, EndsOf, IsTaken, OutFails, Ran, ending_status}
+use Rattle.abrlab_top.specs.Simulate.{simulate}
+use Rattle.abrlab_top.specs.Stages.{IsTaken, OutFails, Ran, ending_status}
 use Rattle.abrlab_top.proofs.Whole.{session_printed}
 use Rattle.abrlab_top.proofs.Words.{begins}
 
@@ -324,10 +320,6 @@ answer_lacks verb.Compare c files why b e = cc
 answer_lacks verb.Plan c files why b e = cc
 answer_lacks verb.Check c files why b e = cc
 answer_lacks verb.Demo c files why b e = cc
-
-first_half : (a b : Bool) → (a && b) ≡ true → a ≡ true
-first_half true b e = refl
-first_half false b e = e
 
 contained : (named before later : List NamedFile) (file : NamedFile) → named ≡ before ++ file ∷ later → Contains named file
 contained named before later file e = rw e (Contains-append_right before (file ∷ later) file (0, omega arith, refl))

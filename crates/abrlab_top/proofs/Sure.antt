@@ -1,9 +1,9 @@
 -- A run over files and sinks in memory.
-use Rattle.std.proofs.Common.{◌≡◌, ◌<◌, ◌^◌, ◌-◌, ℕ, List, [], ◌++◌, Some, refl, arith, sym, ◌∙◌}
+use Rattle.std.proofs.Common.{◌≡◌, List, [], ◌++◌, Some, refl, arith}
 use Rattle.lab_io.specs.Memory.{MemFiles, SureText, file_of, mem_shelved, sure_seen}
 use Rattle.lab_io.specs.Sink.{Text, Seen}
 use Rattle.abrlab_top.specs.Causes.{IsDone, IsSure, World, world}
-use Rattle.abrlab_top.specs.Outcome.{status, text}
+use Rattle.abrlab_top.specs.Outcome.{text}
 
 -- nothing can fail
 pub sure_in_memory : (words : List Text) (s : MemFiles) (o : SureText) (err : Seen) → s.failing ≡ [] → s.failed ≡ 0 → IsSure words (file_of s.files) (world (mem_shelved s) (sure_seen o) err)

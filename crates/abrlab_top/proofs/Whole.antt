@@ -1,9 +1,9 @@
 -- The stages of a run, put together.
-use Rattle.std.proofs.Common.{◌≡◌, ℕ, List, [], ◌∷◌, ◌++◌, map, length, get_or, arith, subst, Option, Some, None, Result, Ok, Err, IsOk, inl, inr, ap, sym, ◌∙◌, refl, append-nil}
+use Rattle.std.proofs.Common.{◌≡◌, List, [], ◌∷◌, map, length, get_or, arith, subst, Some, Result, Ok, Err, inr, ap, sym, ◌∙◌, refl}
 use Rattle.lab_io.specs.declared.PutErr.{PutErr}
 use Rattle.lab_io.specs.declared.PutErr.TheVariants as put
 use Rattle.lab_io.specs.Shelf.{Shelved}
-use Rattle.lab_io.specs.Sink.{Text, Seen, Puts, GrewPart, Grew}
+use Rattle.lab_io.specs.Sink.{Text, Seen, Puts}
 use Rattle.std.specs.List.{All}
 use Rattle.std.proofs.lemmas.List.{length-map}
 use Rattle.lab_model.specs.declared.context.Seek.{Seek}
@@ -14,7 +14,7 @@ use Rattle.lab_model.specs.Rules.{RuleKind, KindFits}
 use Rattle.lab_words.specs.declared.NamedRule.{NamedRule}
 use Rattle.lab_words.specs.declared.Verb.TheVariants.{Simulate}
 use Rattle.lab_words.specs.Command.{CommandWords, named}
-use Rattle.lab_words.specs.Limits.{AreCounted}
+use Rattle.lab_words.specs.Limits.{AreCounted, IsRuleWithin}
 use Rattle.lab_words.specs.Rules.{spoken}
 use Rattle.player_core.specs.Available.{all_ahead}
 use Rattle.player_core.specs.State.{case_of}
@@ -26,12 +26,12 @@ use Rattle.lab_inputs.specs.declared.stop.Stop.{Stop}
 use Rattle.lab_inputs.specs.Files.{Files, files_of}
 use Rattle.lab_inputs.specs.Inputs.{◌>>=◌, InputValues}
 use Rattle.lab_inputs.specs.Settings.{ready_of, setup_of}
-use Rattle.lab_inputs.specs.Stages.{Asks, Means, Tells}
+use Rattle.lab_inputs.specs.Stages.{Asks, Means}
 use Rattle.lab_inputs.proofs.Files.{asks_all}
 use Rattle.abrlab_top.specs.Answer.{Answer, printed}
 use Rattle.abrlab_top.specs.Outcome.{answer_of, asked_command}
 use Rattle.abrlab_top.specs.Simulate.{case_on, simulate}
-use Rattle.abrlab_top.specs.Stages.{Ends, EndsOf, IsTaken, Ran, Writes, ending_of}
+use Rattle.abrlab_top.specs.Stages.{Ends, IsTaken, Ran, Writes, ending_of}
 use Rattle.abrlab_top.proofs.Words.{begins}
 
 -- what was put is what was written
@@ -73,6 +73,10 @@ only (y ∷ z ∷ xs) x l e = absurd (omega arith)
 -- the one rule can be asked about the film
 pub one_fits : (rules : List NamedRule) (rule : NamedRule) (f : Film) → rules ≡ rule ∷ [] → All (λ kind. KindFits kind f) (map (λ (r : Text × RuleKind). r.1) (map named rules)) → KindFits (spoken rule.rule) f
 one_fits rules rule f e h = let x : All (λ kind. KindFits kind f) (spoken rule.rule ∷ []) = rw e at h in x 0 (spoken rule.rule) (omega arith)
+
+-- the one rule's numbers are within their limits
+pub one_within : (rules : List NamedRule) (rule : NamedRule) → rules ≡ rule ∷ [] → All (λ (r : Text × RuleKind). IsRuleWithin r.1) (map named rules) → IsRuleWithin (spoken rule.rule)
+one_within rules rule e h = let x : All (λ (r : Text × RuleKind). IsRuleWithin r.1) (named rule ∷ []) = rw e at h in x 0 (named rule) (omega arith)
 
 -- a command line of `simulate` names one trace and one rule
 pub counted : (c : CommandWords) → IsTaken c → c.verb ≡ Simulate → (length c.traces ≡ 1) × (length c.rules ≡ 1)

@@ -1,5 +1,5 @@
 -- The words that ask for a command.
-use Rattle.std.proofs.Common.{◌≡◌, ◌&&◌, Bool, true, false, List, [], ◌∷◌, map, Option, Some, None, IsSome, option_and_then, is_some, ap, sym, ◌∙◌, refl, if◌then◌else◌}
+use Rattle.std.proofs.Common.{◌≡◌, Bool, true, false, List, [], ◌∷◌, Option, Some, None, IsSome, option_and_then, is_some, ap, sym, ◌∙◌, refl, if◌then◌else◌}
 use Rattle.lab_io.specs.Sink.{Text}
 use Rattle.lab_words.specs.declared.Verb.{Verb}
 use Rattle.lab_words.specs.Command.{CommandWords}

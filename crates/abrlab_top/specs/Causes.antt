@@ -1,5 +1,5 @@
 -- What each answer of a run has for a cause, whatever the command.
-use Rattle.std.specs.Prelude.{◌≡◌, ◌⊎◌, ℕ, ◌==◌, ◌<◌, ◌-◌, ◌^◌, Bool, true, false, List, [], ◌∷◌, Option, Some, None, Result, Ok, Err, Contains, IsSome}
+use Rattle.std.specs.Prelude.{◌≡◌, ◌⊎◌, ℕ, ◌==◌, ◌<◌, ◌-◌, ◌^◌, true, false, List, [], ◌∷◌, Option, Some, None, Ok, Err, Contains, IsSome}
 use Rattle.std.specs.List.{list_any}
 use Rattle.lab_io.specs.Shelf.{Shelved}
 use Rattle.lab_io.specs.Sink.{Text, Seen, Rose, Grew, GrewPart}

@@ -1,6 +1,5 @@
 -- What a run comes to, by its words and its files: its status, its text and its note.
-use Rattle.std.specs.Prelude.{◌≡◌, ℕ, ◌&&◌, Bool, true, false, List, [], Option, Some, None, option_map, option_and_then, Result, Ok, Err, IsSome, if◌then◌else◌}
-use Rattle.std.specs.List.{list_all}
+use Rattle.std.specs.Prelude.{ℕ, Bool, true, false, List, [], Option, Some, None, option_map, option_and_then, Result, Ok, Err, IsSome, if◌then◌else◌}
 use Rattle.lab_io.specs.Sink.{Text}
 use Rattle.lab_words.specs.declared.Verb.{Verb}
 use Rattle.lab_words.specs.declared.Verb.TheVariants as verb
@@ -13,7 +12,7 @@ use Rattle.lab_inputs.specs.declared.stop.Stop.TheVariants as stop
 use Rattle.lab_inputs.specs.Files.{Files, NamedFile, files_of}
 use Rattle.lab_inputs.specs.Inputs.{◌>>=◌}
 use Rattle.lab_inputs.specs.Notes.{stop_note, usage_note}
-use Rattle.lab_inputs.specs.Settings.{kinds_of, ready_of}
+use Rattle.lab_inputs.specs.Settings.{ready_of}
 use Rattle.abrlab_top.specs.Answer.{Answer, printed}
 use Rattle.abrlab_top.specs.Simulate.{simulate}
 

@@ -1,6 +1,6 @@
 use Rattle.std.proofs.Common.{map, string_bytes}
 use Rattle.abrlab_top.specs.Causes.{world}
-use Rattle.abrlab_top.proofs.Rows.{Known, has_cause, is_complete, leaves_shelf, simulates}
+use Rattle.abrlab_top.proofs.Rows.{has_cause, is_complete, leaves_shelf, simulates}
 use Rattle.abrlab_top.proofs.run.Goals as goal
 
 pub returns-clause-simulates : goal.returns-clause-simulates

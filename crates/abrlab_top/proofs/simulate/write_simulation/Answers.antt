@@ -3,8 +3,14 @@ use Rattle.lab_words.specs.Command.{named, view}
 use Rattle.lab_inputs.specs.Stages.{values_of}
 use Rattle.player_core.specs.Session.{shown}
 use Rattle.abrlab_top.specs.Rules.{kind_of}
-use Rattle.abrlab_top.proofs.Whole.{counted, one_fits, one_rule, only, said_is, writes}
+use Rattle.abrlab_top.proofs.Whole.{counted, one_fits, one_rule, one_within, only, said_is, writes}
 use Rattle.abrlab_top.proofs.simulate.write_simulation.Goals as goal
+
+pub any_rule-requires : goal.any_rule-requires
+any_rule-requires g c =
+    let counts = counted (view c.args.command.now) c.requires.taken c.requires.verb in
+    let rules = one_rule c.args.command.now.rules.items c.as_slice-2.result.now c.rule-item.result c.as_slice-2.ensures.value counts.1 c.rule-item.is in
+    one_within c.args.command.now.rules.items c.rule-item.result rules c.requires.taken.limits.spoken
 
 pub play-requires-clause-rule : goal.play-requires-clause-rule
 play-requires-clause-rule g c =
