@@ -1,5 +1,7 @@
-pub mod Outcome
-pub mod Notes
+pub mod Answer
 pub mod Rules
-pub mod Run
+pub mod Simulate
+pub mod Outcome
+pub mod Causes
+pub mod Headline
 pub mod Stages

@@ -1,182 +1,129 @@
--- What a run comes to, by its words and its files, in the order of its refusals.
-use Rattle.std.specs.Prelude.{ℕ, ◌&&◌, ◌||◌, ◌==◌, Bool, true, false, not, List, [], ◌∷◌, length, Option, Some, None, Result, Ok, Err, codes, if◌then◌else◌, nat_le, nat_lt, nat_eq, unwrap_or, IsSome}
-use Rattle.std.specs.List.{ends_with, list_all}
+-- What a run comes to, by its words and its files: its status, its text and its note.
+use Rattle.std.specs.Prelude.{◌≡◌, ℕ, ◌&&◌, Bool, true, false, List, [], Option, Some, None, option_map, option_and_then, Result, Ok, Err, IsSome, if◌then◌else◌}
+use Rattle.std.specs.List.{list_all}
 use Rattle.lab_io.specs.Sink.{Text}
-use Rattle.lab_model.specs.declared.fault.Refusal.{Refusal}
-use Rattle.lab_model.specs.declared.setup.Setup.{Setup}
-use Rattle.lab_model.specs.declared.trace.Period.{Period}
-use Rattle.lab_model.specs.Film.{Film, rungs_of, segments_of}
-use Rattle.lab_model.specs.Rules.{RuleKind, fixed, listed, throughput, bola, mpc}
-use Rattle.lab_model.specs.Weighing.{weighing}
-use Rattle.lab_words.specs.Words.{CommandWords, command_of}
-use Rattle.manifest_reader.specs.Manifest.{manifest_of}
-use Rattle.trace_reader.specs.Trace.{trace_json}
-use Rattle.trace_reader.specs.TraceCsv.{trace_csv_of}
-use Rattle.seek_script.specs.Script.{seeks_of}
-use Rattle.lab_model.specs.declared.context.Seek.{Seek}
-use Rattle.player_core.specs.Available.{all_ahead}
-use Rattle.player_core.specs.State.{Case, case_of}
-use Rattle.player_core.specs.Session.{session_of}
-use Rattle.session_report.specs.Session.{session_text}
-use Rattle.abrlab_top.specs.declared.stop.Role.{Role}
-use Rattle.abrlab_top.specs.declared.stop.Role.TheVariants as role
-use Rattle.abrlab_top.specs.declared.stop.Setting.{Setting}
-use Rattle.abrlab_top.specs.declared.stop.Setting.TheVariants as setting
-use Rattle.abrlab_top.specs.declared.stop.Stop.{Stop}
-use Rattle.abrlab_top.specs.declared.stop.Stop.TheVariants as stop
-
--- the bytes of each file by its name, and none where there is no such file
-abbrev pub Files : Type 0
-Files = Text → Option Text
-
-infixl 10 ◌>>=◌
--- the first refusal is the outcome of the whole
-abbrev pub ◌>>=◌ : {A B : Type 0} → Result A Stop → (A → Result B Stop) → Result B Stop
-(Ok x) >>= f = f x
-(Err s) >>= f = Err s
+use Rattle.lab_words.specs.declared.Verb.{Verb}
+use Rattle.lab_words.specs.declared.Verb.TheVariants as verb
+use Rattle.lab_words.specs.Command.{CommandWords}
+use Rattle.lab_words.specs.Words.{command_of}
+use Rattle.lab_inputs.specs.declared.stop.FileFault.{FileFault}
+use Rattle.lab_inputs.specs.declared.stop.FileFault.TheVariants as fault
+use Rattle.lab_inputs.specs.declared.stop.Stop.{Stop}
+use Rattle.lab_inputs.specs.declared.stop.Stop.TheVariants as stop
+use Rattle.lab_inputs.specs.Files.{Files, NamedFile, files_of}
+use Rattle.lab_inputs.specs.Inputs.{◌>>=◌}
+use Rattle.lab_inputs.specs.Notes.{stop_note, usage_note}
+use Rattle.lab_inputs.specs.Settings.{kinds_of, ready_of}
+use Rattle.abrlab_top.specs.Answer.{Answer, printed}
+use Rattle.abrlab_top.specs.Rules.{is_built_rule}
+use Rattle.abrlab_top.specs.Simulate.{simulate}
 
 -- ---- the words
 
--- what `simulate` asks for: a manifest, a trace and perhaps a seek script, a setup and a rule
-pub record Asked : Type 0 where
-  pub manifest : Text
-  pub trace : Text
-  pub seeks : Option Text
-  pub setup : Setup
-  pub rule : RuleKind
+-- the commands that are built
+abbrev pub is_built_verb : Verb → Bool
+is_built_verb verb.Simulate = true
+is_built_verb verb.Compare = false
+is_built_verb verb.Plan = false
+is_built_verb verb.Check = false
+is_built_verb verb.Demo = false
 
--- the name of a file in the CSV format
-abbrev pub is_csv : Text → Bool
-is_csv name = ends_with nat_eq name (codes ".csv")
+-- the command and its rules are built
+abbrev pub is_built : CommandWords → Bool
+is_built c = is_built_verb c.verb && list_all is_built_rule (kinds_of c)
 
--- the kinds of rule that are built
-abbrev pub is_built_rule : RuleKind → Bool
-is_built_rule (fixed rung) = true
-is_built_rule (listed rungs) = true
-is_built_rule (throughput windows) = false
-is_built_rule (bola g) = false
-is_built_rule (mpc horizon) = false
+-- the command, where it is built
+abbrev pub if_built : CommandWords → Option CommandWords
+if_built c = if is_built c then Some c else None
 
--- the setup that the options give
-abbrev pub setup_of : CommandWords → Setup
-setup_of c = record { buffer_ms = c.buffer_ms; weights = weighing c.utilities c.switch c.stall c.startup; abandon = c.abandon }
+-- the command that the words ask for; none where they are refused
+unfoldable pub asked_command : List Text → Option CommandWords
+asked_command words = option_and_then if_built (command_of words)
 
--- a session of the one trace and the one rule, where the rule is built
-abbrev pub asked_with : CommandWords → List Text → List (Text × RuleKind) → Result Asked Stop
-asked_with c (trace ∷ []) (rule ∷ []) =
-    if is_built_rule rule.1 then Ok (record { manifest = c.manifest; trace = trace; seeks = c.seeks; setup = setup_of c; rule = rule.1 }) else Err stop.Usage
-asked_with c traces rules = Err stop.Usage
+-- the words ask for a command
+abbrev pub AreTaken : List Text → Type 0
+AreTaken words = IsSome (asked_command words)
 
--- what a command that is read asks for
-abbrev pub asked_by : Option CommandWords → Result Asked Stop
-asked_by None = Err stop.Usage
-asked_by (Some c) = asked_with c c.traces c.rules
+-- the files that a command names, if there is one
+abbrev pub files_asked : Option CommandWords → List NamedFile
+files_asked None = []
+files_asked (Some c) = files_of c
 
--- what the words ask for
-unfoldable pub asked : List Text → Result Asked Stop
-asked words = asked_by (command_of words)
+-- the files that the words name, in the order of refusals
+abbrev pub named_files : List Text → List NamedFile
+named_files words = files_asked (asked_command words)
 
--- ---- the files
+-- ---- the commands
 
--- the most bytes of a file
-abbrev pub file_limit : ℕ
-file_limit = 67108864
+-- what each command answers, or the stop that comes first
+abbrev pub answer_by : Verb → CommandWords → Files → Result Answer Stop
+answer_by verb.Simulate c files = do
+  inputs ← ready_of c files
+  Ok (simulate c inputs)
+answer_by verb.Compare c files = Ok (printed [])
+answer_by verb.Plan c files = Ok (printed [])
+answer_by verb.Check c files = Ok (printed [])
+answer_by verb.Demo c files = Ok (printed [])
 
--- the bytes of a file that is there and within the limit
-abbrev pub bytes_of : Role → Option Text → Result Text Stop
-bytes_of role None = Err (stop.NotRead role)
-bytes_of role (Some bytes) = if nat_lt file_limit (length bytes) then Err (stop.TooLong role) else Ok bytes
+-- what a command answers, or the stop that comes first
+abbrev pub answer_of : CommandWords → Files → Result Answer Stop
+answer_of c = answer_by c.verb c
 
--- what a reader makes of a file
-abbrev pub read_as : {A : Type 0} → Role → Result A Refusal → Result A Stop
-read_as role (Ok x) = Ok x
-read_as role (Err why) = Err (stop.Refused role why)
-
--- the manifest in a file
-unfoldable pub film_in : Files → Text → Result Film Stop
-film_in files name = do
-  bytes ← bytes_of role.Manifest (files name)
-  read_as role.Manifest (manifest_of bytes)
-
--- the trace that the bytes of a file are, by the format that its name tells
-abbrev pub trace_of : Text → Text → Result (List Period) Refusal
-trace_of name bytes = if is_csv name then trace_csv_of bytes else trace_json bytes
-
--- the trace in a file
-unfoldable pub periods_in : Files → Text → Result (List Period) Stop
-periods_in files name = do
-  bytes ← bytes_of role.Trace (files name)
-  read_as role.Trace (trace_of name bytes)
-
--- the seek script in a file, for a film of so many segments
-unfoldable pub script_in : Files → ℕ → Text → Result (List Seek) Stop
-script_in files segments name = do
-  bytes ← bytes_of role.Seeks (files name)
-  read_as role.Seeks (seeks_of bytes segments)
-
--- the seeks of a session: none where there is no script
-abbrev pub seeks_in : Files → ℕ → Option Text → Result (List Seek) Stop
-seeks_in files segments None = Ok []
-seeks_in files segments (Some name) = script_in files segments name
-
--- ---- the settings
-
--- the rule can be asked about this film
-abbrev pub rule_fits : RuleKind → Film → Bool
-rule_fits (fixed q) f = nat_lt q (rungs_of f)
-rule_fits (listed rungs) f = (length rungs == segments_of f) && list_all (λ q. nat_lt q (rungs_of f)) rungs
-rule_fits (throughput windows) f = true
-rule_fits (bola g) f = true
-rule_fits (mpc horizon) f = true
-
--- the buffer holds a segment
-abbrev pub buffer_fits : Setup → Film → Bool
-buffer_fits s f = nat_le f.seg_ms s.buffer_ms && nat_le s.buffer_ms 10000000
-
--- each rung has a utility, and a table has a row for each segment
-abbrev pub utilities_fit : Setup → Film → Bool
-utilities_fit s f = (s.weights.count == rungs_of f) && ((s.weights.rows == 0) || (s.weights.rows == segments_of f))
-
--- the first setting that does not fit: the buffer, then the utilities, then the rule
-unfoldable pub misfit : Setup → RuleKind → Film → Option Setting
-misfit s rule f =
-    if not (buffer_fits s f) then Some setting.Buffer
-    else (if not (utilities_fit s f) then Some setting.Utilities
-    else (if not (rule_fits rule f) then Some (setting.Rule 1) else None))
-
--- the case, unless a setting does not fit
-abbrev pub unless_misfit : Option Setting → Case → Result Case Stop
-unless_misfit None c = Ok c
-unless_misfit (Some setting) c = Err (stop.Settings setting)
+-- whether a command writes a row as soon as it has it, and not all at the end
+abbrev pub writes_between : Verb → Bool
+writes_between verb.Simulate = false
+writes_between verb.Compare = true
+writes_between verb.Plan = false
+writes_between verb.Check = false
+writes_between verb.Demo = true
 
 -- ---- the whole
 
--- the case that a command plays, of a film on demand: the manifest comes first, then the trace, then the seek script, then the settings
-unfoldable pub case_in : Files → Asked → Result Case Stop
-case_in files a = do
-  film ← film_in files a.manifest
-  periods ← periods_in files a.trace
-  seeks ← seeks_in files (segments_of film) a.seeks
-  unless_misfit (misfit a.setup a.rule film) (case_of film periods a.setup seeks all_ahead a.rule)
+-- the outcome of words and files: none where the words are refused, else an answer or the stop that comes first
+abbrev pub Outcome : Type 0
+Outcome = Option (Result Answer Stop)
 
--- the outcome of words and files: the case that they make, or the first refusal
-unfoldable pub outcome : List Text → Files → Result Case Stop
-outcome words files = do
-  a ← asked words
-  case_in files a
+-- the outcome of words and files
+unfoldable pub outcome : List Text → Files → Outcome
+outcome words files = option_map (λ c. answer_of c files) (asked_command words)
 
--- what is printed of a case: the text of the session of the millisecond player
-unfoldable pub printed : Case → Text
-printed c = session_text (session_of c) c.setup.weights
+-- the status where something is wrong with a file
+abbrev pub fault_status : FileFault → ℕ
+fault_status fault.NotRead = 4
+fault_status fault.TooLong = 3
+fault_status (fault.Refused why) = 3
 
--- the file of a role by the name that the words give it
-abbrev pub name_of : Asked → Role → Text
-name_of a role.Manifest = a.manifest
-name_of a role.Trace = a.trace
-name_of a role.Seeks = unwrap_or a.seeks []
+-- the status of a command that stops before it writes
+abbrev pub stop_status : Stop → ℕ
+stop_status (stop.File role why) = fault_status why
+stop_status (stop.Settings setting) = 3
 
--- the words name a file of the role
-abbrev pub IsNamed : Asked → Role → Type 0
-IsNamed a role.Manifest = Unit {0}
-IsNamed a role.Trace = Unit {0}
-IsNamed a role.Seeks = IsSome a.seeks
+-- the status of an outcome
+abbrev pub outcome_status : Outcome → ℕ
+outcome_status None = 2
+outcome_status (Some (Ok a)) = a.status
+outcome_status (Some (Err why)) = stop_status why
+
+-- the text of an outcome
+abbrev pub outcome_text : Outcome → Text
+outcome_text None = []
+outcome_text (Some (Ok a)) = a.text
+outcome_text (Some (Err why)) = []
+
+-- the note of an outcome
+abbrev pub outcome_note : Outcome → Text
+outcome_note None = usage_note
+outcome_note (Some (Ok a)) = []
+outcome_note (Some (Err why)) = stop_note why
+
+-- the status that words and files ask for
+abbrev pub status : List Text → Files → ℕ
+status words files = outcome_status (outcome words files)
+
+-- what words and files ask to print on `out`
+abbrev pub text : List Text → Files → Text
+text words files = outcome_text (outcome words files)
+
+-- what words and files ask to print on `err`
+abbrev pub note : List Text → Files → Text
+note words files = outcome_note (outcome words files)

@@ -1,45 +1,23 @@
 //! The whole run of a command line: from its words and files to a status, a text and a note.
 #![tactic(auto)]
 
-mod asked;
-mod file;
-mod note;
+mod command;
+mod ending;
+mod memory;
 mod rule;
-mod session;
-mod stop;
+mod simulate;
 
-ghost use Rattle.std.specs.Prelude.{◌≡◌, ◌⊎◌, ◌∷◌, [], Err, List, false, map, string_bytes, true};
-ghost use Rattle.lab_words.specs.Words.{begins_with_verb};
-ghost use Rattle.abrlab_top.specs.Outcome.{Files, asked, outcome};
-ghost use Rattle.abrlab_top.specs.Run.{IsAmong, IsDone, IsNoMemory, IsNotRead, IsOutputFailed, IsRefused, IsUsage, NoFaults, PrintsTheSession, Tells, answers_to, ending_status, status, stop_status, world};
+ghost use Rattle.std.specs.Prelude.{map, string_bytes};
+ghost use Rattle.abrlab_top.specs.Causes.{HasCause, IsComplete, LeavesShelf, world};
+ghost use Rattle.abrlab_top.specs.Headline.{Simulates};
 
-use crate::note::tell;
-use crate::session::ended;
+use crate::command::run_command;
+use crate::ending::ending_status;
+use lab_inputs::tell;
 use lab_io::{Shelf, Sink};
+pub use memory::{Printed, run_in_memory};
 pub use rule::AnyRule;
 use std::alloc::Global;
-pub use stop::{Ending, Role, Setting, Stop};
-
-fn stop_status(stop: Stop) -> u8
-    ensures { result ≡ stop_status stop }
-{
-    match stop {
-        Stop::Usage => 2,
-        Stop::NotRead(_) => 4,
-        Stop::TooLong(_) | Stop::Refused(_, _) | Stop::Settings(_) => 3,
-    }
-}
-
-fn ending_status(ending: Ending) -> u8
-    ensures { result ≡ ending_status ending }
-{
-    match ending {
-        Ending::Done => 0,
-        Ending::Stopped(stop) => stop_status(stop),
-        Ending::OutputFailed => 5,
-        Ending::NoMemory => 9,
-    }
-}
 
 /// Runs a command line, `words`, without the program's name: reads its files from `shelf`, puts its text on `out` and, where
 /// it does not end with status 0, one line on `err`.
@@ -49,7 +27,8 @@ fn ending_status(ending: Ending) -> u8
 /// 9: memory was wanting.
 ///
 /// Refusals come in this order: the words; the files one after the other, of each first that it was not read, then that it is
-/// too long, then its first fault; the buffer, the utilities and the rule. Nothing stands on `out` before all is played.
+/// too long, then its first fault; the buffer, the utilities and the rules. Only the files that the words name are fetched,
+/// in this order and each once. Nothing stands on `out` before all is played.
 pub fn run<F: Shelf, O: Sink, E: Sink>(
     alloc: Global,
     words: &[String],
@@ -57,20 +36,21 @@ pub fn run<F: Shelf, O: Sink, E: Sink>(
     out: &mut O,
     err: &mut E,
 ) -> u8
-    ensures simulates { (files : Files) → Tells (F.shelved shelf.old) files → result ≡ 0 → PrintsTheSession (map string_bytes words.now) files (world (F.shelved shelf.old) (O.seen out.old) (E.seen err.old)) (world (F.shelved shelf.new) (O.seen out.new) (E.seen err.new)) }
-    ensures known { IsAmong result (0 ∷ 2 ∷ 3 ∷ 4 ∷ 5 ∷ 9 ∷ []) }
-    ensures told { (files : Files) → Tells (F.shelved shelf.old) files → IsAmong result (answers_to (outcome (map string_bytes words.now) files)) }
-    ensures done { result ≡ 0 → IsDone (map string_bytes words.now) (world (F.shelved shelf.old) (O.seen out.old) (E.seen err.old)) (world (F.shelved shelf.new) (O.seen out.new) (E.seen err.new)) }
-    ensures usage { result ≡ 2 → IsUsage (map string_bytes words.now) (world (F.shelved shelf.old) (O.seen out.old) (E.seen err.old)) (world (F.shelved shelf.new) (O.seen out.new) (E.seen err.new)) }
-    ensures usage_comes { asked (map string_bytes words.now) ≡ Err Stop.Usage → (result ≡ 2) ⊎ (result ≡ 9) }
-    ensures no_command { begins_with_verb (map string_bytes words.now) ≡ false → result ≡ 2 }
-    ensures refused { result ≡ 3 → IsRefused (map string_bytes words.now) (world (F.shelved shelf.old) (O.seen out.old) (E.seen err.old)) (world (F.shelved shelf.new) (O.seen out.new) (E.seen err.new)) }
-    ensures not_read { result ≡ 4 → IsNotRead (map string_bytes words.now) (world (F.shelved shelf.old) (O.seen out.old) (E.seen err.old)) (world (F.shelved shelf.new) (O.seen out.new) (E.seen err.new)) }
-    ensures output { result ≡ 5 → IsOutputFailed (map string_bytes words.now) (world (F.shelved shelf.old) (O.seen out.old) (E.seen err.old)) (world (F.shelved shelf.new) (O.seen out.new) (E.seen err.new)) }
-    ensures memory { result ≡ 9 → IsNoMemory (map string_bytes words.now) (world (F.shelved shelf.old) (O.seen out.old) (E.seen err.old)) (world (F.shelved shelf.new) (O.seen out.new) (E.seen err.new)) }
-    ensures complete { (files : Files) → Tells (F.shelved shelf.old) files → NoFaults (map string_bytes words.now) files (world (F.shelved shelf.old) (O.seen out.old) (E.seen err.old)) (world (F.shelved shelf.new) (O.seen out.new) (E.seen err.new)) → (result ≡ status (map string_bytes words.now) files) ⊎ (result ≡ 9) }
+    ensures simulates { Simulates (map string_bytes words.now)
+        (world (F.shelved shelf.old) (O.seen out.old) (E.seen err.old))
+        result
+        (world (F.shelved shelf.new) (O.seen out.new) (E.seen err.new)) }
+    ensures cause { HasCause (map string_bytes words.now)
+        (world (F.shelved shelf.old) (O.seen out.old) (E.seen err.old))
+        result
+        (world (F.shelved shelf.new) (O.seen out.new) (E.seen err.new)) }
+    ensures complete { IsComplete (map string_bytes words.now)
+        (world (F.shelved shelf.old) (O.seen out.old) (E.seen err.old))
+        result
+        (world (F.shelved shelf.new) (O.seen out.new) (E.seen err.new)) }
+    ensures shelf { LeavesShelf (map string_bytes words.now) result (F.shelved shelf.old) (F.shelved shelf.new) }
 {
-    let ending = ended(alloc, words, shelf, out);
+    let ending = run_command(alloc, words, shelf, out);
     tell(err, ending);
     ending_status(ending)
 }

@@ -1,13 +1,13 @@
 //! The rules of a command line.
 
-ghost use Rattle.std.specs.Prelude.{◌≡◌, [], true};
-ghost use Rattle.abrlab_top.specs.Outcome.{is_built_rule};
-ghost use Rattle.abrlab_top.specs.Rules.{StandsFor, kind_of};
+ghost use Rattle.std.specs.Prelude.{◌≡◌, [], IfOk, true};
+ghost use Rattle.abrlab_top.specs.Rules.{StandsFor, is_built_rule, kind_of};
 ghost use Rattle.lab_words.specs.Rules.{spoken};
 
-use lab_model::{Context, Manifest, Rule, Sample, Setup};
+use lab_model::{Context, Manifest, NoMemory, Rule, Sample, Setup};
 use lab_words::RuleWords;
 use player_core::{Fixed, Listed};
+use std::alloc::Global;
 
 /// A rule of a command line.
 #[derive(Drop)]
@@ -45,15 +45,28 @@ impl Rule for AnyRule {
     }
 }
 
-/// The rule that the words spell.
-pub(crate) fn any_rule(rule: RuleWords) -> AnyRule
-    requires { is_built_rule (spoken rule) ≡ true }
-    ensures kind { kind_of result ≡ spoken rule }
-    ensures told { StandsFor result [] }
+/// Whether rules of this kind are built.
+pub(crate) fn is_built_rule(rule: &RuleWords) -> bool
+    ensures { result ≡ is_built_rule (spoken rule.now) }
 {
     match rule {
-        RuleWords::Fixed { rung } => AnyRule::Fixed(Fixed { rung }),
-        RuleWords::List { rungs } => AnyRule::Listed(Listed::new(rungs)),
+        RuleWords::Fixed { .. } | RuleWords::List { .. } => true,
+        RuleWords::Throughput { .. } | RuleWords::Bola { .. } | RuleWords::Mpc { .. } => false,
+    }
+}
+
+/// The rule that the words spell, before its first sample.
+pub(crate) fn any_rule(alloc: Global, rule: &RuleWords) -> Result<AnyRule, NoMemory>
+    requires { is_built_rule (spoken rule.now) ≡ true }
+    ensures kind { IfOk result (λ r. kind_of r ≡ spoken rule.now) }
+    ensures told { IfOk result (λ r. StandsFor r []) }
+{
+    match rule {
+        RuleWords::Fixed { rung } => Ok(AnyRule::Fixed(Fixed { rung: *rung })),
+        RuleWords::List { rungs } => {
+            let rungs = Vec::from_slice(alloc, rungs)?;
+            Ok(AnyRule::Listed(Listed::new(rungs)))
+        }
         RuleWords::Throughput { .. } | RuleWords::Bola { .. } | RuleWords::Mpc { .. } => {
             unreachable!()
         }

@@ -24,7 +24,7 @@ pub along_case : (g : Task) → IsTask g → (rungs : List ℕ) → AreRungs g (
 along_case g is rungs fits = record {
   film = is.film;
   trace = is.trace;
-  setup = record { buffer = is.setup.buffer; rungs = is.setup.rungs; rows = is.setup.rows };
+  setup = record { buffer = is.setup.buffer; utilities = record { rungs = is.setup.utilities.rungs; rows = is.setup.utilities.rows } };
   seeks = record { count = omega arith; instants = All-nil (λ (s : Seek). s.at_ms ≤ 1000000000); rising = λ k low. absurd (omega (arith, low)); targets = All-nil (λ (s : Seek). s.to < segments_of g.film) };
   ahead = is.ahead;
   rule = fits;

@@ -1,11 +1,10 @@
 -- Chains that cover all rung lists hold, for each list and segment, a label that dominates the list's.
-use Rattle.std.proofs.Common.{◌≡◌, ◌∙◌, ℕ, zero, suc, ◌+◌, ◌-◌, ◌<◌, List, length, sym, subst, arith, add-one}
+use Rattle.std.proofs.Common.{ℕ, zero, suc, ◌-◌, ◌<◌, List, sym, subst, arith, add-one}
 use Rattle.std.specs.Prelude.{ℤ, ◌≤ℤ◌, slice_index}
 use Rattle.std.specs.List.{Contains}
 use Rattle.std.proofs.lemmas.Int.{ints}
 use Rattle.lab_model.specs.declared.label.Label.{Label}
 use Rattle.lab_model.specs.Film.{rungs_of, segments_of}
-use Rattle.player_core.specs.Value.{live_value_of}
 use Rattle.frontier_planner.specs.Labels.{AreRungs, Dominates, IsTask, Task, end_value, label_at, next_label}
 use Rattle.frontier_planner.specs.Read.{Chains, list_value}
 use Rattle.frontier_planner.specs.Covers.{Covers, HasAbove}

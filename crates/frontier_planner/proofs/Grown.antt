@@ -1,18 +1,17 @@
 -- Coarse frontiers: how they grow, and that they cover all rung lists.
-use Rattle.std.proofs.Common.{◌≡◌, ◌∙◌, ℕ, zero, suc, ◌+◌, ◌<◌, ◌≤◌, ⊎_elim, List, [], ◌∷◌, refl, sym, subst, add-one}
+use Rattle.std.proofs.Common.{◌≡◌, ℕ, suc, ◌<◌, ⊎_elim, List, [], ◌∷◌, refl, sym, subst, add-one}
 use Rattle.std.specs.List.{Contains}
 use Rattle.lab_model.specs.declared.label.Label.{Label}
-use Rattle.lab_model.specs.Film.{rungs_of, segments_of}
+use Rattle.lab_model.specs.Film.{rungs_of}
 use Rattle.frontier_planner.specs.declared.label.Grid.{Grid}
-use Rattle.frontier_planner.specs.Labels.{Dominates, Task, next_label, start_label}
+use Rattle.frontier_planner.specs.Labels.{Task, next_label, start_label}
 use Rattle.frontier_planner.specs.Frontier.{by_rung, undominated}
 use Rattle.frontier_planner.specs.Grid.{IsGrid, rounded}
 use Rattle.frontier_planner.specs.Grown.{grown, successors}
-use Rattle.frontier_planner.specs.Read.{Chains}
 use Rattle.frontier_planner.specs.Covers.{Covers, HasAbove}
 use Rattle.frontier_planner.proofs.Kept.{above_undominated, dominates_trans, undominated_in}
 use Rattle.frontier_planner.proofs.Rounds.{round_dominates}
-use Rattle.frontier_planner.proofs.Walks.{at_head, first_or_rest, from_by_rung, from_map, in_by_rung, in_map, none_at}
+use Rattle.frontier_planner.proofs.Walks.{at_head, first_or_rest, from_map, in_by_rung, in_map, none_at}
 
 module _ (d : Grid) (g : Task) where
   -- segment 0 has the rounded start label

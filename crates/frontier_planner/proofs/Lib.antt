@@ -4,6 +4,8 @@ pub mod Kept
 pub mod Inherits
 pub mod Path
 pub mod Covered
+pub mod Steps
+pub mod Sweep
 pub mod Rounds
 pub mod Grown
 pub mod ReadBack
@@ -14,5 +16,15 @@ pub mod AlongPasses
 pub mod AlongEnds
 pub mod LabelValues
 pub mod LabelsAreValues
+pub mod Layers
 pub mod Prefixes
 pub mod Reached
+pub mod Follows
+pub mod Same
+pub mod Accepts
+pub mod Sound
+pub mod SmallBuffers
+pub mod Reading
+pub mod Naming
+pub mod Short
+pub mod Planned

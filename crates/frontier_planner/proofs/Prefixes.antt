@@ -1,5 +1,5 @@
 -- Frontiers grow by steps: from the frontiers of one segment come those of the next.
-use Rattle.std.proofs.Common.{◌≡◌, ◌∙◌, ℕ, zero, suc, ◌+◌, ◌<◌, ◌≤◌, ⊎_elim, List, [], ◌∷◌, ◌++◌, length, map, take, refl, sym, ap, subst, arith, add-one, length-append}
+use Rattle.std.proofs.Common.{◌≡◌, ◌∙◌, ℕ, zero, suc, ◌+◌, ◌<◌, ⊎_elim, List, [], ◌∷◌, ◌++◌, length, map, take, refl, sym, ap, subst, arith, length-append}
 use Rattle.std.specs.Prelude.{slice_index}
 use Rattle.std.specs.List.{All, Contains, flat_map}
 use Rattle.std.specs.List.Sorted.{IsStrictlySortedBy}
@@ -11,10 +11,9 @@ use Rattle.lab_model.specs.Film.{rungs_of, segments_of}
 use Rattle.lab_model.specs.Ladder.{rungs_below}
 use Rattle.lab_model.specs.Mpc.{lists_of}
 use Rattle.frontier_planner.specs.Labels.{AreRungs, Dominates, IsTask, Task, label_at, next_label, start_label}
-use Rattle.frontier_planner.specs.Frontier.{IsKept, by_rung, frontier, label_cmp, prefix_labels, undominated}
+use Rattle.frontier_planner.specs.Frontier.{frontier, label_cmp, prefix_labels, undominated}
 use Rattle.frontier_planner.specs.Grid.{exact, rounded}
 use Rattle.frontier_planner.specs.Grown.{grown, successors}
-use Rattle.frontier_planner.specs.Covers.{HasAbove}
 use Rattle.frontier_planner.proofs.Grown.{from_successors, grown_first, grown_next, in_successors}
 use Rattle.frontier_planner.proofs.Inherits.{inherits}
 use Rattle.frontier_planner.proofs.Kept.{above_undominated, undominated_in, undominated_is, undominated_same}
@@ -96,7 +95,8 @@ module _ (g : Task) where
       let fits : AreRungs g i (take i rungs) = (omega (arith, long, parts, few), All-take (λ p. p < rungs_of g.film) i rungs from.1.1) in
       (q, label_at g rungs i, from.1.1 i 0 inside, subst (λ rs. Contains (prefix_labels g i q) (label_at g rs i)) whole (in_prefixes i q (take i rungs) fits), sym (label_push g rungs r i long) ∙ from.2)
 
-  frontier_is : (i q : ℕ) → frontier g i q ≡ undominated (prefix_labels g i q)
+  -- the definition
+  pub frontier_is : (i q : ℕ) → frontier g i q ≡ undominated (prefix_labels g i q)
   unfolding frontier
   frontier_is i q = refl
 

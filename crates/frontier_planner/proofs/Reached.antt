@@ -1,19 +1,18 @@
 -- How far labels lie that a rung list reaches, or that grow on a grid: within the ranges of the label calls.
-use Rattle.std.proofs.Common.{◌≡◌, ◌∙◌, ℕ, zero, suc, ◌+◌, ◌-◌, ◌*◌, ◌<◌, ◌≤◌, ⊎_elim, List, length, sym, subst, arith, mul-le-mul}
+use Rattle.std.proofs.Common.{◌≡◌, ℕ, zero, suc, ◌+◌, ◌*◌, ◌<◌, ◌≤◌, ⊎_elim, List, sym, subst, arith, mul-le-mul}
 use Rattle.std.specs.Prelude.{ℤ, pos, ◌+ℤ◌, ◌-ℤ◌, ◌≤ℤ◌, Some, slice_index}
-use Rattle.std.specs.List.{All, Contains}
-use Rattle.std.proofs.lemmas.Bool.{cases_lt}
+use Rattle.std.specs.List.{Contains}
 use Rattle.std.proofs.lemmas.Int.{ints}
-use Rattle.std.proofs.lemmas.List.{get_or_past}
 use Rattle.lab_model.specs.declared.label.Label.{Label}
-use Rattle.lab_model.specs.Film.{Film, IsFilm, rungs_of, segments_of, size_of}
-use Rattle.lab_model.specs.Weighing.{IsWeighing, Weighing, change_of, row_start, utility_of}
-use Rattle.network_clock.proofs.Downloads.{done_found, done_from}
+use Rattle.lab_model.specs.Film.{rungs_of, segments_of, size_of}
+use Rattle.lab_model.specs.Weighing.{HasUtility, change_of, utility_of}
+use Rattle.lab_model.proofs.Rows.{utility_limit}
+use Rattle.network_clock.proofs.Downloads.{done_found}
 use Rattle.player_core.proofs.Runs.{size_within}
 use Rattle.frontier_planner.specs.declared.label.Grid.{Grid}
 use Rattle.frontier_planner.specs.Labels.{AreRungs, IsTask, Task, came_at, label_at, next_label, request_at, start_label, there_at}
 use Rattle.frontier_planner.specs.Near.{CanFollow, IsNear}
-use Rattle.frontier_planner.specs.Grid.{IsGrid, exact, multiple_above, multiple_below, rounded}
+use Rattle.frontier_planner.specs.Grid.{IsGrid, multiple_above, rounded}
 use Rattle.frontier_planner.specs.Grown.{grown}
 use Rattle.frontier_planner.proofs.Covered.{rung_at}
 use Rattle.frontier_planner.proofs.Grown.{from_first, from_next}
@@ -61,13 +60,17 @@ next_loss switch change few low = let most = mul-le-mul few low in omega (arith,
 
 -- ---- one label
 
-utility_low : (w : Weighing) (segment rung : ℕ) → IsWeighing w → utility_of w segment rung ≤ 1000000
-utility_low w segment rung is =
-    let place = row_start w segment + rung in
-    ⊎_elim (λ (inside : place < length w.utilities). is.utilities place 0 inside) (λ (outside : length w.utilities ≤ place). let e = get_or_past w.utilities place 0 outside in omega (arith, e)) (cases_lt place (length w.utilities))
+has_utility : (g : Task) → IsTask g → (i q : ℕ) → i < segments_of g.film → q < rungs_of g.film → HasUtility g.setup.weights i q
+has_utility g is i q low rung =
+    let fits = is.setup.utilities in
+    let count = fits.rungs in
+    (omega (arith, count, rung), λ some. ⊎_elim (λ (none : g.setup.weights.rows ≡ 0). absurd (omega (arith, some, none))) (λ (all : g.setup.weights.rows ≡ segments_of g.film). omega (arith, all, low)) fits.rows)
 
-change_low : (w : Weighing) (segment q r : ℕ) → IsWeighing w → change_of w segment (Some q) r ≤ 1000000
-change_low w segment q r is = let one = utility_low w segment q is in let two = utility_low w segment r is in omega (arith, one, two)
+utility_low : (g : Task) → IsTask g → (i q : ℕ) → i < segments_of g.film → q < rungs_of g.film → utility_of g.setup.weights i q ≤ 1000000
+utility_low g is i q low rung = utility_limit g.setup.weights i q is.weights (has_utility g is i q low rung)
+
+change_low : (g : Task) → IsTask g → (i q r : ℕ) → i < segments_of g.film → q < rungs_of g.film → r < rungs_of g.film → change_of g.setup.weights i (Some q) r ≤ 1000000
+change_low g is i q r low before rung = let one = utility_low g is i q low before in let two = utility_low g is i r low rung in omega (arith, one, two)
 
 came_soon : (g : Task) → IsTask g → (start i r : ℕ) → i < segments_of g.film → r < rungs_of g.film → came_at g start i r ≤ start + 300010000
 came_soon g is start i r low rung = (done_found g.periods is.trace start (size_of g.film i r) (size_within g.film i r is.film low rung).1).0
@@ -83,7 +86,7 @@ start_reach g is q rung =
     record {
       time = omega (arith, soon);
       delay = omega (arith, soon);
-      value = near_start (1000 * utility_of w 0 q + w.stall * t) (w.startup * t) (start_gain (utility_of w 0 q) w.stall t (utility_low w 0 q is.weights) is.weights.stall soon) (start_loss w.startup t is.weights.startup soon);
+      value = near_start (1000 * utility_of w 0 q + w.stall * t) (w.startup * t) (start_gain (utility_of w 0 q) w.stall t (utility_low g is 0 q (omega (arith, some)) rung) is.weights.weights.stall_fits soon) (start_loss w.startup t is.weights.weights.startup_fits soon);
     }
 
 -- the request after a label comes soon
@@ -94,8 +97,8 @@ request_soon g is i low l h =
     let most = mul-le-mul {n₁ = suc i + 1} {m₁ = g.film.seg_ms} {n₂ = 2000} {m₂ = 60000} (let n = is.film.segments.1 in omega (arith, n, low)) is.film.seg_ms.1 in
     omega (arith, time, delay, most)
 
-pub next_reach : (g : Task) → IsTask g → (i q r : ℕ) → suc i < segments_of g.film → r < rungs_of g.film → (l : Label) → IsInReach i l → IsWellInReach (suc i) (next_label g (suc i) q l r)
-next_reach g is i q r low rung l h =
+pub next_reach : (g : Task) → IsTask g → (i q r : ℕ) → suc i < segments_of g.film → q < rungs_of g.film → r < rungs_of g.film → (l : Label) → IsInReach i l → IsWellInReach (suc i) (next_label g (suc i) q l r)
+next_reach g is i q r low before rung l h =
     let w = g.setup.weights in
     let soon = request_soon g is i low l h in
     let came = came_soon g is (request_at g (suc i) l) (suc i) r low rung in
@@ -103,8 +106,8 @@ next_reach g is i q r low rung l h =
     record {
       time = omega (arith, soon, came);
       delay = omega (arith, soon, came, delay);
-      value = near_next i l.v (1000 * utility_of w (suc i) r) (w.switch * change_of w (suc i) (Some q) r) (let u = utility_low w (suc i) r is.weights in omega (arith, u))
-          (next_loss w.switch (change_of w (suc i) (Some q) r) is.weights.switch (change_low w (suc i) q r is.weights)) h.value;
+      value = near_next i l.v (1000 * utility_of w (suc i) r) (w.switch * change_of w (suc i) (Some q) r) (let u = utility_low g is (suc i) r low rung in omega (arith, u))
+          (next_loss w.switch (change_of w (suc i) (Some q) r) is.weights.weights.switch_fits (change_low g is (suc i) q r low before rung)) h.value;
     }
 
 pub round_reach : (d : Grid) → IsGrid d → (i : ℕ) (l : Label) → IsWellInReach i l → IsInReach i (rounded d l)
@@ -127,7 +130,7 @@ label_reach g is rungs h (suc i) low =
     let q = slice_index rungs i in
     let r = slice_index rungs (suc i) in
     let before = label_reach g is rungs h i (omega arith) in
-    subst (IsInReach (suc i)) (sym (label_next g rungs i)) (well_in_reach (suc i) (next_label g (suc i) q (label_at g rungs i) r) (next_reach g is i q r low (rung_at g (segments_of g.film) rungs h (suc i) low) (label_at g rungs i) before))
+    subst (IsInReach (suc i)) (sym (label_next g rungs i)) (well_in_reach (suc i) (next_label g (suc i) q (label_at g rungs i) r) (next_reach g is i q r low (rung_at g (segments_of g.film) rungs h i (omega arith)) (rung_at g (segments_of g.film) rungs h (suc i) low) (label_at g rungs i) before))
 
 -- the labels that grow on a grid
 pub grown_reach : (d : Grid) → IsGrid d → (g : Task) → IsTask g → (i q : ℕ) → i < segments_of g.film → q < rungs_of g.film → (l : Label) → Contains (grown d g i q) l → IsInReach i l
@@ -136,7 +139,7 @@ grown_reach d grid g is (suc i) r low rung l h =
     let from = from_next d g i r l h in
     let there = from_by_rung (rungs_of g.film) (grown d g i) from.0 from.1 in
     let before = grown_reach d grid g is i from.0.0 (omega arith) there.0 from.0.1 there.1 in
-    subst (IsInReach (suc i)) from.2 (round_reach d grid (suc i) (next_label g (suc i) from.0.0 from.0.1 r) (next_reach g is i from.0.0 r low rung from.0.1 before))
+    subst (IsInReach (suc i)) from.2 (round_reach d grid (suc i) (next_label g (suc i) from.0.0 from.0.1 r) (next_reach g is i from.0.0 r low there.0 rung from.0.1 before))
 
 -- what is in reach may be followed
 pub reach_follows : (i : ℕ) (l : Label) → i < 2000 → IsInReach i l → CanFollow l

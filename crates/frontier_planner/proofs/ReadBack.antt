@@ -1,7 +1,7 @@
 -- What is read off coarse frontiers: the end of the plan is the greatest, and each label has a parent, back to segment 0.
-use Rattle.std.proofs.Common.{◌≡◌, ◌∙◌, ℕ, zero, suc, ◌+◌, ◌-◌, ◌<◌, ◌≤◌, ⊎_elim, List, [], ◌∷◌, ◌++◌, length, true, false, Some, refl, sym, ap, subst, arith, length-append}
+use Rattle.std.proofs.Common.{◌≡◌, ◌∙◌, ℕ, zero, suc, ◌-◌, ◌<◌, ⊎_elim, List, [], ◌∷◌, ◌++◌, true, false, refl, sym, ap, subst, arith, length-append}
 use Rattle.std.specs.Prelude.{ℤ, ◌≤ℤ◌, int_lt, slice_index, unwrap_or}
-use Rattle.std.specs.List.{All, Contains, best_of, find}
+use Rattle.std.specs.List.{Contains, best_of}
 use Rattle.std.proofs.Math.Seq.{get_or-append_seam}
 use Rattle.std.proofs.lemmas.Bool.{cond_both}
 use Rattle.std.proofs.lemmas.Cmp.{eq_by_cmp_equiv}
@@ -86,11 +86,11 @@ module _ (d : Grid) (g : Task) where
       let is : found.0 ≡ parent_of d g (grown d g) i c = sym (ap (λ o. unwrap_or o (0, no_label)) found.1) in
       subst (λ (b : ℕ × Label). Contains (labels_of g (grown d g) i) b × (rounded d (next_label g (suc i) b.0 b.1 c.0) ≡ c.1)) is (found.2, same_any _ _ found.3)
 
-  back_first : (chains : Chains) (c : ℕ × Label) → rungs_back d g chains 0 c ≡ c.0 ∷ []
+  pub back_first : (chains : Chains) (c : ℕ × Label) → rungs_back d g chains 0 c ≡ c.0 ∷ []
   unfolding rungs_back
   back_first chains c = refl
 
-  back_next : (chains : Chains) (i : ℕ) (c : ℕ × Label) → rungs_back d g chains (suc i) c ≡ rungs_back d g chains i (parent_of d g chains i c) ++ c.0 ∷ []
+  pub back_next : (chains : Chains) (i : ℕ) (c : ℕ × Label) → rungs_back d g chains (suc i) c ≡ rungs_back d g chains i (parent_of d g chains i c) ++ c.0 ∷ []
   unfolding rungs_back
   back_next chains i c = refl
 

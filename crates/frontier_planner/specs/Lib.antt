@@ -7,5 +7,11 @@ pub mod Grown
 pub mod Read
 pub mod Covers
 pub mod Valid
+pub mod Layers
+pub mod Staircase
+pub mod Sweep
+pub mod Planned
+pub mod Best
+pub mod Laws
 pub mod Along
 pub mod ValueLaw

@@ -2,8 +2,8 @@
 use Rattle.std.specs.Prelude.{ℕ, ℤ, Bool, List, map}
 use Rattle.lab_model.specs.declared.label.Label.{Label}
 use Rattle.lab_model.specs.Film.{Film, rungs_of, segments_of}
-use Rattle.frontier_planner.specs.declared.plan.Chain.{Chain}
-use Rattle.frontier_planner.specs.declared.plan.Plan.{Plan}
+use Rattle.frontier_planner.specs.declared.plans.Chain.{Chain}
+use Rattle.frontier_planner.specs.declared.plans.Plan.{Plan}
 
 -- the labels of one segment and rung, and their names: the name at `place * R + r` is that of the label at `place` for rung `r` of the next segment
 pub record ChainParts : Type 0 where

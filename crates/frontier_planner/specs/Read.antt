@@ -1,5 +1,5 @@
 -- The plan that is read off chains of labels: its end, its rung list, its names and starts, and the number of labels.
-use Rattle.std.specs.Prelude.{ℕ, zero, suc, ◌+◌, ◌-◌, ◌*◌, ◌≤◌, ◌<◌, ◌==◌, Bool, not, List, [], ◌∷◌, ◌++◌, length, map, ℤ, pos, int_lt, nat_lt, unwrap_or, if◌then◌else◌}
+use Rattle.std.specs.Prelude.{ℕ, zero, suc, ◌+◌, ◌-◌, ◌≤◌, ◌<◌, ◌==◌, Bool, not, List, [], ◌∷◌, ◌++◌, length, map, ℤ, pos, int_lt, nat_lt, unwrap_or, if◌then◌else◌}
 use Rattle.std.specs.List.{best_of, find, flat_map, position_or_len}
 use Rattle.lab_model.specs.declared.label.Label.{Label}
 use Rattle.lab_model.specs.Ladder.{rungs_below}

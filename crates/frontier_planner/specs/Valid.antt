@@ -1,6 +1,5 @@
 -- Validity: what makes a certificate prove that no rung list has a greater value than a bound.
-use Rattle.std.specs.Prelude.{◌≡◌, ℕ, ◌+◌, ◌-◌, ◌*◌, ◌≤◌, ◌<◌, List, [], length, ℤ, ◌≤ℤ◌, slice_index, slice_index_or}
-use Rattle.std.specs.List.{All}
+use Rattle.std.specs.Prelude.{◌≡◌, ℕ, ◌+◌, ◌-◌, ◌*◌, ◌≤◌, ◌<◌, [], length, ℤ, ◌≤ℤ◌, slice_index, slice_index_or}
 use Rattle.lab_model.specs.declared.label.Label.{Label}
 use Rattle.lab_model.specs.Film.{rungs_of, segments_of}
 use Rattle.frontier_planner.specs.Labels.{Dominates, Task, end_value, next_label, start_label}

@@ -77,7 +77,8 @@ pub fn next_from(
     requires old_rung { old_rung < rungs_of m.now }
     requires rung { rung < rungs_of m.now }
     requires old { CanFollow old }
-    ensures label { result ≡ next_label (task_of m.now clock.now set.now ahead) seg old_rung old rung }
+    ensures label { let g = task_of m.now clock.now set.now ahead in
+        result ≡ next_label g seg old_rung old rung }
     ensures task { IsTask (task_of m.now clock.now set.now ahead) }
 {
     let request = request_after(m, set, ahead, seg, old);
@@ -118,7 +119,8 @@ pub fn next_label(
     requires old_rung { old_rung < rungs_of m.now }
     requires rung { rung < rungs_of m.now }
     requires old { CanFollow old }
-    ensures { result ≡ next_label (task_of m.now clock.now set.now all_ahead) seg old_rung old rung }
+    ensures { let g = task_of m.now clock.now set.now all_ahead in
+        result ≡ next_label g seg old_rung old rung }
 {
     next_from(m, clock, set, ALL_AHEAD, seg, old_rung, old, rung)
 }

@@ -1,3 +1,5 @@
 //! Tests, with answers from outside.
 
+mod labels;
 mod values;
+mod worked;

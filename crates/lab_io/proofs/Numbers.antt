@@ -93,8 +93,8 @@ first_push (d ∷ ds) c h = refl
 
 written : (n : ℕ) → n < 10 ^ 64 → IsWritten n (decimal n)
 written = decimal_by_steps_wide IsWritten
-  (λ n lt. record { digits = rw (digit_glyph_is n lt) refl; some = omega arith; first = λ one. omega arith; short = λ low. refl })
-  (λ n ds ten w.
+    (λ n lt. record { digits = rw (digit_glyph_is n lt) refl; some = omega arith; first = λ one. omega arith; short = λ low. refl })
+    (λ n ds ten w.
     let d : n % 10 < 10 = omega arith in
     let some : 0 < length ds = w.some in
     record {
@@ -108,10 +108,14 @@ written = decimal_by_steps_wide IsWritten
 pub decimal-spelling : (n : ℕ) → n < 10 ^ 64 → IsSpelling (decimal n)
 decimal-spelling n lt =
     let w = written n lt in
-    record { digits = w.digits; some = w.some; first = λ e. w.short (elim (cases_lt n 10) [
-      | inl low ↦ low
-      | inr high ↦ absurd (let f = w.first (omega arith) in omega (arith, f, e))
-    ]) }
+    record {
+      digits = w.digits;
+      some = w.some;
+      first = λ e. w.short (elim (cases_lt n 10) [
+        | inl low ↦ low
+        | inr high ↦ absurd (let f = w.first (omega arith) in omega (arith, f, e))
+      ]);
+    }
 
 -- the digits so far are what is written of their value
 record IsWrittenSoFar (ds : Text) (i : ℕ) : Type 0 where

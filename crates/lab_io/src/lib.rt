@@ -5,15 +5,17 @@ ghost use Rattle.std.specs.Prelude.{◌≡◌, [], IsOk, IsErrOf};
 ghost use Rattle.lab_io.specs.Shelf.{Fetches, Shelved, fetched_as};
 ghost use Rattle.lab_io.specs.Sink.{Puts, Seen};
 
-mod edge;
+mod files;
 mod memory;
+mod streams;
 #[cfg(test)]
 mod tests;
 mod text;
 
-pub use edge::{FileShelf, StreamSink};
+pub use files::FileShelf;
 pub use memory::{MemShelf, MemSink, SureSink};
 use std::alloc::Global;
+pub use streams::StreamSink;
 pub use text::{Piece, put_fields, put_line, put_number, put_pieces, put_text};
 
 /// Why a file was not fetched.

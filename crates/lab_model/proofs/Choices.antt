@@ -1,9 +1,9 @@
 -- Each rule chooses a rung of the film that it is asked about.
-use Rattle.std.proofs.Common.{◌≡◌, ℕ, zero, suc, ◌-◌, ◌<◌, ◌≤◌, List, [], ◌∷◌, length, get_or, Bool, cond, Some, None, ltb, sym, ◌∙◌, ap, add-one, length-append, arith}
-use Rattle.std.specs.List.{All, fold, flat_map, position_or_len}
+use Rattle.std.proofs.Common.{ℕ, zero, suc, ◌-◌, ◌<◌, ◌≤◌, List, [], ◌∷◌, length, get_or, Bool, cond, Some, None, find, ltb, sym, ◌∙◌, ap, add-one, arith}
+use Rattle.std.specs.List.{All, fold, flat_map}
 use Rattle.std.specs.Option.{unwrap_or}
 use Rattle.std.specs.Prelude.{ℤ, int_lt, min, map, slice_index}
-use Rattle.std.proofs.lemmas.Bool.{cond_both, ltb-true}
+use Rattle.std.proofs.lemmas.Bool.{cond_both}
 use Rattle.std.proofs.lemmas.List.FromFn.{length-range_with_len, get_or-range_with_len}
 use Rattle.std.proofs.lemmas.List.Elements.{All-nil, All-cons, All-head, All-tail, All-append, All-map}
 use Rattle.lab_model.specs.declared.setup.Setup.{Setup}
@@ -31,23 +31,26 @@ greatest_low passes (suc n) =
 pub greatest_fits : (passes : ℕ → Bool) (rungs : ℕ) → 0 < rungs → greatest_rung passes rungs < rungs
 greatest_fits passes rungs some = let low = greatest_low passes rungs in omega (arith, low)
 
-all_below : (n : ℕ) → All (λ q. q < n) (rungs_below n)
+-- the rungs below a number are below it
+pub all_below : (n : ℕ) → All (λ q. q < n) (rungs_below n)
 all_below n k d low =
     let few = length-range_with_len 0 n in
     let here : k < n = omega (arith, few, low) in
     let e = get_or-range_with_len 0 n k d here in
     omega (arith, e, here)
 
-pub least_fits : (passes : ℕ → Bool) (rungs : ℕ) → 0 < rungs → least_rung passes rungs < rungs
-least_fits passes rungs some =
-    let place = position_or_len passes (rungs_below rungs) in
-    let all = length-range_with_len 0 rungs in
-    cond_both (ltb place (length (rungs_below rungs))) (Some place) None (λ o. unwrap_or o 0 < rungs)
-    (λ e. let low = ltb-true place (length (rungs_below rungs)) e in omega (arith, low, all)) (λ e. some)
+found_fits : (P : ℕ → Type 0) (passes : ℕ → Bool) (default : ℕ) (qs : List ℕ) → P default → All P qs → P (unwrap_or (find passes qs) default)
+found_fits P passes default [] h all = h
+found_fits P passes default (q ∷ qs) h all =
+    cond_both (passes q) (Some q) (find passes qs) (λ o. P (unwrap_or o default)) (λ e. All-head P q qs all) (λ e. found_fits P passes default qs h (All-tail P q qs all))
+
+pub least_fits : (passes : ℕ → Bool) (count : ℕ) → 0 < count → least_rung passes count < count
+least_fits passes count some = found_fits (λ q. q < count) passes 0 (rungs_below count) some (all_below count)
 
 -- ---- the first list of the greatest score
 
-best_keeps : (P : List ℕ → Type 0) (score : List ℕ → ℤ) (best : List ℕ) (lists : List (List ℕ)) → P best → All P lists → P (fold (λ best l. cond (int_lt (score best) (score l)) l best) best lists)
+-- what is so of each list is so of the best
+pub best_keeps : (P : List ℕ → Type 0) (score : List ℕ → ℤ) (best : List ℕ) (lists : List (List ℕ)) → P best → All P lists → P (fold (λ best l. cond (int_lt (score best) (score l)) l best) best lists)
 best_keeps P score best [] h all = h
 best_keeps P score best (l ∷ ls) h all =
     best_keeps P score (cond (int_lt (score best) (score l)) l best) ls
@@ -62,7 +65,8 @@ best_fits P score (l ∷ ls) h all = best_keeps P score l ls (All-head P l ls al
 abbrev AreBelow : ℕ → List ℕ → Type 0
 AreBelow rungs l = All (λ q. q < rungs) l
 
-flat_fits : (P : List ℕ → Type 0) (f : ℕ → List (List ℕ)) (Q : ℕ → Type 0) (rs : List ℕ) → ((r : ℕ) → Q r → All P (f r)) → All Q rs → All P (flat_map f rs)
+-- what is so of all that each item gives is so of all together
+pub flat_fits : {X : Type 0} (P : X → Type 0) (f : ℕ → List X) (Q : ℕ → Type 0) (rs : List ℕ) → ((r : ℕ) → Q r → All P (f r)) → All Q rs → All P (flat_map f rs)
 flat_fits P f Q [] each all = All-nil P
 flat_fits P f Q (r ∷ rs) each all = All-append P (f r) (flat_map f rs) (each r (All-head Q r rs all)) (flat_fits P f Q rs each (All-tail Q r rs all))
 
@@ -84,11 +88,14 @@ throughput_fits : (windows : List ℕ) (f : Film) (history : List ℕ) → 0 < r
 throughput_fits windows f [] some = some
 throughput_fits windows f (c ∷ cs) some = greatest_fits _ (rungs_of f) some
 
+-- the first rung of the best list is a rung of the ladder
+pub best_list_fits : (score : List ℕ → ℤ) (count n : ℕ) → 0 < count → slice_index (best_list score (lists_of count n)) 0 < count
+best_list_fits score count n some = first_fits count _ some (best_fits (AreBelow count) score (lists_of count n) (All-nil (λ q. q < count)) (lists_fit count n))
+
 mpc_fits : (horizon : ℕ) (f : Film) (s : Setup) (x : Context) (history : List ℕ) → 0 < rungs_of f → mpc_choice horizon f s x history < rungs_of f
 mpc_fits horizon f s x [] some = some
 mpc_fits horizon f s x (c ∷ cs) some =
-    let n = min horizon (segments_of f - x.next) in
-    first_fits (rungs_of f) _ some (best_fits (AreBelow (rungs_of f)) (horizon_score f s (robust_rate (c ∷ cs)) x.next x.level x.last) (lists_of (rungs_of f) n) (All-nil (λ q. q < rungs_of f)) (lists_fit (rungs_of f) n))
+    best_list_fits (horizon_score f s (robust_rate (c ∷ cs)) x.next x.level x.last) (rungs_of f) (min horizon (segments_of f - x.next)) some
 
 pub choice_fits : (k : RuleKind) (f : Film) (s : Setup) (x : Context) (history : List ℕ) → IsFilm f → KindFits k f → x.next < segments_of f → choice k f s x history < rungs_of f
 choice_fits (fixed q) f s x history is fits next = fits

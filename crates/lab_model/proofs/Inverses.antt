@@ -1,5 +1,5 @@
 -- The inverses of rates, summed.
-use Rattle.std.proofs.Common.{ℕ, ◌*◌, ◌/◌, ◌<◌, ◌≤◌, List, [], ◌∷◌, length, arith}
+use Rattle.std.proofs.Common.{ℕ, ◌*◌, ◌/◌, ◌≤◌, List, [], ◌∷◌, length, arith}
 use Rattle.std.specs.List.{All, sum_by}
 use Rattle.std.proofs.Math.Nat.{div-le_of_le-mul, div-le_self}
 use Rattle.std.proofs.lemmas.Nat.{le-div}

@@ -17,6 +17,10 @@ abbrev pub bola_at_most : ℕ → Film → Setup → Context → ℕ → ℕ →
 bola_at_most g f s c p q =
     int_le (bola_gain g f s c p *ℤ pos (bitrate_of f q)) (bola_gain g f s c q *ℤ pos (bitrate_of f p))
 
+-- no rung's score exceeds that of this one
+abbrev pub bola_is_best : ℕ → Film → Setup → Context → ℕ → Bool
+bola_is_best g f s c q = list_all (λ p. bola_at_most g f s c p q) (rungs_below (rungs_of f))
+
 -- BOLA: the least rung whose score no other exceeds
 abbrev pub bola_choice : ℕ → Film → Setup → Context → ℕ
-bola_choice g f s c = least_rung (λ q. list_all (λ p. bola_at_most g f s c p q) (rungs_below (rungs_of f))) (rungs_of f)
+bola_choice g f s c = least_rung (bola_is_best g f s c) (rungs_of f)

@@ -1,9 +1,10 @@
 pub mod Number
 pub mod Film
 pub mod Cycle
-pub mod Weighing
 pub mod Row
+pub mod Weighing
 pub mod Fit
+pub mod Seeks
 pub mod Rates
 pub mod Sums
 pub mod Ladder
@@ -14,3 +15,4 @@ pub mod Horizon
 pub mod Mpc
 pub mod Choice
 pub mod Reading
+pub mod Kinds

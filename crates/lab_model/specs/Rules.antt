@@ -1,6 +1,6 @@
 -- The five kinds of rule, each with its numbers.
-use Rattle.std.specs.Prelude.{◌≡◌, ℕ, ◌<◌, List, length}
-use Rattle.std.specs.List.{All}
+use Rattle.std.specs.Prelude.{◌≡◌, ℕ, ◌<◌, ◌==◌, ◌&&◌, Bool, true, List, length, nat_lt}
+use Rattle.std.specs.List.{All, list_all}
 use Rattle.lab_model.specs.Film.{Film, rungs_of, segments_of}
 
 -- always one rung; a rung for each segment; throughput by windows; BOLA with its g; RobustMPC with its horizon
@@ -18,3 +18,11 @@ KindFits (listed rungs) f = (length rungs ≡ segments_of f) × All (λ q. q < r
 KindFits (throughput windows) f = Unit {0}
 KindFits (bola g) f = Unit {0}
 KindFits (mpc horizon) f = Unit {0}
+
+-- the same as a test
+abbrev pub kind_fits : RuleKind → Film → Bool
+kind_fits (fixed q) f = nat_lt q (rungs_of f)
+kind_fits (listed rungs) f = (length rungs == segments_of f) && list_all (λ q. nat_lt q (rungs_of f)) rungs
+kind_fits (throughput windows) f = true
+kind_fits (bola g) f = true
+kind_fits (mpc horizon) f = true

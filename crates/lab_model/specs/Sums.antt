@@ -1,5 +1,5 @@
 -- The sums along played segments: the utilities, and how far they change from rung to rung.
-use Rattle.std.specs.Prelude.{ℕ, ◌+◌, List, [], ◌∷◌, Option, Some, None}
+use Rattle.std.specs.Prelude.{ℕ, ◌+◌, List, [], ◌∷◌, Option, Some}
 use Rattle.lab_model.specs.declared.context.Played.{Played}
 use Rattle.lab_model.specs.Weighing.{Weighing, change_of, utility_of}
 

@@ -1,5 +1,6 @@
 -- The throughput rule: what it chooses by the means of the last samples.
-use Rattle.std.specs.Prelude.{ℕ, ◌*◌, ◌/◌, List, [], ◌∷◌, length, map, min, nat_le, sum, fold}
+use Rattle.std.specs.Prelude.{ℕ, ◌*◌, ◌/◌, List, [], ◌∷◌, length, map, min, nat_le, sum, unwrap_or}
+use Rattle.std.specs.List.{reduce}
 use Rattle.lab_model.specs.Film.{Film, rungs_of, bitrate_of}
 use Rattle.lab_model.specs.Ladder.{greatest_rung}
 use Rattle.lab_model.specs.Rates.{last_of}
@@ -10,8 +11,7 @@ window_mean history w = sum (last_of w history) / length (last_of w history)
 
 -- the least of numbers, 0 where there is none
 abbrev pub least : List ℕ → ℕ
-least [] = 0
-least (x ∷ xs) = fold (λ a b. min a b) x xs
+least xs = unwrap_or (reduce min xs) 0
 
 -- the least of the means of the windows
 abbrev pub least_mean : List ℕ → List ℕ → ℕ

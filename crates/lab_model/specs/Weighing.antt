@@ -1,8 +1,7 @@
 -- How a session is weighed: utilities by segment and rung, and three weights.
-use Rattle.std.specs.Prelude.{◌≡◌, ℕ, ◌+◌, ◌-◌, ◌*◌, ◌≤◌, ◌<◌, ◌==◌, List, length, slice_index, max, Option, Some, None, if◌then◌else◌}
+use Rattle.std.specs.Prelude.{ℕ, ◌+◌, ◌*◌, ◌/◌, ◌<◌, ◌==◌, List, length, slice_index, Option, Some, None, if◌then◌else◌}
 use Rattle.std.specs.Int.{abs_diff}
-use Rattle.std.specs.List.{All}
-use Rattle.lab_model.specs.Film.{IsWithin}
+use Rattle.lab_model.specs.Row.{AreUtilities, AreWeights}
 
 -- utilities row by row, the rungs of a row, the rows of a table (0 where one row is every segment's), and the weights
 pub record Weighing : Type 0 where
@@ -18,13 +17,18 @@ abbrev pub weighing : List ℕ → ℕ → ℕ → ℕ → Weighing
 weighing utilities switch stall startup =
     record { utilities = utilities; count = length utilities; rows = 0; switch = switch; stall = stall; startup = startup }
 
--- where the row of a segment begins
-abbrev pub row_start : Weighing → ℕ → ℕ
-row_start w segment = if w.rows == 0 then 0 else segment * w.count
+-- the weights whose table has a row of so many utilities for each segment
+abbrev pub table_weighing : List ℕ → ℕ → ℕ → ℕ → ℕ → Weighing
+table_weighing utilities count switch stall startup =
+    record { utilities = utilities; count = count; rows = length utilities / count; switch = switch; stall = stall; startup = startup }
+
+-- the row of a segment: the one row, or its own
+abbrev pub row_no : Weighing → ℕ → ℕ
+row_no w segment = if w.rows == 0 then 0 else segment
 
 -- the utility of a rung at a segment
 abbrev pub utility_of : Weighing → ℕ → ℕ → ℕ
-utility_of w segment rung = slice_index w.utilities (row_start w segment + rung)
+utility_of w segment rung = slice_index w.utilities (row_no w segment * w.count + rung)
 
 -- the segment has a row, and the rung is one of its rungs
 abbrev pub HasUtility : Weighing → ℕ → ℕ → Type 0
@@ -35,17 +39,7 @@ abbrev pub change_of : Weighing → ℕ → Option ℕ → ℕ → ℕ
 change_of w segment None rung = 0
 change_of w segment (Some before) rung = abs_diff (utility_of w segment rung) (utility_of w segment before)
 
--- along the rungs of a segment utilities do not fall
-pub record RowsRise (w : Weighing) : Type 0 where
-  pub along : (segment rung : ℕ) → segment < max 1 w.rows → rung + 1 < w.count → utility_of w segment rung ≤ utility_of w segment (rung + 1)
-
--- the limits of weights
+-- the limits of weights: 1 to 16 utilities for each row, at most 2000 rows of a table, and each row and weight within its own
 pub record IsWeighing (w : Weighing) : Type 0 where
-  pub count : IsWithin 1 16 w.count
-  pub rows : w.rows ≤ 2000
-  pub whole : length w.utilities ≡ max 1 w.rows * w.count
-  pub utilities : All (λ u. u ≤ 1000000) w.utilities
-  pub rise : RowsRise w
-  pub switch : w.switch ≤ 1000000
-  pub stall : w.stall ≤ 1000000
-  pub startup : w.startup ≤ 1000000
+  pub utilities : AreUtilities w.utilities w.count w.rows
+  pub weights : AreWeights w.switch w.stall w.startup

@@ -1,5 +1,10 @@
 //! Faults of input files: their kind, their key and their place.
 
+ghost use Rattle.std.specs.Prelude.{◌≡◌};
+ghost use Rattle.lab_model.specs.Kinds.{kind_number};
+
+use std::alloc::{AllocError, AllocFailed};
+
 /// What is wrong.
 #[derive(Clone, Copy, PartialEq, Eq, Debug)]
 pub enum Kind {
@@ -25,6 +30,15 @@ pub enum Kind {
     TooSlow = 10,
     /// A line of a certificate doesn't have its form.
     CertLine = 11,
+}
+
+impl Kind {
+    /// The number of the kind, 1 to 11.
+    pub fn number(self) -> u8
+        ensures { result ≡ kind_number self }
+    {
+        self as u8
+    }
 }
 
 /// Where it is wrong.
@@ -82,4 +96,28 @@ pub enum InputFault {
     Memory,
     /// The bytes are refused.
     Refused(Refusal),
+}
+
+impl From<AllocError> for InputFault {
+    ghost use Rattle.lab_model.specs.declared.fault.InputFault.{InputFault};
+    ghost use Rattle.lab_model.specs.declared.fault.InputFault.TheVariants.{Memory};
+    ghost use Rattle.std.specs.Prelude.{◌≡◌};
+
+    ghost from_gives = { λ _ fault. fault ≡ Memory };
+
+    fn from(_refused: AllocError) -> InputFault {
+        InputFault::Memory
+    }
+}
+
+impl<T: Drop> From<AllocFailed<T>> for InputFault {
+    ghost use Rattle.lab_model.specs.declared.fault.InputFault.{InputFault};
+    ghost use Rattle.lab_model.specs.declared.fault.InputFault.TheVariants.{Memory};
+    ghost use Rattle.std.specs.Prelude.{◌≡◌};
+
+    ghost from_gives = { λ _ fault. fault ≡ Memory };
+
+    fn from(_refused: AllocFailed<T>) -> InputFault {
+        InputFault::Memory
+    }
 }

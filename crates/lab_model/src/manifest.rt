@@ -51,7 +51,8 @@ fn is_rising(numbers: &[u32]) -> bool
 }
 
 fn is_ladder(bitrates: &[u32]) -> bool
-    ensures { IsTrue result ↔ (IsWithin 1 16 (length bitrates.now) × IsStrictlyIncreasing bitrates.now × All (IsWithin 1 10000000) bitrates.now) }
+    ensures { IsTrue result ↔ (IsWithin 1 16 (length bitrates.now)
+        × IsStrictlyIncreasing bitrates.now × All (IsWithin 1 10000000) bitrates.now) }
 {
     !bitrates.is_empty()
         && bitrates.len() <= 16
@@ -61,7 +62,8 @@ fn is_ladder(bitrates: &[u32]) -> bool
 
 fn are_rows(sizes: &[u32], rungs: usize) -> bool
     requires { IsWithin 1 16 rungs }
-    ensures { IsTrue result ↔ ((length sizes.now ≡ length sizes.now / rungs * rungs) × IsWithin 1 2000 (length sizes.now / rungs) × All (IsWithin 1 200000000) sizes.now) }
+    ensures { IsTrue result ↔ ((length sizes.now ≡ length sizes.now / rungs * rungs)
+        × IsWithin 1 2000 (length sizes.now / rungs) × All (IsWithin 1 200000000) sizes.now) }
 {
     let segments = sizes.len() / rungs;
     sizes.len() % rungs == 0
@@ -129,8 +131,10 @@ impl Manifest {
     /// The greatest rung whose bitrate, `factor` times, is at most `limit`, or 0 where there is none.
     #[tactic(auto, using(crate::proofs::Rungs::greatest_more, crate::proofs::Rungs::greatest_none))]
     pub fn greatest_rung(&self, factor: u16, limit: u64) -> u8
-        ensures value { result ≡ greatest_rung (λ q. nat_le (factor * bitrate_of self.now q) limit) (rungs_of self.now) }
+        ensures value { result ≡
+            greatest_rung (λ q. nat_le (factor * bitrate_of self.now q) limit) (rungs_of self.now) }
         ensures rung { result < rungs_of self.now }
+        ensures film { IsFilm self.now }
     {
         let mut best = 0u8;
         for q in 0..self.rungs() {

@@ -1,7 +1,7 @@
 //! What a session is played with.
 
 ghost use Rattle.std.specs.Prelude.{◌≡◌, ◌↔◌, IsTrue};
-ghost use Rattle.lab_model.specs.Fit.{SetupFits};
+ghost use Rattle.lab_model.specs.Fit.{SetupFits, buffer_fits, utilities_fit};
 
 use crate::manifest::Manifest;
 use crate::weights::Weights;
@@ -17,16 +17,30 @@ pub struct Setup {
     pub abandon: bool,
 }
 
+/// The most media that a player may hold ahead, in milliseconds.
+const MOST_BUFFER_MS: u32 = 10_000_000;
+
 impl Setup {
-    /// Whether the buffer is between the segment duration and 10000000 ms, each rung has a utility, and a utility table
-    /// has a row for each segment.
+    /// Whether the buffer is between the segment duration and 10000000 ms.
+    pub fn buffer_fits(&self, m: &Manifest) -> bool
+        ensures { result ≡ buffer_fits self.now m.now }
+    {
+        m.seg_ms() <= self.buffer_ms && self.buffer_ms <= MOST_BUFFER_MS
+    }
+
+    /// Whether each rung has a utility, and a utility table a row for each segment.
+    pub fn utilities_fit(&self, m: &Manifest) -> bool
+        ensures { result ≡ utilities_fit self.now m.now }
+    {
+        let rows = self.weights.rows();
+        self.weights.count() == m.rungs() && (rows == 0 || rows == m.segments())
+    }
+
+    /// Whether the buffer and the utilities fit.
+    #[tactic(auto, using(crate::proofs::Fits::setup_passes))]
     pub fn fits(&self, m: &Manifest) -> bool
         ensures { IsTrue result ↔ SetupFits self.now m.now }
     {
-        let rows = self.weights.rows();
-        m.seg_ms() <= self.buffer_ms
-            && self.buffer_ms <= 10_000_000
-            && self.weights.count() == m.rungs()
-            && (rows == 0 || rows == m.segments())
+        self.buffer_fits(m) && self.utilities_fit(m)
     }
 }

@@ -1,7 +1,8 @@
 //! Each public call on its happy path, and the limits at their edges.
 
 use crate::{
-    Manifest, Period, Sample, Setup, Trace, Weights, ceil_div, cmp_fraction, floor_mean, harmonic,
+    Kind, Manifest, Period, Sample, Setup, Trace, Weights, ceil_div, cmp_fraction, floor_mean,
+    harmonic,
 };
 use std::alloc::Global;
 use std::cmp::Ordering;
@@ -98,25 +99,54 @@ fn setups_fit_their_manifest(rt: HostRuntime) -> Result<(), Fail> {
         );
         assert!(rt; weights.count() > 1 && weights.rows() == 0);
         assert_eq!(rt; weights.utility(7, 1), 10);
+        assert_eq!(rt;
+            (weights.change(7, None, 1), weights.change(7, Some(1), 0)),
+            (0, 10)
+        );
         let set = Setup {
             buffer_ms,
             weights,
             abandon: false,
         };
-        assert_eq!(rt; set.fits(&m), fits);
+        assert_eq!(rt; (set.buffer_fits(&m), set.fits(&m)), (fits, fits));
     }
     let few = Weights::from_parts([0].to_vec(rt.alloc())?, 0, 100, 1).ok_or("refused")?;
-    assert!(rt;
-        !Setup {
-            buffer_ms: 1000,
-            weights: few,
-            abandon: false
-        }
-        .fits(&m)
-    );
+    let short = Setup {
+        buffer_ms: 1000,
+        weights: few,
+        abandon: false,
+    };
+    assert!(rt; short.buffer_fits(&m) && !short.utilities_fit(&m) && !short.fits(&m));
     assert!(rt; Weights::from_parts([10, 0].to_vec(rt.alloc())?, 0, 100, 1).is_none());
     assert!(rt; Weights::from_parts([0].to_vec(rt.alloc())?, 0, 1_000_001, 1).is_none());
     Ok(())
+}
+
+#[test]
+fn tables_have_whole_rows(rt: HostRuntime) -> Result<(), Fail> {
+    let rows = [0, 10, 3, 4].to_vec(rt.alloc())?;
+    let table = Weights::from_table(rows, 2, 1, 100, 2).ok_or("refused")?;
+    assert_eq!(rt; (table.count(), table.rows()), (2, 2));
+    assert!(rt; table.count() > 1 && table.rows() > 1);
+    assert_eq!(rt; (table.utility(0, 1), table.utility(1, 0)), (10, 3));
+    for (rungs, fits) in [
+        (0, false),
+        (1, true),
+        (2, true),
+        (3, false),
+        (4, false),
+        (17, false),
+    ] {
+        let rows = [0, 10, 3, 4].to_vec(rt.alloc())?;
+        assert_eq!(rt; Weights::from_table(rows, rungs, 0, 0, 0).is_some(), fits);
+    }
+    Ok(())
+}
+
+#[test]
+fn kinds_have_numbers(rt: HostRuntime) {
+    assert_eq!(rt; Kind::NotJson.number(), 1);
+    assert_eq!(rt; Kind::CertLine.number(), 11);
 }
 
 #[test]

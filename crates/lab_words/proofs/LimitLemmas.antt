@@ -1,20 +1,30 @@
 -- What a command line asks for keeps its limits.
-use Rattle.std.proofs.Common.{◌≡◌, ◌&&◌, ◌<◌, ◌≤◌, ◌+◌, ◌⊎◌, ℕ, List, [], ◌∷◌, Bool, true, false, Option, Some, None, Result, Ok, Err, IfOk, length, refl, sym, ap, subst, arith, cond, inl, inr, zero, suc, option_map, option_and_then, codes, zero-add, lit≤}
+use Rattle.std.proofs.Common.{◌≡◌, ◌++◌, length-append, ◌&&◌, ◌<◌, ◌≤◌, ◌+◌, ◌⊎◌, ℕ, List, [], ◌∷◌, Bool, true, false, Option, Some, None, Result, Ok, Err, IfOk, length, refl, sym, ap, subst, arith, cond, inl, inr, zero, suc, option_map, option_and_then, codes, lit≤}
 use Rattle.std.proofs.lemmas.Bool.Decides.{nat_tests}
 use Rattle.std.proofs.lemmas.List.Splits.{length-slice_split}
-use Rattle.std.specs.List.{All, after_first, before_first}
+use Rattle.std.specs.List.{All, after_first, before_first, list_any, slice_split}
 use Rattle.std.specs.Prelude.{nat_le, slice_index, ◌==◌}
 use Rattle.std.specs.Str.{bytes_eq}
 use Rattle.std.specs.Str.Parse.{digits_value}
-use Rattle.clap.specs.Walk.{Row}
+use Rattle.clap.specs.Walk.{Row, all_of}
+use Rattle.indexmap.specs.IndexSet.{insert_all, insert_key}
 use Rattle.lab_model.specs.Film.{IsWithin}
 use Rattle.lab_model.specs.Rules.{RuleKind, fixed, listed, throughput, bola, mpc}
+use Rattle.lab_model.proofs.Rows.{weighing_within}
 use Rattle.lab_model.specs.Weighing.{IsWeighing, weighing}
 use Rattle.lab_words.specs.Limits.{IsRuleWithin, IsWithinLimits}
 use Rattle.lab_words.specs.Rules.{has_colon, rule_of, rule_of_kind}
 use Rattle.lab_words.specs.Spelling.{Text, all_numbers, in_range, is_number, never_falls, number_of, numbers_of, pieces_of, unless_falling, utilities_of}
-use Rattle.lab_words.specs.Table.{accepted, simulate_app}
-use Rattle.lab_words.specs.Words.{CommandWords, Gives, SettingsWords, asked_of, is_given, view, number_in, number_or, optional, required, rule_in, settings_in, simulate_in, utilities_in, ◌>>=◌}
+use Rattle.lab_words.specs.Check.{check_app, check_in}
+use Rattle.lab_words.specs.Command.{CommandWords, blank, view}
+use Rattle.lab_words.specs.Demo.{demo_app, demo_in}
+use Rattle.lab_words.specs.Plan.{plan_app, plan_in}
+use Rattle.lab_words.specs.Settings.{SettingsWords, settings_in, utilities_in, with_settings}
+use Rattle.lab_words.specs.Compare.{at_most, compare_app, compare_in, distinct, few, named_rule, named_rules, rules_in, traces_in}
+use Rattle.lab_words.specs.Simulate.{simulate_app, simulate_in}
+use Rattle.lab_words.specs.Table.{accepted}
+use Rattle.lab_words.specs.Values.{Gives, is_given, is_stray, several, some_plain, number_in, number_or, optional, required, rule_in, ◌>>=◌}
+use Rattle.lab_words.specs.Words.{asked_of}
 use Rattle.lab_words.specs.declared.Command.{Command}
 use Rattle.lab_words.specs.declared.Verb.{Verb}
 use Rattle.lab_words.specs.declared.Verb.TheVariants as verb
@@ -25,6 +35,10 @@ use Rattle.lab_words.specs.declared.WordsErr.{WordsErr}
 chosen : {A : Type 0} (b : Bool) (o : Option A) (y : A) → cond b o None ≡ Some y → (b ≡ true) × (o ≡ Some y)
 chosen true o y h = (refl, h)
 chosen false o y h = cc
+
+unchosen : {A : Type 0} (b : Bool) (o : Option A) (y : A) → cond b None o ≡ Some y → o ≡ Some y
+unchosen true o y h = cc
+unchosen false o y h = h
 
 bound : {A B : Type 0} (o : Option A) (f : A → Option B) (y : B) → (o >>= f) ≡ Some y → (x : A) × (o ≡ Some x) × (f x ≡ Some y)
 bound (Some x) f y h = (x, refl, h)
@@ -111,17 +125,9 @@ utilities_within text ns h =
     let listed' = list_within 16 0 1000000 text read.0 read.1 in
     subst (λ (xs : List ℕ). IsRising xs) same (record { count = listed'.0; each = listed'.1; rise = risen read.0 kept.0 })
 
-weighing_within : (ns : List ℕ) (switch stall startup : ℕ) → IsRising ns → IsWithin 0 1000000 switch → IsWithin 0 1000000 stall → IsWithin 0 1000000 startup → IsWeighing (weighing ns switch stall startup)
-weighing_within ns switch stall startup up w l s = record {
-  count = up.count;
-  rows = omega arith;
-  whole = omega arith;
-  utilities = λ k d lt. (up.each k d lt).1;
-  rise = record { along = λ segment rung first lt. rw (zero-add rung, zero-add (rung + 1)) (up.rise rung lt) };
-  switch = w.1;
-  stall = l.1;
-  startup = s.1;
-}
+weighing_of : (ns : List ℕ) (switch stall startup : ℕ) → IsRising ns → IsWithin 0 1000000 switch → IsWithin 0 1000000 stall → IsWithin 0 1000000 startup → IsWeighing (weighing ns switch stall startup)
+weighing_of ns switch stall startup up w l s =
+    weighing_within ns switch stall startup up.count (record { limits = λ k d lt. (up.each k d lt).1; rise = up.rise }) (record { switch_fits = w.1; stall_fits = l.1; startup_fits = s.1 })
 
 -- ---- rules
 
@@ -194,7 +200,7 @@ settings_within rows s h =
     let same : made ≡ s = cc (startup.2) in
     subst AreWithin same (record {
       buffer = option_within 25000 1 10000000 (codes "buffer") rows buffer.0 (lit≤ tt, lit≤ tt) buffer.1;
-      weights = weighing_within utilities.0 switch.0 stall.0 startup.0 (utilities_within text.0 utilities.0 text.2)
+      weights = weighing_of utilities.0 switch.0 stall.0 startup.0 (utilities_within text.0 utilities.0 text.2)
           (option_within 0 0 1000000 (codes "switch") rows switch.0 (lit≤ tt, lit≤ tt) switch.1)
           (option_within 100 0 1000000 (codes "stall") rows stall.0 (lit≤ tt, lit≤ tt) stall.1)
           (option_within 1 0 1000000 (codes "startup") rows startup.0 (lit≤ tt, lit≤ tt) startup.1);
@@ -213,35 +219,189 @@ simulate_within rows c h =
     let settings = bound (settings_in rows) _ c rule.2 in
     let seeks = bound (optional (codes "seeks") rows) _ c settings.2 in
     let within = settings_within rows settings.0 settings.1 in
-    let made : CommandWords = record {
-      verb = verb.Simulate;
+    let made : CommandWords = record (with_settings settings.0 (blank verb.Simulate)) {
       manifest = manifest.0;
       traces = trace.0 ∷ [];
       rules = rule.0 ∷ [];
-      buffer_ms = settings.0.buffer_ms;
-      utilities = settings.0.utilities;
-      switch = settings.0.switch;
-      stall = settings.0.stall;
-      startup = settings.0.startup;
       abandon = is_given (codes "abandon") rows;
       seeks = seeks.0;
     } in
     let same : made ≡ c = cc (seeks.2) in
     subst IsWithinLimits same (record {
-      verb = tt;
-      traces = refl;
-      rules = refl;
+      counts = (refl, refl);
       spoken = alone (λ (r : Text × RuleKind). IsRuleWithin r.1) rule.0 (named_within rows rule.0 rule.1);
-      buffer = within.buffer;
-      weights = within.weights;
+      buffer = λ film. within.buffer;
+      weights = λ film. within.weights;
+      own = tt;
+    })
+
+-- ---- rules and traces without repeats
+
+at_most_within : (most : ℕ) (texts kept : List Text) → at_most most texts ≡ Some kept → (texts ≡ kept) × (length kept ≤ most)
+at_most_within most texts kept h =
+    let split = chosen (nat_le (length texts) most) (Some texts) kept h in
+    let same : texts ≡ kept = cc (split.1) in
+    (same, subst (λ (ts : List Text). length ts ≤ most) same (le_from (length texts) most split.0))
+
+insert_keeps : (ks : List Text) (k : Text) → length ks ≤ length (insert_key bytes_eq ks k)
+insert_keeps ks k = go (list_any (bytes_eq k) ks)
+  where
+    go : (b : Bool) → length ks ≤ length (cond b ks (ks ++ k ∷ []))
+    go true = omega arith
+    go false = let more = length-append ks (k ∷ []) in omega (arith, more)
+
+all_keep : (ks texts : List Text) → length ks ≤ length (insert_all bytes_eq ks texts)
+all_keep ks [] = omega arith
+all_keep ks (text ∷ texts) = let here = insert_keeps ks text in let later = all_keep (insert_key bytes_eq ks text) texts in omega (arith, here, later)
+
+some_distinct : (texts : List Text) → 1 ≤ length texts → 1 ≤ length (distinct texts)
+some_distinct [] h = absurd (omega (arith, h))
+some_distinct (text ∷ texts) h = let later = all_keep (text ∷ []) texts in omega (arith, later)
+
+few_within : (most : ℕ) (texts kept : List Text) → 1 ≤ length texts → few most texts ≡ Some kept → IsWithin 1 most (length kept)
+unfolding few
+few_within most texts kept some h =
+    let got = at_most_within most (distinct texts) kept h in
+    (subst (λ (ts : List Text). 1 ≤ length ts) got.0 (some_distinct texts some), got.1)
+
+named_within_all : (texts : List Text) (rules : List (Text × RuleKind)) → named_rules texts ≡ Some rules → All (λ r. IsRuleWithin r.1) rules × (length rules ≡ length texts)
+named_within_all [] rules h =
+    let none : [] ≡ rules = cc in
+    subst (λ (rs : List (Text × RuleKind)). All (λ r. IsRuleWithin r.1) rs × (length rs ≡ 0)) none ((λ k d lt. absurd (omega arith)), refl)
+named_within_all (text ∷ texts) rules h =
+    let first = went _ (named_rule text) rules h in
+    let kind = mapped (λ rule. (text, rule)) (rule_of text) first.0 first.1 in
+    let rest = mapped (λ rs. first.0 ∷ rs) (named_rules texts) rules first.2 in
+    let later = named_within_all texts rest.0 rest.1 in
+    let here = subst (λ (r : Text × RuleKind). IsRuleWithin r.1) (sym kind.2) (rule_within text kind.0 kind.1) in
+    subst (λ (rs : List (Text × RuleKind)). All (λ r. IsRuleWithin r.1) rs × (length rs ≡ suc (length texts))) (sym rest.2)
+    (both_within first.0 rest.0 here later.0, ap suc later.1)
+  where
+    both_within : (r : Text × RuleKind) (rs : List (Text × RuleKind)) → IsRuleWithin r.1 → All (λ q. IsRuleWithin q.1) rs → All (λ q. IsRuleWithin q.1) (r ∷ rs)
+    both_within r rs here there zero d lt = here
+    both_within r rs here there (suc k) d lt = there k d (omega arith)
+
+abbrev AreRulesWithin : List (Text × RuleKind) → Type 0
+AreRulesWithin rules = IsWithin 1 32 (length rules) × All (λ r. IsRuleWithin r.1) rules
+
+rules_within : (rows : List Row) (rules : List (Text × RuleKind)) → rules_in rows ≡ Some rules → AreRulesWithin rules
+unfolding rules_in
+rules_within rows rules h =
+    let text = bound (required (codes "rules") rows) _ rules h in
+    let names = bound (few 32 (slice_split (λ b. b == 47) text.0)) _ rules text.2 in
+    let each = named_within_all names.0 rules names.2 in
+    let count = few_within 32 (slice_split (λ b. b == 47) text.0) names.0 (omega (arith, length-slice_split (λ b. b == 47) text.0)) names.1 in
+    (subst (IsWithin 1 32) (sym each.1) count, each.0)
+
+plain_some : (texts kept : List Text) → some_plain texts ≡ Some kept → 1 ≤ length kept
+plain_some [] kept h = cc
+plain_some (text ∷ texts) kept h =
+    let split = unchosen (list_any is_stray (text ∷ texts)) (Some (text ∷ texts)) kept h in
+    let same : (text ∷ texts) ≡ kept = cc (split) in
+    subst (λ (ts : List Text). 1 ≤ length ts) same (omega arith)
+
+traces_within : (rows : List Row) (traces : List Text) → traces_in rows ≡ Some traces → IsWithin 1 64 (length traces)
+unfolding traces_in several
+traces_within rows traces h =
+    let given = went (few 64) (several (codes "trace") rows) traces h in
+    let texts = went some_plain (all_of (codes "trace") rows) given.0 given.1 in
+    few_within 64 given.0 traces (plain_some texts.0 given.0 texts.2) given.2
+
+compare_within : (rows : List Row) (c : CommandWords) → compare_in rows ≡ Some c → IsWithinLimits c
+unfolding compare_in
+compare_within rows c h =
+    let manifest = bound (required (codes "manifest") rows) _ c h in
+    let rules = bound (rules_in rows) _ c manifest.2 in
+    let settings = bound (settings_in rows) _ c rules.2 in
+    let seeks = bound (optional (codes "seeks") rows) _ c settings.2 in
+    let traces = bound (traces_in rows) _ c seeks.2 in
+    let within = settings_within rows settings.0 settings.1 in
+    let named' = rules_within rows rules.0 rules.1 in
+    let made : CommandWords = record (with_settings settings.0 (blank verb.Compare)) {
+      manifest = manifest.0;
+      traces = traces.0;
+      rules = rules.0;
+      abandon = is_given (codes "abandon") rows;
+      seeks = seeks.0;
+    } in
+    let same : made ≡ c = cc (traces.2) in
+    subst IsWithinLimits same (record {
+      counts = (traces_within rows traces.0 traces.1, named'.0);
+      spoken = named'.1;
+      buffer = λ film. within.buffer;
+      weights = λ film. within.weights;
+      own = tt;
+    })
+
+no_rules : All (λ (r : Text × RuleKind). IsRuleWithin r.1) []
+no_rules = λ k d lt. absurd (omega arith)
+
+plan_within : (rows : List Row) (c : CommandWords) → plan_in rows ≡ Some c → IsWithinLimits c
+unfolding plan_in
+plan_within rows c h =
+    let manifest = bound (required (codes "manifest") rows) _ c h in
+    let trace = bound (required (codes "trace") rows) _ c manifest.2 in
+    let settings = bound (settings_in rows) _ c trace.2 in
+    let budget = bound (number_in 200000 1 1000000 (codes "budget") rows) _ c settings.2 in
+    let within = settings_within rows settings.0 settings.1 in
+    let made : CommandWords = record (with_settings settings.0 (blank verb.Plan)) {
+      manifest = manifest.0;
+      traces = trace.0 ∷ [];
+      budget = budget.0;
+      as_certificate = is_given (codes "as-certificate") rows;
+    } in
+    let same : made ≡ c = cc (budget.2) in
+    subst IsWithinLimits same (record {
+      counts = (refl, refl);
+      spoken = no_rules;
+      buffer = λ film. within.buffer;
+      weights = λ film. within.weights;
+      own = option_within 200000 1 1000000 (codes "budget") rows budget.0 (lit≤ tt, lit≤ tt) budget.1;
+    })
+
+check_within : (rows : List Row) (c : CommandWords) → check_in rows ≡ Some c → IsWithinLimits c
+unfolding check_in
+check_within rows c h =
+    let manifest = bound (required (codes "manifest") rows) _ c h in
+    let trace = bound (required (codes "trace") rows) _ c manifest.2 in
+    let settings = bound (settings_in rows) _ c trace.2 in
+    let certificate = bound (required (codes "certificate") rows) _ c settings.2 in
+    let within = settings_within rows settings.0 settings.1 in
+    let made : CommandWords = record (with_settings settings.0 (blank verb.Check)) {
+      manifest = manifest.0;
+      traces = trace.0 ∷ [];
+      certificate = Some certificate.0;
+    } in
+    let same : made ≡ c = cc (certificate.2) in
+    subst IsWithinLimits same (record {
+      counts = (refl, refl);
+      spoken = no_rules;
+      buffer = λ film. within.buffer;
+      weights = λ film. within.weights;
+      own = refl;
+    })
+
+demo_within : (rows : List Row) (c : CommandWords) → demo_in rows ≡ Some c → IsWithinLimits c
+unfolding demo_in
+demo_within rows c h =
+    let text = bound (required (codes "number") rows) _ c h in
+    let number = bound (number_of 0 2147483647 text.0) _ c text.2 in
+    let made : CommandWords = record (blank verb.Demo) { number = number.0 } in
+    let same : made ≡ c = cc (number.2) in
+    subst IsWithinLimits same (record {
+      counts = (refl, refl);
+      spoken = no_rules;
+      buffer = λ film. absurd film;
+      weights = λ film. absurd film;
+      own = (number_within 0 2147483647 text.0 number.0 number.1).1;
     })
 
 asked_within : (v : Verb) (words : List Text) (c : CommandWords) → asked_of v words ≡ Some c → IsWithinLimits c
 asked_within verb.Simulate words c h = let rows = went simulate_in (accepted simulate_app words) c h in simulate_within rows.0 c rows.2
-asked_within verb.Compare words c h = cc
-asked_within verb.Plan words c h = cc
-asked_within verb.Check words c h = cc
-asked_within verb.Demo words c h = cc
+asked_within verb.Compare words c h = let rows = went compare_in (accepted compare_app words) c h in compare_within rows.0 c rows.2
+asked_within verb.Plan words c h = let rows = went plan_in (accepted plan_app words) c h in plan_within rows.0 c rows.2
+asked_within verb.Check words c h = let rows = went check_in (accepted check_app words) c h in check_within rows.0 c rows.2
+asked_within verb.Demo words c h = let rows = went demo_in (accepted demo_app words) c h in demo_within rows.0 c rows.2
 
 -- a call that gave what the words behind a command's name ask for
 pub gives_within : (v : Verb) (words : List Text) (r : Result Command WordsErr) → Gives view r (asked_of v words) → IfOk r (λ c. IsWithinLimits (view c))

@@ -10,11 +10,32 @@ use Rattle.clap.specs.declared.error.Error.{Error}
 use Rattle.clap.specs.declared.error.kind.ErrorKind.TheVariants.{OutOfMemory}
 use Rattle.clap.specs.declared.parser.matches.ArgMatches.{ArgMatches}
 use Rattle.clap.proofs.WalkLemmas.{both}
-use Rattle.lab_words.specs.Table.{accepted, is_fault_free, simulate_app, table_app, with_words}
+use Rattle.lab_words.specs.Check.{check_app}
+use Rattle.lab_words.specs.Compare.{compare_app}
+use Rattle.lab_words.specs.Demo.{demo_app}
+use Rattle.lab_words.specs.Plan.{plan_app}
+use Rattle.lab_words.specs.Simulate.{simulate_app}
+use Rattle.lab_words.specs.Table.{accepted, is_fault_free, table_app, with_words}
 
 pub simulate_simple : is_simple_and_free simulate_app ≡ true
 unfolding simulate_app table_app with_words
 simulate_simple = refl
+
+pub compare_simple : is_simple_and_free compare_app ≡ true
+unfolding compare_app table_app with_words
+compare_simple = refl
+
+pub plan_simple : is_simple_and_free plan_app ≡ true
+unfolding plan_app table_app with_words
+plan_simple = refl
+
+pub check_simple : is_simple_and_free check_app ≡ true
+unfolding check_app table_app with_words
+check_simple = refl
+
+pub demo_simple : is_simple_and_free demo_app ≡ true
+unfolding demo_app table_app with_words
+demo_simple = refl
 
 -- the matches of a command that is the simple one b
 pub matched : (a b : App) (ws : List Text) (m : ArgMatches) → a ≡ b → is_simple_and_free b ≡ true → (is_simple_and_free a ≡ true → fault_of a ws ≡ []) → HasMatchesOf a ws m

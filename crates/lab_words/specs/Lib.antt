@@ -1,5 +1,13 @@
-pub mod Limits
-pub mod Rules
 pub mod Spelling
+pub mod Rules
+pub mod Command
 pub mod Table
+pub mod Values
+pub mod Settings
+pub mod Simulate
+pub mod Compare
+pub mod Plan
+pub mod Check
+pub mod Demo
 pub mod Words
+pub mod Limits

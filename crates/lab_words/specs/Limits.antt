@@ -1,10 +1,10 @@
 -- The limits that what a command line asks for keeps.
-use Rattle.std.specs.Prelude.{◌≡◌, length}
+use Rattle.std.specs.Prelude.{◌≡◌, ◌≤◌, ℕ, IsSome, length}
 use Rattle.std.specs.List.{All}
 use Rattle.lab_model.specs.Film.{IsWithin}
 use Rattle.lab_model.specs.Rules.{RuleKind, fixed, listed, throughput, bola, mpc}
 use Rattle.lab_model.specs.Weighing.{IsWeighing, weighing}
-use Rattle.lab_words.specs.Words.{CommandWords}
+use Rattle.lab_words.specs.Command.{CommandWords}
 use Rattle.lab_words.specs.declared.Verb.{Verb}
 use Rattle.lab_words.specs.declared.Verb.TheVariants.{Simulate, Compare, Plan, Check, Demo}
 
@@ -16,19 +16,34 @@ IsRuleWithin (throughput windows) = IsWithin 1 4 (length windows) × All (IsWith
 IsRuleWithin (bola g) = IsWithin 1 1000000 g
 IsRuleWithin (mpc horizon) = IsWithin 1 5 horizon
 
--- the commands that are built
-abbrev pub IsBuilt : Verb → Type 0
-IsBuilt Simulate = Unit {0}
-IsBuilt Compare = ⊥
-IsBuilt Plan = ⊥
-IsBuilt Check = ⊥
-IsBuilt Demo = ⊥
+-- how many traces and rules each command names
+abbrev pub AreCounted : Verb → ℕ → ℕ → Type 0
+AreCounted Simulate traces rules = (traces ≡ 1) × (rules ≡ 1)
+AreCounted Compare traces rules = IsWithin 1 64 traces × IsWithin 1 32 rules
+AreCounted Plan traces rules = (traces ≡ 1) × (rules ≡ 0)
+AreCounted Check traces rules = (traces ≡ 1) × (rules ≡ 0)
+AreCounted Demo traces rules = (traces ≡ 0) × (rules ≡ 0)
 
--- one trace, one rule, and each number within its limits
+-- the command is about a film of the files
+abbrev pub HasFilm : Verb → Type 0
+HasFilm Simulate = Unit {0}
+HasFilm Compare = Unit {0}
+HasFilm Plan = Unit {0}
+HasFilm Check = Unit {0}
+HasFilm Demo = ⊥
+
+-- what one command alone has: the budget of `plan`, the certificate of `check`, the number of `demo`
+abbrev pub HasItsOwn : Verb → CommandWords → Type 0
+HasItsOwn Simulate c = Unit {0}
+HasItsOwn Compare c = Unit {0}
+HasItsOwn Plan c = IsWithin 1 1000000 c.budget
+HasItsOwn Check c = IsSome c.certificate
+HasItsOwn Demo c = c.number ≤ 2147483647
+
+-- the counts, the rules, the settings and what one command alone has, within their limits
 pub record IsWithinLimits (c : CommandWords) : Type 0 where
-  pub verb : IsBuilt c.verb
-  pub traces : length c.traces ≡ 1
-  pub rules : length c.rules ≡ 1
+  pub counts : AreCounted c.verb (length c.traces) (length c.rules)
   pub spoken : All (λ r. IsRuleWithin r.1) c.rules
-  pub buffer : IsWithin 1 10000000 c.buffer_ms
-  pub weights : IsWeighing (weighing c.utilities c.switch c.stall c.startup)
+  pub buffer : HasFilm c.verb → IsWithin 1 10000000 c.buffer_ms
+  pub weights : HasFilm c.verb → IsWeighing (weighing c.utilities c.switch c.stall c.startup)
+  pub own : HasItsOwn c.verb c

@@ -1,18 +1,9 @@
 -- How numbers and lists of numbers are spelled on the command line.
-use Rattle.std.specs.Prelude.{ℕ, ◌&&◌, ◌==◌, Bool, true, false, not, List, [], ◌∷◌, Option, Some, None, length, if◌then◌else◌, nat_le, option_map, option_and_then}
+use Rattle.std.specs.Prelude.{ℕ, ◌&&◌, ◌==◌, Bool, true, List, [], ◌∷◌, Option, Some, None, length, if◌then◌else◌, nat_le, option_map, option_and_then}
 use Rattle.std.specs.List.{slice_split}
-use Rattle.std.specs.Str.{all_ascii_digits}
 use Rattle.std.specs.Str.Parse.{digits_value}
-
--- a text, by its bytes
-abbrev pub Text : Type 0
-Text = List ℕ
-
--- `0`, or digits of which the first isn't `0`
-abbrev pub is_number : Text → Bool
-is_number [] = false
-is_number (c ∷ []) = all_ascii_digits (c ∷ [])
-is_number (c ∷ d ∷ cs) = not (c == 48) && all_ascii_digits (c ∷ d ∷ cs)
+pub use Rattle.lab_io.specs.Number.{is_number}
+pub use Rattle.lab_io.specs.Sink.{Text}
 
 -- n, where it is from `least` to `most`
 abbrev pub in_range : ℕ → ℕ → ℕ → Option ℕ

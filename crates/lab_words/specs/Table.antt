@@ -1,5 +1,5 @@
 -- A command as a table of its words, and what `clap` makes of it.
-use Rattle.std.specs.Prelude.{true, false, Bool, List, [], ◌∷◌, Option, Some, None, codes, if◌then◌else◌}
+use Rattle.std.specs.Prelude.{true, false, Bool, List, [], ◌∷◌, Option, Some, None, if◌then◌else◌}
 use Rattle.clap.specs.Faults.{fault_of}
 use Rattle.clap.specs.Kinds.{Kinds}
 use Rattle.clap.specs.Simple.{App, new_app, new_rule, with_rule, on_top, matches_of}
@@ -31,9 +31,9 @@ unfoldable pub with_words : App → List (Text × Kind) → App
 with_words a [] = a
 with_words a (w ∷ ws) = with_words (with_rule a (rule_of_word w.1 w.0)) ws
 
--- the command of this name with the words of this table
-unfoldable pub table_app : Text → List (Text × Kind) → App
-table_app name ws = with_words (plain_app name) ws
+-- the command of this name with its own words, and those that it shares with others
+unfoldable pub table_app : Text → List (Text × Kind) → List (Text × Kind) → App
+table_app name own shared = with_words (with_words (plain_app name) own) shared
 
 -- no fault was found
 abbrev pub is_fault_free : Kinds → Bool
@@ -43,21 +43,3 @@ is_fault_free (k ∷ ks) = false
 -- the matches of `clap`'s own account of a command, where it finds no fault in the words
 unfoldable pub accepted : App → List Text → Option (List Row)
 accepted app words = if is_fault_free (fault_of app words) then Some (matches_of app words) else None
-
--- the words of `simulate`
-abbrev pub simulate_words : List (Text × Kind)
-simulate_words = (codes "manifest", kind.Required)
-    ∷ (codes "trace", kind.Required)
-    ∷ (codes "rule", kind.Optional)
-    ∷ (codes "buffer", kind.Optional)
-    ∷ (codes "utilities", kind.Optional)
-    ∷ (codes "switch", kind.Optional)
-    ∷ (codes "stall", kind.Optional)
-    ∷ (codes "startup", kind.Optional)
-    ∷ (codes "abandon", kind.Flag)
-    ∷ (codes "seeks", kind.Optional)
-    ∷ []
-
--- the command `simulate`
-unfoldable pub simulate_app : App
-simulate_app = table_app (codes "simulate") simulate_words

@@ -1,8 +1,13 @@
 //! The words of a command line, read by `clap` and by the rules of this project.
 #![tactic(auto)]
 
+mod check;
+mod compare;
+mod demo;
 mod numbers;
+mod plan;
 mod rules;
+mod settings;
 mod simulate;
 mod table;
 mod values;
@@ -11,8 +16,14 @@ ghost use Rattle.std.specs.Prelude.{◌≡◌, Err, IfOk, codes, false, map, str
 ghost use Rattle.std.specs.List.{list_any};
 ghost use Rattle.std.specs.Str.{bytes_eq};
 ghost use Rattle.lab_words.specs.Limits.{IsWithinLimits};
-ghost use Rattle.lab_words.specs.Words.{Gives, asked_of, begins_with_verb, command_of, has_dashes, verb_of, view};
+ghost use Rattle.lab_words.specs.Command.{blank, view};
+ghost use Rattle.lab_words.specs.Values.{Gives};
+ghost use Rattle.lab_words.specs.Words.{asked_of, begins_with_verb, command_of, has_dashes, verb_of};
 
+use crate::check::check_of;
+use crate::compare::compare_of;
+use crate::demo::demo_of;
+use crate::plan::plan_of;
 use crate::simulate::simulate_of;
 use std::alloc::{AllocError, AllocFailed, Global};
 
@@ -77,6 +88,39 @@ pub struct Command {
     pub abandon: bool,
     /// The seek script's file name.
     pub seeks: Option<String>,
+    /// How many labels a plan may have, from 1 to 1000000.
+    pub budget: u32,
+    /// Whether the plan's certificate is asked for.
+    pub as_certificate: bool,
+    /// The certificate's file name.
+    pub certificate: Option<String>,
+    /// The number of the made-up case, from 0 to 2147483647.
+    pub number: u32,
+}
+
+impl Command {
+    // A command that asks for nothing yet.
+    pub(crate) fn blank(alloc: Global, verb: Verb) -> Command
+        ensures { view result ≡ blank verb }
+    {
+        Command {
+            verb,
+            manifest: String::new(alloc),
+            traces: Vec::new(alloc),
+            rules: Vec::new(alloc),
+            buffer_ms: 0,
+            utilities: Vec::new(alloc),
+            switch: 0,
+            stall: 0,
+            startup: 0,
+            abandon: false,
+            seeks: None,
+            budget: 0,
+            as_certificate: false,
+            certificate: None,
+            number: 0,
+        }
+    }
 }
 
 /// Why a command line was not read.
@@ -129,6 +173,10 @@ fn verb_of(word: &str) -> Option<Verb>
 {
     match word {
         "simulate" => Some(Verb::Simulate),
+        "compare" => Some(Verb::Compare),
+        "plan" => Some(Verb::Plan),
+        "check" => Some(Verb::Check),
+        "demo" => Some(Verb::Demo),
         _ => None,
     }
 }
@@ -139,7 +187,10 @@ fn asked_of(alloc: Global, verb: Verb, words: &[String]) -> Result<Command, Word
 {
     match verb {
         Verb::Simulate => simulate_of(alloc, words),
-        Verb::Compare | Verb::Plan | Verb::Check | Verb::Demo => Err(WordsErr::Usage),
+        Verb::Compare => compare_of(alloc, words),
+        Verb::Plan => plan_of(alloc, words),
+        Verb::Check => check_of(alloc, words),
+        Verb::Demo => demo_of(alloc, words),
     }
 }
 

@@ -3,7 +3,7 @@
 ghost use Rattle.std.specs.Prelude.{◌≡◌, ◌≤◌, IfOk, IfSome, length, map};
 ghost use Rattle.std.specs.Str.{all_ascii_digits};
 ghost use Rattle.lab_words.specs.Spelling.{is_number, never_falls, number_of, numbers_of, pieces_of, utilities_of};
-ghost use Rattle.lab_words.specs.Words.{Gives};
+ghost use Rattle.lab_words.specs.Values.{Gives};
 
 use crate::WordsErr;
 use std::alloc::{AllocError, Global};

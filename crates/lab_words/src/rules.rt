@@ -1,7 +1,7 @@
 //! Rules as they are spelled on the command line.
 
 ghost use Rattle.lab_words.specs.Rules.{rule_of, rule_of_kind, spoken};
-ghost use Rattle.lab_words.specs.Words.{Gives};
+ghost use Rattle.lab_words.specs.Values.{Gives};
 
 use crate::numbers::{number_of, small_number_of, small_numbers_of};
 use crate::{RuleWords, WordsErr};

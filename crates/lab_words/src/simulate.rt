@@ -2,16 +2,39 @@
 
 ghost use Rattle.std.specs.Prelude.{map, string_bytes};
 ghost use Rattle.clap.specs.Words.{found_of, rows_of};
-ghost use Rattle.lab_words.specs.Words.{Gives, asked_of, simulate_in, view};
+ghost use Rattle.lab_words.specs.Command.{view};
+ghost use Rattle.lab_words.specs.Simulate.{simulate_app, simulate_in};
+ghost use Rattle.lab_words.specs.Table.{accepted};
+ghost use Rattle.lab_words.specs.Values.{Gives};
+ghost use Rattle.lab_words.specs.Words.{asked_of};
 
-use crate::table::simulate_matches;
-use crate::values::{file_name, is_given, optional_file_name, rule_in, settings_in};
+use crate::settings::{SETTINGS, settings_in};
+use crate::table::{Kind, Word, table_matches};
+use crate::values::{file_name, is_given, optional_file_name, rule_in};
 use crate::{Command, Verb, WordsErr};
 use clap::ArgMatches;
 use std::alloc::Global;
 
+/// The words of `simulate` alone.
+#[rattlefmt::skip]
+static SIMULATE: [Word; 5] = [
+    Word { name: "manifest", kind: Kind::Required },
+    Word { name: "trace", kind: Kind::Required },
+    Word { name: "rule", kind: Kind::Optional },
+    Word { name: "abandon", kind: Kind::Flag },
+    Word { name: "seeks", kind: Kind::Optional },
+];
+
+/// The matches of `simulate` on the words behind it.
+fn simulate_matches<'a>(alloc: Global, words: &'a [String]) -> Result<ArgMatches<'a>, WordsErr>
+    ensures { Gives (λ m. rows_of (found_of m)) result
+        (accepted simulate_app (map string_bytes words.entry.now)) }
+{
+    table_matches(alloc, "simulate", &SIMULATE, &SETTINGS, words)
+}
+
 /// What `simulate` is asked for, by the values of its options.
-#[tactic(auto, unfolding(crate::specs::Words::simulate_in))]
+#[tactic(auto, unfolding(crate::specs::Simulate::simulate_in))]
 fn simulate_in(alloc: Global, matches: &ArgMatches<'_>) -> Result<Command, WordsErr>
     ensures { Gives view result (simulate_in (rows_of (found_of matches.now))) }
 {
@@ -21,17 +44,12 @@ fn simulate_in(alloc: Global, matches: &ArgMatches<'_>) -> Result<Command, Words
     let settings = settings_in(alloc, matches)?;
     let seeks = optional_file_name(alloc, matches, "seeks")?;
     Ok(Command {
-        verb: Verb::Simulate,
         manifest,
         traces: vec![in alloc; trace]?,
         rules: vec![in alloc; rule]?,
-        buffer_ms: settings.buffer_ms,
-        utilities: settings.utilities,
-        switch: settings.switch,
-        stall: settings.stall,
-        startup: settings.startup,
         abandon: is_given(matches, "abandon"),
         seeks,
+        ..settings.command(alloc, Verb::Simulate)
     })
 }
 

@@ -2,8 +2,8 @@
 
 ghost use Rattle.std.specs.Prelude.{◌≡◌, None, true, false, IfOk, map, string_bytes};
 ghost use Rattle.clap.specs.Words.{app_of, found_of, is_simple_and_free, rows_of, rule_of};
-ghost use Rattle.lab_words.specs.Table.{accepted, entry_of, plain_app, rule_of_word, simulate_app, table_app};
-ghost use Rattle.lab_words.specs.Words.{Gives};
+ghost use Rattle.lab_words.specs.Table.{accepted, entry_of, plain_app, rule_of_word, table_app, with_words};
+ghost use Rattle.lab_words.specs.Values.{Gives};
 
 use crate::WordsErr;
 use clap::error::ErrorKind;
@@ -31,50 +31,6 @@ pub struct Word {
     pub kind: Kind,
 }
 
-/// The words of `simulate`.
-static SIMULATE: [Word; 10] = [
-    Word {
-        name: "manifest",
-        kind: Kind::Required,
-    },
-    Word {
-        name: "trace",
-        kind: Kind::Required,
-    },
-    Word {
-        name: "rule",
-        kind: Kind::Optional,
-    },
-    Word {
-        name: "buffer",
-        kind: Kind::Optional,
-    },
-    Word {
-        name: "utilities",
-        kind: Kind::Optional,
-    },
-    Word {
-        name: "switch",
-        kind: Kind::Optional,
-    },
-    Word {
-        name: "stall",
-        kind: Kind::Optional,
-    },
-    Word {
-        name: "startup",
-        kind: Kind::Optional,
-    },
-    Word {
-        name: "abandon",
-        kind: Kind::Flag,
-    },
-    Word {
-        name: "seeks",
-        kind: Kind::Optional,
-    },
-];
-
 fn arg_of<'a>(alloc: Global, name: &'a str, kind: Kind) -> Arg<'a>
     ensures rule { rule_of result ≡ rule_of_word kind name.entry.now }
     ensures own { result.global ≡ false }
@@ -98,32 +54,48 @@ fn plain_command<'a>(alloc: Global, name: &'a str) -> Command<'a>
         .disable_version_flag(true)
 }
 
-fn table_command<'a>(
+/// The command with these words more.
+fn with_words<'a>(
     alloc: Global,
-    name: &'a str,
+    command: Command<'a>,
     table: &[Word],
 ) -> Result<Command<'a>, AllocError>
-    ensures { IfOk result (λ c. app_of c ≡ table_app name.entry.now (map entry_of table.now)) }
+    ensures { IfOk result (λ c. app_of c ≡ with_words (app_of command.entry) (map entry_of table.now)) }
 {
-    let mut command = plain_command(alloc, name);
+    let mut command = command;
     for word in table {
         command = command.arg(arg_of(alloc, word.name, word.kind))?;
     }
     Ok(command)
 }
 
-/// The matches of the table's command on these words.
-fn table_matches<'a>(
+/// The command of this name with its own words, and those that it shares with others.
+#[tactic(auto, unfolding(crate::specs::Table::table_app))]
+fn table_command<'a>(
     alloc: Global,
     name: &'a str,
-    table: &[Word],
+    own: &[Word],
+    shared: &[Word],
+) -> Result<Command<'a>, AllocError>
+    ensures { IfOk result (λ c. app_of c ≡ table_app name.entry.now (map entry_of own.now) (map entry_of shared.now)) }
+{
+    let command = with_words(alloc, plain_command(alloc, name), own)?;
+    with_words(alloc, command, shared)
+}
+
+/// The matches of the table's command on these words.
+pub(crate) fn table_matches<'a>(
+    alloc: Global,
+    name: &'a str,
+    own: &[Word],
+    shared: &[Word],
     words: &'a [String],
 ) -> Result<ArgMatches<'a>, WordsErr>
-    requires { is_simple_and_free (table_app name.now (map entry_of table.now)) ≡ true }
+    requires { is_simple_and_free (table_app name.now (map entry_of own.now) (map entry_of shared.now)) ≡ true }
     ensures { Gives (λ m. rows_of (found_of m)) result
-        (accepted (table_app name.entry.now (map entry_of table.now)) (map string_bytes words.entry.now)) }
+        (accepted (table_app name.entry.now (map entry_of own.now) (map entry_of shared.now)) (map string_bytes words.entry.now)) }
 {
-    let Ok(command) = table_command(alloc, name, table) else {
+    let Ok(command) = table_command(alloc, name, own, shared) else {
         return Err(WordsErr::Memory);
     };
     match command.try_get_matches_from(words) {
@@ -133,15 +105,4 @@ fn table_matches<'a>(
             _ => Err(WordsErr::Usage),
         },
     }
-}
-
-/// The matches of `simulate` on the words behind it.
-pub(crate) fn simulate_matches<'a>(
-    alloc: Global,
-    words: &'a [String],
-) -> Result<ArgMatches<'a>, WordsErr>
-    ensures { Gives (λ m. rows_of (found_of m)) result
-        (accepted simulate_app (map string_bytes words.entry.now)) }
-{
-    table_matches(alloc, "simulate", &SIMULATE, words)
 }

@@ -1,24 +1,16 @@
 //! The values of a command's options, by `clap`'s matches.
 
-ghost use Rattle.std.specs.Prelude.{◌≡◌, option_map, string_bytes};
-ghost use Rattle.clap.specs.Words.{first_of, found_of, rows_of};
-ghost use Rattle.lab_words.specs.Words.{Gives, is_given, is_stray, named, number_in, optional, required, rule_in, settings_view, settings_in, utilities_in};
+ghost use Rattle.std.specs.Prelude.{◌≡◌, map, option_map, string_bytes};
+ghost use Rattle.std.specs.List.{list_any};
+ghost use Rattle.clap.specs.Words.{all_of, first_of, found_of, rows_of};
+ghost use Rattle.lab_words.specs.Command.{named};
+ghost use Rattle.lab_words.specs.Values.{Gives, is_given, is_stray, number_in, optional, required, rule_in, several, some_plain};
 
-use crate::numbers::{number_of, utilities_of};
+use crate::numbers::number_of;
 use crate::rules::rule_of;
 use crate::{NamedRule, WordsErr};
 use clap::ArgMatches;
 use std::alloc::Global;
-
-/// The numbers that each command on a manifest has.
-#[derive(Drop)]
-pub(crate) struct Settings {
-    pub buffer_ms: u32,
-    pub utilities: Vec<u32>,
-    pub switch: u32,
-    pub stall: u32,
-    pub startup: u32,
-}
 
 /// Whether a value is empty or begins with `-`.
 fn is_stray(text: &str) -> bool
@@ -37,7 +29,7 @@ fn text_of<'a>(matches: &ArgMatches<'a>, name: &str) -> Option<&'a str>
 }
 
 /// The value of an option, if it is given.
-#[tactic(auto, unfolding(crate::specs::Words::optional))]
+#[tactic(auto, unfolding(crate::specs::Values::optional))]
 pub(crate) fn optional<'a>(
     matches: &ArgMatches<'a>,
     name: &str,
@@ -51,7 +43,7 @@ pub(crate) fn optional<'a>(
 }
 
 /// The value of an option that has to be given.
-#[tactic(auto, unfolding(crate::specs::Words::required))]
+#[tactic(auto, unfolding(crate::specs::Values::required))]
 pub(crate) fn required<'a>(matches: &ArgMatches<'a>, name: &str) -> Result<&'a str, WordsErr>
     ensures { Gives (λ text. text.now) result (required name.now (rows_of (found_of matches.now))) }
 {
@@ -84,7 +76,7 @@ pub(crate) fn optional_file_name(
 }
 
 /// The number of an option from `least` to `most`, or its default where it isn't given.
-#[tactic(auto, unfolding(crate::specs::Words::number_in))]
+#[tactic(auto, unfolding(crate::specs::Values::number_in))]
 pub(crate) fn number_in(
     matches: &ArgMatches<'_>,
     name: &str,
@@ -100,6 +92,49 @@ pub(crate) fn number_in(
     }
 }
 
+fn all_of<'m, 'a>(matches: &'m ArgMatches<'a>, name: &str) -> Option<&'m [&'a str]>
+    ensures { option_map (λ texts. map (λ text. text.now) texts.now) result ≡ all_of name.now (rows_of (found_of matches.now)) }
+{
+    matches.get_strs(name)
+}
+
+fn any_stray(texts: &[&str]) -> bool
+    ensures { result ≡ list_any (λ text. is_stray text.now) texts.now }
+{
+    texts.iter().any(|text| is_stray(text))
+}
+
+/// Whether one of the values is stray.
+fn has_stray(texts: &[&str]) -> bool
+    ensures { result ≡ list_any is_stray (map (λ text. text.now) texts.now) }
+{
+    any_stray(texts)
+}
+
+/// The values, of which there is one and none is stray.
+fn some_plain<'m, 'a>(texts: &'m [&'a str]) -> Result<&'m [&'a str], WordsErr>
+    ensures { Gives (λ texts. map (λ text. text.now) texts.now) result (some_plain (map (λ text. text.now) texts.entry.now)) }
+{
+    match texts {
+        [_, ..] if !has_stray(texts) => Ok(texts),
+        _ => Err(WordsErr::Usage),
+    }
+}
+
+/// The values of a word that stands once or more.
+#[tactic(auto, unfolding(crate::specs::Values::several))]
+pub(crate) fn several<'m, 'a>(
+    matches: &'m ArgMatches<'a>,
+    name: &str,
+) -> Result<&'m [&'a str], WordsErr>
+    ensures { Gives (λ texts. map (λ text. text.now) texts.now) result (several name.now (rows_of (found_of matches.now))) }
+{
+    match all_of(matches, name) {
+        Some(texts) => some_plain(texts),
+        None => Err(WordsErr::Usage),
+    }
+}
+
 /// Whether a flag is given.
 pub(crate) fn is_given(matches: &ArgMatches<'_>, name: &str) -> bool
     ensures { result ≡ is_given name.now (rows_of (found_of matches.now)) }
@@ -111,7 +146,7 @@ pub(crate) fn is_given(matches: &ArgMatches<'_>, name: &str) -> bool
 }
 
 /// The rule and its word.
-#[tactic(auto, unfolding(crate::specs::Words::rule_in))]
+#[tactic(auto, unfolding(crate::specs::Values::rule_in))]
 pub(crate) fn rule_in(alloc: Global, matches: &ArgMatches<'_>) -> Result<NamedRule, WordsErr>
     ensures { Gives named result (rule_in (rows_of (found_of matches.now))) }
 {
@@ -119,27 +154,5 @@ pub(crate) fn rule_in(alloc: Global, matches: &ArgMatches<'_>) -> Result<NamedRu
     Ok(NamedRule {
         name: text.to_string(alloc)?,
         rule: rule_of(alloc, text)?,
-    })
-}
-
-/// The utilities that have to be given.
-#[tactic(auto, unfolding(crate::specs::Words::utilities_in))]
-fn utilities_in(alloc: Global, matches: &ArgMatches<'_>) -> Result<Vec<u32>, WordsErr>
-    ensures { Gives (λ utilities. utilities.items) result (utilities_in (rows_of (found_of matches.now))) }
-{
-    utilities_of(alloc, required(matches, "utilities")?)
-}
-
-/// The numbers of a command on a manifest.
-#[tactic(auto, unfolding(crate::specs::Words::settings_in))]
-pub(crate) fn settings_in(alloc: Global, matches: &ArgMatches<'_>) -> Result<Settings, WordsErr>
-    ensures { Gives settings_view result (settings_in (rows_of (found_of matches.now))) }
-{
-    Ok(Settings {
-        buffer_ms: number_in(matches, "buffer", 25_000, 1, 10_000_000)?,
-        utilities: utilities_in(alloc, matches)?,
-        switch: number_in(matches, "switch", 0, 0, 1_000_000)?,
-        stall: number_in(matches, "stall", 100, 0, 1_000_000)?,
-        startup: number_in(matches, "startup", 1, 0, 1_000_000)?,
     })
 }

@@ -64,17 +64,6 @@ fn placed<T: Drop>(
     }
 }
 
-/// Appends a number, if memory allows it.
-fn push(numbers: &mut Vec<u32>, n: u32) -> Result<(), InputFault>
-    ensures ok { OnOk result (numbers.new.items ≡ numbers.old.items ++ n ∷ []) }
-    ensures err { IfErr result (λ e. e ≡ InputFault.Memory) }
-{
-    match numbers.push(n) {
-        Ok(()) => Ok(()),
-        Err(_) => Err(InputFault::Memory),
-    }
-}
-
 /// The object that the bytes are.
 fn whole_object(alloc: Global, bytes: &[u8]) -> Result<Value, InputFault>
     ensures { Gives view result (whole_of bytes.now) }
@@ -154,7 +143,7 @@ fn rising_bitrates(alloc: Global, values: &[Value]) -> Result<Vec<u32>, InputFau
     let mut before = None;
     for (i, value) in values.iter().enumerate() {
         let bitrate = bitrate_in(value, before, i as u32 + 1)?;
-        push(&mut bitrates, bitrate)?;
+        bitrates.push(bitrate)?;
         before = Some(bitrate);
     }
     Ok(bitrates)
@@ -188,7 +177,7 @@ fn push_sizes(sizes: &mut Vec<u32>, values: &[Value], row: u32) -> Result<(), In
 {
     for (i, value) in values.iter().enumerate() {
         let size = size_in(value, row, i as u32 + 1)?;
-        push(sizes, size)?;
+        sizes.push(size)?;
     }
     Ok(())
 }

@@ -1,3 +1,4 @@
+-- Not part of the model: what the proofs keep.
 -- What the milliseconds before an instant bring, and the sums by which it is found without going through them.
 use Rattle.std.specs.Prelude.{◌≡◌, ℕ, zero, suc, ◌+◌, ◌-◌, ◌*◌, ◌<◌, ◌≤◌, ◌==◌, if◌then◌else◌, true, List, length, map, take, slice_index}
 use Rattle.std.specs.List.{sum_by}

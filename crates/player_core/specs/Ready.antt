@@ -1,3 +1,4 @@
+-- Not part of the model: what the proofs keep.
 -- What the parts of a player millisecond need of the player.
 use Rattle.std.specs.Prelude.{◌+◌, ◌-◌, ◌*◌, ◌≤◌, ◌<◌, IfSome}
 use Rattle.lab_model.specs.Film.{Film, rungs_of, segments_of}

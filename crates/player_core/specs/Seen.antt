@@ -1,3 +1,4 @@
+-- Not part of the model: what the proofs keep.
 -- What the values of the player's code stand for.
 use Rattle.std.specs.Prelude.{◌≡◌, ℕ, List, [], ◌≤◌, ◌==◌, Option, None, IfSome, option_map}
 use Rattle.lab_model.specs.declared.trace.Period.{Period}

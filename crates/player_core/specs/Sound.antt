@@ -1,3 +1,4 @@
+-- Not part of the model: what the proofs keep.
 -- What stays true of the player of a session within the limits.
 use Rattle.std.specs.Prelude.{◌≡◌, ℕ, ◌+◌, ◌-◌, ◌*◌, ◌/◌, ◌≤◌, ◌<◌, ◌==◌, ◌&&◌, List, length, Bool, true, false, not, is_some, nat_le, nat_lt, Option, Some, None, IfSome, if◌then◌else◌}
 use Rattle.std.specs.List.{All, count_by}
@@ -7,16 +8,16 @@ use Rattle.lab_model.specs.Film.{Film, IsFilm, rungs_of, segments_of, size_of}
 use Rattle.lab_model.specs.Cycle.{IsTrace}
 use Rattle.lab_model.specs.Fit.{SetupFits}
 use Rattle.lab_model.specs.Rules.{KindFits}
+use Rattle.lab_model.specs.Seeks.{SeeksFit}
 use Rattle.network_clock.specs.Network.{done_at, first_at, job_after, start_job}
 use Rattle.player_core.specs.State.{Case, Download, Mode, Player, starting, playing, seeking, ended}
-use Rattle.player_core.specs.Seeks.{SeeksFit}
 
 -- the case keeps the limits
 pub record IsCase (c : Case) : Type 0 where
   pub film : IsFilm c.film
   pub trace : IsTrace c.periods
   pub setup : SetupFits c.setup c.film
-  pub seeks : SeeksFit c.seeks c.film
+  pub seeks : SeeksFit c.seeks (segments_of c.film)
   pub ahead : c.ahead ≤ 120000000
   pub rule : KindFits c.rule c.film
 

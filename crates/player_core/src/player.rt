@@ -5,10 +5,10 @@ ghost use Rattle.std.specs.List.{All};
 ghost use Rattle.lab_model.specs.Film.{rungs_of, segments_of};
 ghost use Rattle.lab_model.specs.Fit.{SetupFits};
 ghost use Rattle.lab_model.specs.Rules.{KindFits};
+ghost use Rattle.lab_model.specs.Seeks.{AreRising, SeeksFit};
 ghost use Rattle.player_core.specs.Available.{all_ahead, available_at};
 ghost use Rattle.player_core.specs.State.{case_of};
 ghost use Rattle.player_core.specs.Session.{session_of, shown};
-ghost use Rattle.player_core.specs.Seeks.{AreRising, SeeksFit};
 
 use crate::body::Body;
 use crate::session::Session;
@@ -37,7 +37,7 @@ fn rises(seeks: &[Seek]) -> bool
 
 /// Whether a seek script fits a film: at most 16 seeks, at strictly rising instants up to 1000000000 ms, each to a segment of the film.
 pub fn seeks_fit(seeks: &[Seek], m: &Manifest) -> bool
-    ensures { IsTrue result ↔ SeeksFit seeks.now m.now }
+    ensures { IsTrue result ↔ SeeksFit seeks.now (segments_of m.now) }
 {
     let segments = m.segments();
     seeks.len() <= 16
@@ -61,7 +61,7 @@ pub fn play_from<T: Rule + Drop>(
 ) -> Result<Session, NoMemory>
     requires setup { SetupFits set.now m.now }
     requires rule { KindFits (T.kind rule) m.now }
-    requires seeks { SeeksFit seeks.now m.now }
+    requires seeks { SeeksFit seeks.now (segments_of m.now) }
     requires ahead { ahead ≤ 120000000 }
     requires told { T.stands_for rule [] }
     ensures session { IfOk result (λ s. shown s ≡ session_of (case_of m.now clock.now set.now seeks.now ahead (T.kind rule))) }
@@ -99,7 +99,7 @@ pub fn play<T: Rule + Drop>(
 ) -> Result<Session, NoMemory>
     requires setup { SetupFits set.now m.now }
     requires rule { KindFits (T.kind rule) m.now }
-    requires seeks { SeeksFit seeks.now m.now }
+    requires seeks { SeeksFit seeks.now (segments_of m.now) }
     requires told { T.stands_for rule [] }
     ensures session { IfOk result (λ s. shown s ≡ session_of (case_of m.now clock.now set.now seeks.now all_ahead (T.kind rule))) }
     ensures rungs { IfOk result (λ s. All (λ p. (p.rung < rungs_of m.now) × (p.segment < segments_of m.now)) s.played.items) }

@@ -33,25 +33,12 @@ impl Model for Tally {
     ghost invariant = { λ t. IsSmall (record { utilities = t.utilities; changes = t.changes; last = t.last; count = t.count }) };
 }
 
-fn change(w: &Weights, p: Played, before: Option<u8>) -> u32
-    requires utility { HasUtility w.now p.segment p.rung }
-    requires before { IfSome before (λ q. q < w.now.count) }
-    ensures value { result ≡ change_of w.now p.segment before p.rung }
-    ensures limit { result ≤ 1000000 }
-{
-    match before {
-        None => 0,
-        Some(q) => w
-            .utility(p.segment, p.rung)
-            .abs_diff(w.utility(p.segment, q)),
-    }
-}
-
 fn weighed(w: &Weights, changes: u64, stall_ms: u64, startup_ms: u64) -> u128
     requires changes { changes ≤ 40000000000 }
     requires stall { stall_ms ≤ 1000000000000000 }
     requires startup { startup_ms ≤ 1000000000000000 }
-    ensures value { result ≡ w.now.switch * changes + w.now.stall * stall_ms + w.now.startup * startup_ms }
+    ensures value { result ≡
+        w.now.switch * changes + w.now.stall * stall_ms + w.now.startup * startup_ms }
     ensures limit { result ≤ 3000000000000000000000 }
 {
     w.switch() as u128 * changes as u128
@@ -80,12 +67,13 @@ impl Tally {
         requires utility { HasUtility w.now p.segment p.rung }
         requires before { IfSome self.old.last (λ q. q < w.now.count) }
         requires count { self.old.count < 40000 }
-        ensures stands { (ps : List Played) → StandsFor w.now ps self.old → StandsFor w.now (ps ++ p ∷ []) self.new }
+        ensures stands { (ps : List Played) → StandsFor w.now ps self.old
+            → StandsFor w.now (ps ++ p ∷ []) self.new }
         ensures last { self.new.last ≡ Some p.rung }
         ensures more { self.new.count ≡ self.old.count + 1 }
     {
         self.utilities += w.utility(p.segment, p.rung) as u64;
-        self.changes += change(w, p, self.last) as u64;
+        self.changes += w.change(p.segment, self.last, p.rung) as u64;
         self.last = Some(p.rung);
         self.count += 1;
     }
@@ -94,7 +82,8 @@ impl Tally {
     pub fn total(&self, stall_ms: u64, startup_ms: u64, w: &Weights) -> i128
         requires stall { stall_ms ≤ 1000000000000000 }
         requires startup { startup_ms ≤ 1000000000000000 }
-        ensures { (ps : List Played) → StandsFor w.now ps self.now → result ≡ score_of w.now ps stall_ms startup_ms }
+        ensures { (ps : List Played) → StandsFor w.now ps self.now
+            → result ≡ score_of w.now ps stall_ms startup_ms }
     {
         1000 * self.utilities as i128 - weighed(w, self.changes, stall_ms, startup_ms) as i128
     }

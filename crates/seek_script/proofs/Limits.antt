@@ -13,7 +13,7 @@ use Rattle.lab_model.specs.declared.fault.Key.{Key}
 use Rattle.lab_model.specs.declared.fault.Key.TheVariants as key
 use Rattle.seek_script.specs.Faults.{placed, refusal}
 use Rattle.seek_script.specs.Script.{behind_header, below, counted, ended, instant_in, later, seek, seek_in, seeks_in, seeks_of, target_in}
-use Rattle.seek_script.specs.Within.{SeeksWithin, seek_no}
+use Rattle.lab_model.specs.Seeks.{SeeksFit, seek_no}
 
 placed-ok : (k : Key) (row column : ℕ) (r : Result ℕ Fault) (n : ℕ) → placed k row column r ≡ Ok n → r ≡ Ok n
 placed-ok k row column (Ok m) n h = cc
@@ -85,7 +85,7 @@ rising before (s ∷ t ∷ ss) h (suc k) lt =
     rw e (rising (Some s) (t ∷ ss) h.1 k (omega arith))
 
 -- the seeks of records keep their limits
-each-within : (segments : ℕ) (rs : List Fields) (xs : List Seek) → each_after (seek_in segments) None 2 rs ≡ Ok xs → SeeksWithin xs segments
+each-within : (segments : ℕ) (rs : List Fields) (xs : List Seek) → each_after (seek_in segments) None 2 rs ≡ Ok xs → SeeksFit xs segments
 each-within segments rs xs h = record {
   count = omega (arith, each_most (seek_in segments) 17 None 2 rs xs (λ b p r s e. (keeps segments b p r s e).few) h (omega arith));
   instants = each_all (λ s. s.at_ms ≤ 1000000000) (seek_in segments) None 2 rs xs (λ b p r s e. (keeps segments b p r s e).instant) h;
@@ -98,12 +98,12 @@ ended-ok None seeks xs h = cc
 ended-ok (Some row) seeks xs h = absurd cc
 
 -- the seeks of a script keep their limits
-pub within : (bytes : List ℕ) (segments : ℕ) (xs : List Seek) → seeks_of bytes segments ≡ Ok xs → SeeksWithin xs segments
+pub within : (bytes : List ℕ) (segments : ℕ) (xs : List Seek) → seeks_of bytes segments ≡ Ok xs → SeeksFit xs segments
 unfolding seeks_of
 within bytes segments xs h = go (table_of bytes) h
   where
-    go : (t : Table) → seeks_in segments t ≡ Ok xs → SeeksWithin xs segments
+    go : (t : Table) → seeks_in segments t ≡ Ok xs → SeeksFit xs segments
     go t e =
         let rs = then_ok (behind_header t.rows) (λ rs. each_after (seek_in segments) None 2 rs >>= ended t.uneven) xs e in
         let seeks = then_ok (each_after (seek_in segments) None 2 rs.0) (ended t.uneven) xs rs.2 in
-        subst (λ ys. SeeksWithin ys segments) (ended-ok t.uneven seeks.0 xs seeks.2) (each-within segments rs.0 seeks.0 seeks.1)
+        subst (λ ys. SeeksFit ys segments) (ended-ok t.uneven seeks.0 xs seeks.2) (each-within segments rs.0 seeks.0 seeks.1)

@@ -4,9 +4,9 @@ ghost use Rattle.std.specs.Prelude.{◌≡◌, ◌∷◌, ◌++◌, ◌+◌, ◌
 ghost use Rattle.csv.specs.Records.{fields_of};
 ghost use Rattle.csv_records.specs.Each.{each_after};
 ghost use Rattle.csv_records.specs.Table.{table_in, table_of};
+ghost use Rattle.lab_model.specs.Seeks.{SeeksFit};
 ghost use Rattle.seek_script.specs.Faults.{Gives};
 ghost use Rattle.seek_script.specs.Script.{behind_header, below, counted, instant_in, is_header, later, seek_in, seeks_in, seeks_of, target_in};
-ghost use Rattle.seek_script.specs.Within.{SeeksWithin};
 
 use crate::fault::{placed, refused};
 use csv::ByteRecord;
@@ -122,17 +122,6 @@ fn seek_in(
     })
 }
 
-/// Appends a seek, if memory allows it.
-fn push(seeks: &mut Vec<Seek>, seek: Seek) -> Result<(), InputFault>
-    ensures ok { OnOk result (seeks.new.items ≡ seeks.old.items ++ seek ∷ []) }
-    ensures err { IfErr result (λ e. e ≡ InputFault.Memory) }
-{
-    match seeks.push(seek) {
-        Ok(()) => Ok(()),
-        Err(_) => Err(InputFault::Memory),
-    }
-}
-
 /// The seeks of the records behind the header.
 fn all_seeks(alloc: Global, rows: &[ByteRecord], segments: u16) -> Result<Vec<Seek>, InputFault>
     ensures seeks { Gives (λ v. v.items) result (each_after (seek_in segments) None 2 (map fields_of rows.now)) }
@@ -142,7 +131,7 @@ fn all_seeks(alloc: Global, rows: &[ByteRecord], segments: u16) -> Result<Vec<Se
     let mut before = None;
     for (i, fields) in rows.iter().enumerate() {
         let seek = seek_in(fields, i as u32 + 2, before, segments)?;
-        push(&mut seeks, seek)?;
+        seeks.push(seek)?;
         before = Some(seek);
     }
     Ok(seeks)
@@ -168,7 +157,7 @@ fn seeks_in(alloc: Global, records: &Records, segments: u16) -> Result<Vec<Seek>
 /// ms, each to one of the film's segments.
 pub fn read_seeks(alloc: Global, bytes: &[u8], segments: u16) -> Result<Vec<Seek>, InputFault>
     ensures seeks { Gives (λ v. v.items) result (seeks_of bytes.now segments) }
-    ensures within { IfOk result (λ v. SeeksWithin v.items segments) }
+    ensures within { IfOk result (λ v. SeeksFit v.items segments) }
 {
     let Ok(records) = records_of(alloc, bytes) else {
         return Err(InputFault::Memory);

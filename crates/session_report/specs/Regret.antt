@@ -3,6 +3,7 @@ use Rattle.std.specs.Prelude.{◌≡◌, ◌^◌, ◌≤◌, List, [], ◌∷◌
 use Rattle.std.specs.Int.{int_max}
 use Rattle.std.specs.List.{All}
 use Rattle.std.specs.Fmt.{signed_decimal}
+use Rattle.lab_model.specs.Number.{IsNear}
 use Rattle.lab_io.specs.Sink.{Text}
 use Rattle.lab_io.specs.Piece.{fields_line}
 use Rattle.session_report.specs.declared.regret.Total.{Total}
@@ -35,15 +36,10 @@ abbrev pub worst_of : List Scores → ℤ
 worst_of [] = pos 0
 worst_of (p ∷ ps) = int_max (regret_of p) (worst_of ps)
 
--- a score within 10^24 of 0
-pub record IsNear (score : ℤ) : Type 0 where
-  pub low : (pos 0 -ℤ pos (10 ^ 24)) ≤ℤ score
-  pub high : score ≤ℤ pos (10 ^ 24)
-
--- both scores are near, and none is above the best
+-- both scores are within 10^24 of 0, and none is above the best
 pub record AreScores (p : Scores) : Type 0 where
-  pub score : IsNear p.0
-  pub best : IsNear p.1
+  pub score : IsNear (10 ^ 24) p.0
+  pub best : IsNear (10 ^ 24) p.1
   pub order : p.0 ≤ℤ p.1
 
 -- the total of a list of at most 64 pairs

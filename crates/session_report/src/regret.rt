@@ -1,7 +1,8 @@
 //! How far the sessions of a rule stay behind the best: rows, and totals over several traces.
-ghost use Rattle.std.specs.Prelude.{◌≡◌, ◌<◌, ◌∷◌, [], ◌++◌, List, pos};
+ghost use Rattle.std.specs.Prelude.{◌≡◌, ◌^◌, ◌<◌, ◌∷◌, [], ◌++◌, List, pos};
 ghost use Rattle.lab_io.specs.Sink.{Puts};
-ghost use Rattle.session_report.specs.Regret.{AreScores, IsNear, Scores, StandsFor, regret_line, total_line};
+ghost use Rattle.lab_model.specs.Number.{IsNear};
+ghost use Rattle.session_report.specs.Regret.{AreScores, Scores, StandsFor, regret_line, total_line};
 
 use lab_io::Piece::{Number, Word};
 use lab_io::{PutErr, Sink, put_fields};
@@ -58,8 +59,8 @@ impl Total {
 /// Both are in thousandths of a point, within 10^24 of 0. After an `Err` a prefix of the row went out.
 /// It takes no memory of its own.
 pub fn regret_row<O: Sink>(name: &str, score: i128, best: i128, out: &mut O) -> Result<(), PutErr>
-    requires score { IsNear score }
-    requires best { IsNear best }
+    requires score { IsNear (10 ^ 24) score }
+    requires best { IsNear (10 ^ 24) best }
     ensures { Puts (O.seen out.old) (regret_line name.now score best) (O.seen out.new) result }
 {
     put_fields(

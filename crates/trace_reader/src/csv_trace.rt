@@ -12,7 +12,7 @@ ghost use Rattle.csv_records.specs.Table.{table_in, table_of};
 ghost use Rattle.trace_reader.specs.Faults.{Gives};
 ghost use Rattle.trace_reader.specs.TraceCsv.{bandwidth_in, behind_header, counted_row, duration_in, ended, field_kind, is_header, latency_in, period_in_row, placed_field, table_periods, table_trace, trace_csv_of};
 
-use crate::cycle::{push, whole_trace};
+use crate::cycle::whole_trace;
 use crate::fault::refused;
 use csv::ByteRecord;
 use csv_records::{Fault, Records, field_in, is_named, records_of, thousandths, whole_number};
@@ -131,7 +131,7 @@ fn all_rows(alloc: Global, rows: &[ByteRecord]) -> Result<Vec<Period>, InputFaul
     let mut periods = Vec::new(alloc);
     for (i, fields) in rows.iter().enumerate() {
         let period = period_in_row(fields, i as u32 + 2)?;
-        push(&mut periods, period)?;
+        periods.push(period)?;
     }
     Ok(periods)
 }

@@ -13,17 +13,6 @@ use lab_model::{InputFault, Key, Kind, Period, Trace};
 /// The longest cycle, in milliseconds.
 const MOST_CYCLE_MS: u64 = 100_000_000;
 
-/// Appends a period, if memory allows it.
-pub(crate) fn push(periods: &mut Vec<Period>, period: Period) -> Result<(), InputFault>
-    ensures ok { OnOk result (periods.new.items ≡ periods.old.items ++ period ∷ []) }
-    ensures err { IfErr result (λ e. e ≡ InputFault.Memory) }
-{
-    match periods.push(period) {
-        Ok(()) => Ok(()),
-        Err(_) => Err(InputFault::Memory),
-    }
-}
-
 /// The milliseconds of a cycle.
 fn cycle_ms(periods: &[Period]) -> u64
     requires { length periods.now ≤ 100000 }

@@ -11,7 +11,7 @@ ghost use Rattle.json_fields.specs.Each.{each_of};
 ghost use Rattle.trace_reader.specs.Faults.{placed, Gives};
 ghost use Rattle.trace_reader.specs.Trace.{counted, field_of, fields_of, members_of, period_in, periods_of, trace_json, trace_of};
 
-use crate::cycle::{push, whole_trace};
+use crate::cycle::whole_trace;
 use crate::fault::{kind_of, placed, refused};
 use json_fields::ReadErr;
 use lab_model::{InputFault, Key, Kind, Period, Trace};
@@ -104,7 +104,7 @@ fn all_periods(alloc: Global, values: &[Value]) -> Result<Vec<Period>, InputFaul
     let mut periods = Vec::new(alloc);
     for (i, value) in values.iter().enumerate() {
         let period = period_in(value, i as u32 + 1)?;
-        push(&mut periods, period)?;
+        periods.push(period)?;
     }
     Ok(periods)
 }

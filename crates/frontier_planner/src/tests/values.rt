@@ -1,6 +1,6 @@
 //! The score of the session that plays a rung list, and the end value of the labels along it.
 
-ghost use Rattle.frontier_planner.specs.Near.{CanFollow};
+ghost use Rattle.frontier_planner.specs.Near.{CanFollow, IsNear};
 
 use crate::{end_value, next_from, start_from};
 use lab_model::{Label, Manifest, Period, Rule, Setup, Trace, Weights};
@@ -13,22 +13,22 @@ use std::test::Fail;
 
 /// A rung list, what it is played on, and its value.
 #[derive(Clone, Copy)]
-struct Case {
-    seg_ms: u32,
+pub struct Case {
+    pub seg_ms: u32,
     /// The utilities are the first of 0, 10 and 25.
-    bitrates: &'static [u32],
+    pub bitrates: &'static [u32],
     /// Segment by segment, and in each rung by rung.
-    sizes: &'static [u32],
+    pub sizes: &'static [u32],
     /// Milliseconds, thousandths of a kbps, and latency.
-    periods: &'static [(u32, u64, u32)],
-    buffer_ms: u32,
-    ahead: u32,
-    rungs: &'static [u8],
-    value: i128,
+    pub periods: &'static [(u32, u64, u32)],
+    pub buffer_ms: u32,
+    pub ahead: u32,
+    pub rungs: &'static [u8],
+    pub value: i128,
 }
 
 /// All media of any film is there at instant 0.
-const ON_DEMAND: u32 = 120_000_000;
+pub const ON_DEMAND: u32 = 120_000_000;
 
 /// No label of the cases is later, in milliseconds, or worth more, in thousandths of a point.
 const FAR_MS: u64 = 1_000_000;
@@ -36,7 +36,7 @@ const FAR_MS: u64 = 1_000_000;
 const LARGE: i64 = 1_000_000_000;
 
 /// Three segments of 500 or 1000 ms on 2000 kbps.
-const STEADY: Case = Case {
+pub const STEADY: Case = Case {
     seg_ms: 1000,
     bitrates: &[1000, 2000],
     sizes: &[
@@ -101,13 +101,13 @@ const CASES: [Case; 6] = [
     },
 ];
 
-fn film(alloc: Global, case: &Case) -> Result<Manifest, Fail> {
+pub fn film(alloc: Global, case: &Case) -> Result<Manifest, Fail> {
     let bitrates = case.bitrates.to_vec(alloc)?;
     let sizes = case.sizes.to_vec(alloc)?;
     Ok(Manifest::from_parts(case.seg_ms, bitrates, sizes).ok_or("not a film")?)
 }
 
-fn clock(alloc: Global, case: &Case) -> Result<Clock, Fail> {
+pub fn clock(alloc: Global, case: &Case) -> Result<Clock, Fail> {
     let mut periods = Vec::new(alloc);
     for (duration_ms, bandwidth, latency) in case.periods {
         periods.push(Period {
@@ -146,9 +146,10 @@ fn session_score(rt: &impl Abort, alloc: Global, case: &Case) -> Result<i128, Fa
     ))
 }
 
-/// A label of the cases may be followed.
-fn follows(rt: &impl Abort, label: Label)
-    ensures { CanFollow label }
+/// A label of the cases may be followed and rounded.
+pub fn follows(rt: &impl Abort, label: Label)
+    ensures follows { CanFollow label }
+    ensures rounds { IsNear 900000000000000000 label.v }
 {
     assert!(rt; label.t < FAR_MS && label.p < FAR_MS);
     assert!(rt; -LARGE < label.v && label.v < LARGE);

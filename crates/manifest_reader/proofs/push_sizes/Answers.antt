@@ -11,7 +11,7 @@ returns-in_err-size c =
 
 pub loop-i-preserved : goal.loop-i-preserved
 loop-i-preserved c =
-    rw c.in_ok-push.ensures.ok
+    rw c.in_ok-push.ensures.items
     (each_next (size_in c.args.row) (λ xs. c.loop-i.sizes.items ++ xs) _ c.args.values.now c.loop-i.i _ c.index-values-i.result (c.loop-i.i + 1) c.in_ok-size.size c.loop-i-test.true c.index-values-i.is c.in_ok-size.ensures (λ xs. append_assoc c.loop-i.sizes.items (c.in_ok-size.size ∷ []) xs) ∙ c.loop-i.invariant)
 
 pub returns : goal.returns

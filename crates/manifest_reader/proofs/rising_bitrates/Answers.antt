@@ -11,7 +11,7 @@ returns-in_err-bitrate c =
 
 pub loop-i-preserved : goal.loop-i-preserved
 loop-i-preserved c =
-    rw c.in_ok-push.ensures.ok
+    rw c.in_ok-push.ensures.items
     (each_went bitrate_in (λ xs. c.loop-i.bitrates.items ++ xs) _ c.args.values.now c.loop-i.i _ c.index-values-i.result c.loop-i.before (c.loop-i.i + 1) c.in_ok-bitrate.bitrate c.loop-i-test.true c.index-values-i.is c.in_ok-bitrate.ensures (λ xs. append_assoc c.loop-i.bitrates.items (c.in_ok-bitrate.bitrate ∷ []) xs) ∙ c.loop-i.invariant)
 
 pub returns : goal.returns

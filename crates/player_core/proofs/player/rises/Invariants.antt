@@ -1,5 +1,5 @@
 use Rattle.std.proofs.Common.{ℕ, ◌+◌, ◌<◌}
-use Rattle.player_core.specs.Seeks.{seek_no}
+use Rattle.lab_model.specs.Seeks.{seek_no}
 use Rattle.player_core.proofs.player.rises.Given as goal
 
 abbrev pub invariant-loop-i : goal.invariant-loop-i

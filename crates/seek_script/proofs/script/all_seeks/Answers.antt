@@ -12,7 +12,7 @@ returns-in_err-seek-clause-seeks c =
 pub loop-i-preserved : goal.loop-i-preserved
 loop-i-preserved c =
     let few : c.loop-i.i + 1 ≤ 16 = omega (arith, c.in_ok-seek.ensures.few) in
-    rw c.in_ok-push.ensures.ok (record {
+    rw c.in_ok-push.ensures.items (record {
       few = few;
       seeks = each_went (seek_in c.args.segments) (λ ss. c.loop-i.seeks.items ++ ss) _ c.args.rows.now c.loop-i.i _ c.index-rows-i.result c.loop-i.before (c.loop-i.i + 2) (c.loop-i.i + 1 + 2) c.in_ok-seek.seek c.loop-i-test.true c.index-rows-i.is (omega arith) c.in_ok-seek.ensures.seek (λ ss. append_assoc c.loop-i.seeks.items (c.in_ok-seek.seek ∷ []) ss) ∙ c.loop-i.invariant.seeks;
     })

@@ -13,7 +13,7 @@ returns-in_err-period-clause-periods c =
 pub loop-i-preserved : goal.loop-i-preserved
 loop-i-preserved c =
     let few : c.loop-i.i + 1 ≤ 100000 = omega (arith, c.in_ok-period.ensures.few) in
-    rw c.in_ok-push.ensures.ok (record {
+    rw c.in_ok-push.ensures.items (record {
       few = few;
       periods = each_next period_in_row (λ ps. c.loop-i.periods.items ++ ps) _ c.args.rows.now c.loop-i.i _ c.index-rows-i.result (c.loop-i.i + 2) (c.loop-i.i + 1 + 2) c.in_ok-period.period c.loop-i-test.true c.index-rows-i.is (omega arith) c.in_ok-period.ensures.period (λ ps. append_assoc c.loop-i.periods.items (c.in_ok-period.period ∷ []) ps) ∙ c.loop-i.invariant.periods;
     })

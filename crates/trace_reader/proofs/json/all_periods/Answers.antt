@@ -12,7 +12,7 @@ returns-in_err-period c =
 
 pub loop-i-preserved : goal.loop-i-preserved
 loop-i-preserved c =
-    rw c.in_ok-push.ensures.ok
+    rw c.in_ok-push.ensures.items
     (each_next period_in (λ ps. c.loop-i.periods.items ++ ps) _ c.args.values.now c.loop-i.i _ c.index-values-i.result (c.loop-i.i + 1) c.in_ok-period.period c.loop-i-test.true c.index-values-i.is c.in_ok-period.ensures (λ ps. append_assoc c.loop-i.periods.items (c.in_ok-period.period ∷ []) ps) ∙ c.loop-i.invariant)
 
 pub returns : goal.returns

@@ -1,0 +1,52 @@
+use Rattle.std.proofs.Common.{◌≡◌, ◌∙◌, ◌+◌, ◌<◌, ap, length, arith}
+use Rattle.std.specs.List.{flat_map}
+use Rattle.std.proofs.lemmas.List.{take_all}
+use Rattle.lab_model.specs.Film.{segments_of}
+use Rattle.frontier_planner.specs.Grown.{grown}
+use Rattle.frontier_planner.specs.Labels.{task_of}
+use Rattle.frontier_planner.specs.Layers.{names_read}
+use Rattle.frontier_planner.specs.Read.{no_label}
+use Rattle.frontier_planner.proofs.Naming.{chain_is, label_pushed, label_there, rung_inside}
+use Rattle.frontier_planner.proofs.names.names.Goals as goal
+
+pub index-requires : goal.index-requires
+index-requires c =
+    let d = c.args.grid in
+    let g = task_of c.args.m.now c.args.clock.now c.args.set.now c.args.ahead in
+    let h = c.requires.layers in
+    let layers = c.args.layers.now in
+    let next = c.requires.seg in
+    rung_inside d g layers h c.args.seg c.args.rung c.index-layers-seg.result (omega (arith, next)) c.requires.rung
+
+pub name_label-requires-clause-reached : goal.name_label-requires-clause-reached
+name_label-requires-clause-reached c =
+    let d = c.args.grid in
+    let g = task_of c.args.m.now c.args.clock.now c.args.set.now c.args.ahead in
+    let h = c.requires.layers in
+    let layers = c.args.layers.now in
+    let next = c.requires.seg in
+    let is = c.deref-l-items.ensures.value ∙ chain_is d g layers h c.args.seg c.args.rung c.index-layers-seg.result c.index.result.now (omega (arith, next)) c.requires.rung c.index.ensures in
+    label_there d g c.args.seg c.args.rung c.loop-l.l-index no_label c.deref-l-items.result.now is c.requires.rung c.loop-l-test.true
+
+pub loop-l-preserved : goal.loop-l-preserved
+loop-l-preserved c =
+    let d = c.args.grid in
+    let g = task_of c.args.m.now c.args.clock.now c.args.set.now c.args.ahead in
+    let h = c.requires.layers in
+    let layers = c.args.layers.now in
+    let next = c.requires.seg in
+    let is = c.deref-l-items.ensures.value ∙ chain_is d g layers h c.args.seg c.args.rung c.index-layers-seg.result c.index.result.now (omega (arith, next)) c.requires.rung c.index.ensures in
+    label_pushed (λ x. names_read d g c.args.seg (c.args.rung, x)) (grown d g c.args.seg c.args.rung) c.deref-l-items.result.now c.loop-l.l-index no_label c.loop-l.names.items c.name_label.new.names.items
+    is c.loop-l-test.true c.loop-l.invariant c.in_ok-name_label.ensures
+
+pub returns : goal.returns
+returns c =
+    let d = c.args.grid in
+    let g = task_of c.args.m.now c.args.clock.now c.args.set.now c.args.ahead in
+    let h = c.requires.layers in
+    let layers = c.args.layers.now in
+    let next = c.requires.seg in
+    let is = c.deref-l-items.ensures.value ∙ chain_is d g layers h c.args.seg c.args.rung c.index-layers-seg.result c.index.result.now (omega (arith, next)) c.requires.rung c.index.ensures in
+    let long = ap length is in
+    let late = c.loop-l-test.false in
+    c.loop-l.invariant ∙ ap (flat_map (λ l. names_read d g c.args.seg (c.args.rung, l))) (take_all c.loop-l.l-index (grown d g c.args.seg c.args.rung) (omega (arith, long, late)))

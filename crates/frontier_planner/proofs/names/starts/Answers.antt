@@ -1,0 +1,44 @@
+use Rattle.std.proofs.Common.{◌≡◌, ◌∙◌, ◌<◌, ◌≤◌, [], length, ap, arith}
+use Rattle.lab_model.specs.Film.{rungs_of, segments_of}
+use Rattle.frontier_planner.specs.Grown.{grown}
+use Rattle.frontier_planner.specs.Labels.{start_label, task_of}
+use Rattle.frontier_planner.specs.Read.{place_above}
+use Rattle.frontier_planner.proofs.Naming.{chain_few, chain_is, rung_inside, rung_pushed, start_one}
+use Rattle.frontier_planner.proofs.names.starts.Goals as goal
+
+pub index-requires : goal.index-requires
+index-requires c =
+    let d = c.args.grid in
+    let g = task_of c.args.m.now c.args.clock.now c.args.set.now c.args.ahead in
+    let h = c.requires in
+    let layers = c.args.layers.now in
+    let some = h.case.task.film.segments.0 in
+    rung_inside d g layers h 0 c.loop-rung.rung c.index-layers-0.result (omega (arith, some)) (omega arith)
+
+pub place_above-requires : goal.place_above-requires
+place_above-requires c =
+    let d = c.args.grid in
+    let g = task_of c.args.m.now c.args.clock.now c.args.set.now c.args.ahead in
+    let h = c.requires in
+    let layers = c.args.layers.now in
+    let some = h.case.task.film.segments.0 in
+    let first : 0 < segments_of c.args.m.now = omega (arith, some) in
+    let rung : c.loop-rung.rung < rungs_of c.args.m.now = omega arith in
+    let is = c.deref.ensures.value ∙ chain_is d g layers h 0 c.loop-rung.rung c.index-layers-0.result c.index.result.now first rung c.index.ensures in
+    let few = chain_few d g layers h 0 c.loop-rung.rung first rung in
+    let long = ap length is in
+    omega (arith, few, long)
+
+pub loop-rung-preserved : goal.loop-rung-preserved
+loop-rung-preserved c =
+    let d = c.args.grid in
+    let g = task_of c.args.m.now c.args.clock.now c.args.set.now c.args.ahead in
+    let h = c.requires in
+    let layers = c.args.layers.now in
+    let some = h.case.task.film.segments.0 in
+    let first : 0 < segments_of c.args.m.now = omega (arith, some) in
+    let rung : c.loop-rung.rung < rungs_of c.args.m.now = omega arith in
+    let is = c.deref.ensures.value ∙ chain_is d g layers h 0 c.loop-rung.rung c.index-layers-0.result c.index.result.now first rung c.index.ensures in
+    c.in_ok-push.ensures.items
+    ∙ rung_pushed [] c.loop-rung.starts.items (λ q. place_above (grown d g 0 q) (start_label g q)) c.loop-rung.rung c.place_above.result c.loop-rung.invariant
+    (start_one d g c.loop-rung.rung c.place_above.result c.deref.result.now c.start_from-start.result c.place_above.ensures is c.start_from-start.ensures.label)

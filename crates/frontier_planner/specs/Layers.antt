@@ -1,0 +1,74 @@
+-- What the planner holds while it grows frontiers: those of each segment, as vectors.
+use Rattle.std.specs.Prelude.{◌≡◌, ℕ, zero, suc, ◌+◌, ◌-◌, ◌*◌, ◌≤◌, ◌<◌, List, length, map, Result, Ok, Err, Vec, slice_index_or}
+use Rattle.std.specs.Global.{Global}
+use Rattle.lab_model.specs.declared.label.Label.{Label}
+use Rattle.lab_model.specs.Ladder.{rungs_below}
+use Rattle.lab_model.specs.Film.{rungs_of, segments_of}
+use Rattle.frontier_planner.specs.declared.label.Grid.{Grid}
+use Rattle.frontier_planner.specs.declared.grow.Frontiers.{Frontiers}
+use Rattle.frontier_planner.specs.declared.grow.Layer.{Layer}
+use Rattle.frontier_planner.specs.declared.plans.PlanErr.{PlanErr}
+use Rattle.frontier_planner.specs.declared.plans.PlanErr.TheVariants as fault
+use Rattle.frontier_planner.specs.Labels.{IsTask, Task}
+use Rattle.frontier_planner.specs.Grid.{IsGrid}
+use Rattle.frontier_planner.specs.Grown.{grown}
+use Rattle.frontier_planner.specs.Parts.{ChainParts}
+use Rattle.frontier_planner.specs.Read.{SpentAt, chain_with_names, labels_in, labels_of, names_of_label, rungs_back}
+
+-- the labels of the coarse frontiers of a segment, with their rungs
+abbrev pub grown_labels : Grid → Task → ℕ → List (ℕ × Label)
+grown_labels d g segment = labels_of g (grown d g) segment
+
+-- the rungs up to a label of a segment, read backwards through the coarse frontiers
+abbrev pub rungs_read : Grid → Task → ℕ → ℕ × Label → List ℕ
+rungs_read d g segment c = rungs_back d g (grown d g) segment c
+
+-- a plan can be made of this task on this grid
+pub record CanPlan (d : Grid) (g : Task) : Type 0 where
+  pub task : IsTask g
+  pub grid : IsGrid d
+
+-- the chains of a segment, which vectors hold
+abbrev pub held : List (Vec Label Global) → List (List Label)
+held chains = map (λ (v : Vec Label Global). v.items) chains
+
+-- the layer holds the coarse frontiers of a segment
+pub record HoldsFrontiers (d : Grid) (g : Task) (segment : ℕ) (l : Layer) : Type 0 where
+  pub labels : l.labels.items ≡ grown_labels d g segment
+  pub chains : held l.chains.items ≡ map (grown d g segment) (rungs_below (rungs_of g.film))
+
+-- the layers hold those of the segments from 0 on
+abbrev pub HoldAll : Grid → Task → List Layer → Type 0
+HoldAll d g layers = (i : ℕ) (x : Layer) → i < length layers → HoldsFrontiers d g i (slice_index_or layers i x)
+
+-- the layers hold all coarse frontiers, which have no more labels than a certificate may have
+pub record HoldPlan (d : Grid) (g : Task) (layers : List Layer) : Type 0 where
+  pub case : CanPlan d g
+  pub holds : HoldAll d g layers
+  pub count : length layers ≡ segments_of g.film
+  pub few : labels_in g (grown d g) ≤ 1000000
+
+-- the names of a label of a segment for the coarse frontiers of the next
+abbrev pub names_read : Grid → Task → ℕ → ℕ × Label → List ℕ
+names_read d g segment c = names_of_label g (grown d g) segment c.0 c.1
+
+-- a chain of the plan with its names
+abbrev pub chain_read : Grid → Task → ℕ → ℕ → ChainParts
+chain_read d g segment rung = chain_with_names g (grown d g) segment rung
+
+-- the chains of a segment with their names
+abbrev pub chains_read : Grid → Task → ℕ → List ChainParts
+chains_read d g segment = map (λ q. chain_read d g segment q) (rungs_below (rungs_of g.film))
+
+-- the layer of a segment, or that its labels are more than those left
+abbrev pub LayerAnswer : Grid → Task → ℕ → ℕ → Result Layer PlanErr → Type 0
+LayerAnswer d g segment left (Ok l) = HoldsFrontiers d g segment l × (length l.labels.items ≤ left)
+LayerAnswer d g segment left (Err (fault.BudgetSpent s)) = (s ≡ segment) × (left < length (grown_labels d g segment))
+LayerAnswer d g segment left (Err fault.Memory) = Unit {0}
+
+-- all layers with the number of their labels, or the segment at which the budget is spent
+abbrev pub FrontiersAnswer : Grid → Task → ℕ → Result Frontiers PlanErr → Type 0
+FrontiersAnswer d g budget (Ok f) =
+    HoldAll d g f.layers.items × (length f.layers.items ≡ segments_of g.film) × (f.labels ≡ labels_in g (grown d g)) × (f.labels ≤ budget)
+FrontiersAnswer d g budget (Err (fault.BudgetSpent s)) = SpentAt g (grown d g) budget s
+FrontiersAnswer d g budget (Err fault.Memory) = Unit {0}

@@ -1,0 +1,79 @@
+//! The planner.
+
+ghost use Rattle.std.specs.Prelude.{◌≤◌};
+ghost use Rattle.lab_model.specs.Fit.{SetupFits};
+ghost use Rattle.player_core.specs.Available.{all_ahead};
+ghost use Rattle.frontier_planner.specs.Grid.{IsGrid};
+ghost use Rattle.frontier_planner.specs.Labels.{task_of};
+ghost use Rattle.frontier_planner.specs.Planned.{CoarseAnswer, ExactAnswer, PlanAnswer};
+
+use crate::grow::{Frontiers, grown_frontiers};
+use crate::label::{Grid, end_value};
+use crate::names::{chains, starts};
+use crate::plans::{CoarsePlan, Plan, PlanErr};
+use crate::read::{best_end, rungs_to, value_of_list};
+use lab_model::{Manifest, Setup};
+use network_clock::Clock;
+use std::alloc::Global;
+
+/// The plan on a grid, where `ahead` milliseconds of media, at most 120000000, are there at instant 0. The
+/// frontiers may have as many labels as the budget, 1 to 1000000: `BudgetSpent` names the first segment at whose
+/// end they have more.
+pub fn plan_from(
+    alloc: Global,
+    m: &Manifest,
+    clock: &Clock,
+    set: &Setup,
+    ahead: u32,
+    grid: Grid,
+    budget: u32,
+) -> Result<CoarsePlan, PlanErr>
+    requires setup { SetupFits set.now m.now }
+    requires ahead { ahead ≤ 120000000 }
+    requires grid { IsGrid grid }
+    requires budget { (1 ≤ budget) × (budget ≤ 1000000) }
+    ensures coarse { CoarseAnswer grid (task_of m.now clock.now set.now ahead) budget result }
+    ensures exact { ExactAnswer grid (task_of m.now clock.now set.now ahead) budget result }
+{
+    let table = set.weights.rows() != 0;
+    let last = m.segments() - 1;
+    prove!(!clock.periods().is_empty());
+    let Frontiers { layers, labels } = grown_frontiers(alloc, m, clock, set, ahead, grid, budget)?;
+    let end = best_end(m, clock, set, ahead, grid, &layers[last as usize].labels);
+    let rungs = rungs_to(alloc, m, clock, set, ahead, grid, &layers, last, end)?;
+    let score = value_of_list(m, clock, set, ahead, &rungs);
+    let starts = starts(alloc, m, clock, set, ahead, grid, &layers)?;
+    let chains = chains(alloc, m, clock, set, ahead, grid, &layers)?;
+    let plan = Plan {
+        table,
+        rungs,
+        score,
+        labels,
+        starts,
+        chains,
+    };
+    Ok(CoarsePlan {
+        plan,
+        bound: end_value(set, end.1),
+    })
+}
+
+/// So many milliseconds of media ahead that all of a film is there at instant 0.
+const ALL_AHEAD: u32 = 120_000_000;
+
+/// The plan of a film on demand: the best rung list, with its frontiers. They may have as many labels as the
+/// budget, 1 to 1000000: `BudgetSpent` names the first segment at whose end they have more.
+pub fn plan(
+    alloc: Global,
+    m: &Manifest,
+    clock: &Clock,
+    set: &Setup,
+    budget: u32,
+) -> Result<Plan, PlanErr>
+    requires setup { SetupFits set.now m.now }
+    requires budget { (1 ≤ budget) × (budget ≤ 1000000) }
+    ensures { PlanAnswer (task_of m.now clock.now set.now all_ahead) budget result }
+{
+    let exact = Grid { time: 1, value: 1 };
+    Ok(plan_from(alloc, m, clock, set, ALL_AHEAD, exact, budget)?.plan)
+}

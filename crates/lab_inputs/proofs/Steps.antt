@@ -1,0 +1,287 @@
+-- One file after the other: what those before it gave, and what one more adds or refuses.
+use Rattle.std.proofs.Common.{◌≡◌, ℕ, ◌+◌, ◌≤◌, ◌++◌, List, [], ◌∷◌, map, Option, Some, None, Result, Ok, Err, IsOk, ap, sym, ◌∙◌, refl, inl, inr, arith, append_assoc, append-nil, length, length-append, ◌<◌, take, drop, get_or, add-one, drop-cons, subst}
+use Rattle.std.proofs.lemmas.List.{length-map, map-append, take-append-drop}
+use Rattle.std.proofs.Math.Seq.{take-suc}
+use Rattle.std.proofs.lemmas.List.Sums.{sum_by-append, sum_by-cons, sum_by_push}
+use Rattle.std.specs.Result.{IsErrAnd}
+use Rattle.std.proofs.lemmas.Result.{err_from_is_err_and}
+use Rattle.lab_model.specs.declared.fault.Refusal.{Refusal}
+use Rattle.lab_model.specs.Film.{Film, segments_of}
+use Rattle.manifest_reader.specs.Manifest.{manifest_of}
+use Rattle.seek_script.specs.Script.{seeks_of}
+use Rattle.lab_io.specs.Sink.{Text, Rose}
+use Rattle.lab_io.specs.Shelf.{Shelved}
+use Rattle.lab_model.specs.Rules.{RuleKind}
+use Rattle.lab_words.specs.declared.NamedRule.{NamedRule}
+use Rattle.lab_words.specs.Rules.{spoken}
+use Rattle.lab_words.specs.Command.{CommandWords, named}
+use Rattle.lab_inputs.specs.declared.fetch.FileErr.{FileErr}
+use Rattle.lab_inputs.specs.declared.fetch.FileErr.TheVariants as err
+use Rattle.lab_inputs.specs.declared.inputs.FileName.{FileName}
+use Rattle.lab_inputs.specs.declared.stop.Role.{Role}
+use Rattle.lab_inputs.specs.declared.stop.Role.TheVariants as role
+use Rattle.lab_inputs.specs.declared.stop.FileFault.{FileFault}
+use Rattle.lab_inputs.specs.declared.stop.FileFault.TheVariants as fault
+use Rattle.lab_inputs.specs.declared.stop.Setting.{Setting}
+use Rattle.lab_inputs.specs.declared.stop.Stop.{Stop}
+use Rattle.lab_inputs.specs.declared.stop.Stop.TheVariants as stop
+use Rattle.lab_inputs.specs.declared.stop.Halt.{Halt}
+use Rattle.lab_inputs.specs.declared.stop.Halt.TheVariants as halt
+use Rattle.lab_inputs.specs.Files.{Files, NamedFile, bytes_of, later_files, request_of, seeks_file, trace_count, trace_files, traces_among}
+use Rattle.lab_inputs.specs.Inputs.{◌>>=◌, AreAccepted, InputValues, at_role, film_alone, film_in, inputs_from, inputs_of, read_as, result_map, trace_of, with_bytes, with_file, with_files, with_film, with_seeks, with_trace}
+use Rattle.lab_inputs.specs.Settings.{kinds_of, misfit, ready_of, setup_of, unless_misfit}
+use Rattle.lab_inputs.specs.Stages.{Asks, AsksSome, AsksUpTo, Comes, Means, Reads, Stops, Tells, file_of, halt_of}
+use Rattle.lab_inputs.proofs.Files.{asks_all, asks_none}
+
+-- these files were asked for, and then those
+pub asks_more : (xs ys : List NamedFile) (a b c : Shelved) → Asks xs a b → Asks ys b c → Asks (xs ++ ys) a c
+asks_more xs ys a b c p q = record {
+  asked = q.asked ∙ ap (λ l. l ++ map request_of ys) p.asked ∙ append_assoc a.asked (map request_of xs) (map request_of ys) ∙ ap (λ l. a.asked ++ l) (sym (map-append request_of xs ys));
+  files = q.files ∙ p.files;
+  faults = λ name. let l = p.faults name in let m = q.faults name in omega (arith, l, m);
+  sure = q.sure ∙ p.sure;
+  steady = λ name h. q.steady name (ap (λ s. s name) p.sure ∙ h) ∙ p.steady name h;
+}
+
+split_more : (before asked later after : List NamedFile) (file : NamedFile) → file ∷ [] ≡ asked ++ later → before ++ file ∷ after ≡ (before ++ asked) ++ (later ++ after)
+split_more before asked later after file e =
+    ap (λ l. before ++ (l ++ after)) e ∙ ap (λ l. before ++ l) (append_assoc asked later after) ∙ sym (append_assoc before asked (later ++ after))
+
+rose_later : (a b c : ℕ) → a ≤ b → Rose b c → Rose a c
+rose_later a b c h (inl x) = inl (omega arith)
+rose_later a b c h (inr x) = inr x
+
+-- a file that gives no value ends the command, those before it being accepted
+pub halts : {X Y Z W : Type 0} (before after : List NamedFile) (file : NamedFile) (seen : X → Y) (seen2 : Z → W) (value : Files → Result Y FileFault) (whole : Files → Result W Stop) (old mid new : Shelved) (e : FileErr)
+    → Asks before old mid → ((files : Files) → Tells old files → AreAccepted before files) → ((files : Files) (why : FileFault) → Tells old files → value files ≡ Err why → whole files ≡ Err (stop.File file.0 why))
+    → Reads file seen value mid (Err e) new → Comes (before ++ file ∷ after) seen2 whole old (Err (halt_of file.0 e)) new
+halts before after file seen seen2 value whole old mid new err.Memory a ok stops x =
+    record { asked = before ++ x.asked; later = x.later ++ after; split = split_more before x.asked x.later after file x.split; asks = asks_more before x.asked old mid new a x.asks }
+halts before after file seen seen2 value whole old mid new (err.Stopped fault.NotRead) a ok stops x =
+    (record { before = before; name = file.1; later = after; split = refl; asks = asks_more before (file ∷ []) old mid new a x.0 }, rose_later _ _ _ (a.faults file.1) x.1, ok)
+halts before after file seen seen2 value whole old mid new (err.Stopped fault.TooLong) a ok stops x =
+    (record { before = before; name = file.1; later = after; split = refl; asks = asks_more before (file ∷ []) old mid new a x.0 }, λ files t. stops files fault.TooLong t (x.1 files (a.files ∙ t)))
+halts before after file seen seen2 value whole old mid new (err.Stopped (fault.Refused why)) a ok stops x =
+    (record { before = before; name = file.1; later = after; split = refl; asks = asks_more before (file ∷ []) old mid new a x.0 }, λ files t. stops files (fault.Refused why) t (x.1 files (a.files ∙ t)))
+
+bind_more : {A : Type 0} (o : Result A Stop) (f g : A → Result InputValues Stop) (v : InputValues) (r : Result InputValues Stop) → ((x : A) → f x ≡ Ok v → g x ≡ r) → (o >>= f) ≡ Ok v → (o >>= g) ≡ r
+bind_more (Ok x) f g v r h e = h x e
+bind_more (Err s) f g v r h e = cc
+
+-- one result has one value
+pub ok_same : {A E : Type 0} (o : Result A E) (x y : A) → o ≡ Ok x → o ≡ Ok y → x ≡ y
+ok_same o x y e h = cc
+
+files_more : (i v : InputValues) (xs ys : List NamedFile) (files : Files) → with_files i xs files ≡ Ok v → with_files i (xs ++ ys) files ≡ with_files v ys files
+files_more i v [] ys files e = ap (λ j. with_files j ys files) (ok_same (with_files i [] files) i v refl e)
+files_more i v (x ∷ xs) ys files e = bind_more (at_role x.0 (with_file i x files)) _ _ v _ (λ m h. files_more m v xs ys files h) e
+
+-- the files before these gave their values
+pub inputs_more : (manifest : Text) (v : InputValues) (xs ys : List NamedFile) (files : Files) → inputs_from manifest xs files ≡ Ok v → inputs_from manifest (xs ++ ys) files ≡ with_files v ys files
+unfolding inputs_from
+inputs_more manifest v xs ys files e = bind_more (at_role role.Manifest (film_in manifest files)) _ _ v _ (λ film h. files_more (film_alone film) v xs ys files h) e
+
+-- one file more gives its value
+pub inputs_one_more : (manifest : Text) (v w : InputValues) (xs : List NamedFile) (file : NamedFile) (files : Files) → inputs_from manifest xs files ≡ Ok v → with_file v file files ≡ Ok w → inputs_from manifest (xs ++ file ∷ []) files ≡ Ok w
+inputs_one_more manifest v w xs file files e h = inputs_more manifest v xs (file ∷ []) files e ∙ rw h refl
+
+-- one file more refuses the whole
+pub inputs_stopped : (manifest : Text) (v : InputValues) (xs ys : List NamedFile) (file : NamedFile) (why : FileFault) (files : Files) → inputs_from manifest xs files ≡ Ok v → with_file v file files ≡ Err why
+    → inputs_from manifest (xs ++ file ∷ ys) files ≡ Err (stop.File file.0 why)
+inputs_stopped manifest v xs ys file why files e h = inputs_more manifest v xs (file ∷ ys) files e ∙ rw h refl
+
+-- the manifest refuses the whole
+pub film_stopped : (manifest : Text) (later : List NamedFile) (why : FileFault) (files : Files) → film_in manifest files ≡ Err why → inputs_from manifest later files ≡ Err (stop.File role.Manifest why)
+unfolding inputs_from
+film_stopped manifest later why files h = rw h refl
+
+-- the manifest alone
+pub film_first : (manifest : Text) (film : Film) (files : Files) → film_in manifest files ≡ Ok film → inputs_from manifest [] files ≡ Ok (film_alone film)
+unfolding inputs_from
+film_first manifest film files h = rw h refl
+
+-- the traces among the files of a command are those that the words name
+pub traces_named : (names : List Text) (seeks : Option Text) → traces_among (trace_files names ++ seeks_file seeks) ≡ length names
+traces_named [] None = refl
+traces_named [] (Some name) = refl
+traces_named (name ∷ names) seeks =
+    let h = traces_named names seeks in
+    let e = sum_by-append (λ (file : NamedFile). trace_count file.0) ((role.Trace, name) ∷ []) (trace_files names ++ seeks_file seeks) in
+    let one : traces_among ((role.Trace, name) ∷ []) ≡ 1 = refl in
+    omega (arith, e, one, h)
+
+-- the file at a place, with those before it and those behind it
+pub at_file : (items : List FileName) (i : ℕ) (d : FileName) → i < length items → map file_of items ≡ map file_of (take i items) ++ file_of (get_or items i d) ∷ map file_of (drop (i + 1) items)
+at_file items i d lt =
+    let parts : map file_of (take i items ++ drop i items) ≡ map file_of items = rw (take-append-drop i items) refl in
+    let rest : drop i items ≡ get_or items i d ∷ drop (i + 1) items = rw (add-one, drop-cons items i d) refl in
+    sym parts ∙ map-append file_of (take i items) (drop i items) ∙ ap (λ l. map file_of (take i items) ++ map file_of l) rest
+
+-- the files up to a place and the one there
+pub next_file : (items : List FileName) (i : ℕ) (d : FileName) → i < length items → map file_of (take (i + 1) items) ≡ map file_of (take i items) ++ file_of (get_or items i d) ∷ []
+next_file items i d lt = ap (map file_of) (rw (add-one, take-suc items i d lt) refl) ∙ map-append file_of (take i items) (get_or items i d ∷ [])
+
+-- the manifest gives no film
+pub film_halts : {X : Type 0} (seen : X → InputValues) (manifest : Text) (later : List NamedFile) (old new : Shelved) (r : Result Film FileErr) (e : FileErr) (h : Halt) → r ≡ Err e → h ≡ halt_of role.Manifest e
+    → Reads (role.Manifest, manifest) (λ (film : Film). film) (film_in manifest) old r new → Comes ((role.Manifest, manifest) ∷ later) seen (inputs_from manifest later) old (Err h) new
+film_halts seen manifest later old new r e h same k x =
+    let xx : Reads (role.Manifest, manifest) (λ (film : Film). film) (film_in manifest) old (Err e) new = rw same at x in
+    rw k (halts [] later (role.Manifest, manifest) (λ film. film) seen (film_in manifest) (inputs_from manifest later) old old new e (asks_none old) (λ files t. tt) (λ files why t f. film_stopped manifest later why files f) xx)
+
+-- a later file gives no value
+pub later_halts : {X Z : Type 0} (seen : X → InputValues) (seen2 : Z → InputValues) (manifest : Text) (later before after : List NamedFile) (file : NamedFile) (v : InputValues) (old mid new : Shelved) (r : Result X FileErr) (e : FileErr) (h : Halt)
+    → later ≡ before ++ file ∷ after → r ≡ Err e → h ≡ halt_of file.0 e → Asks ((role.Manifest, manifest) ∷ before) old mid → ((files : Files) → Tells old files → inputs_from manifest before files ≡ Ok v)
+    → Reads file seen (with_file v file) mid r new → Comes ((role.Manifest, manifest) ∷ later) seen2 (inputs_from manifest later) old (Err h) new
+later_halts seen seen2 manifest later before after file v old mid new r e h split same k a ok x =
+    let xx : Reads file seen (with_file v file) mid (Err e) new = rw same at x in
+    let whole : Comes ((role.Manifest, manifest) ∷ (before ++ file ∷ after)) seen2 (inputs_from manifest (before ++ file ∷ after)) old (Err h) new = rw k (halts ((role.Manifest, manifest) ∷ before) after file seen seen2 (with_file v file) (inputs_from manifest (before ++ file ∷ after)) old mid new e a
+    (λ files t. rw (ok files t) refl) (λ files why t f. inputs_stopped manifest v before after file why files (ok files t) f) xx) in
+    subst (λ l. Comes ((role.Manifest, manifest) ∷ l) seen2 (inputs_from manifest l) old (Err h) new) (sym split) whole
+
+-- one file more counts where it is a trace
+pub traces_next : (xs : List NamedFile) (file : NamedFile) (old new : ℕ) → old ≡ traces_among xs → new ≡ old + trace_count file.0 → new ≡ traces_among (xs ++ file ∷ [])
+traces_next xs file old new e h = let f = sum_by_push (λ (file : NamedFile). trace_count file.0) xs file in omega (arith, f, e, h)
+
+-- what ends a stage ends what follows on it
+halt_later : {X Y Z W : Type 0} (named : List NamedFile) (seen : X → Y) (seen2 : Z → W) (meant : Files → Result Y Stop) (after : Y → Result W Stop) (old new : Shelved) (h : Halt)
+    → Comes named seen meant old (Err h) new → Comes named seen2 (λ files. meant files >>= after) old (Err h) new
+halt_later named seen seen2 meant after old new halt.NoMemory x = x
+halt_later named seen seen2 meant after old new (halt.Stopped (stop.File role fault.NotRead)) x = x
+halt_later named seen seen2 meant after old new (halt.Stopped (stop.File role fault.TooLong)) x = (x.0, λ files t. rw (x.1 files t) refl)
+halt_later named seen seen2 meant after old new (halt.Stopped (stop.File role (fault.Refused why))) x = (x.0, λ files t. rw (x.1 files t) refl)
+halt_later named seen seen2 meant after old new (halt.Stopped (stop.Settings setting)) x = (x.0, λ files t. rw (x.1 files t) refl)
+
+-- the same at the exit of a `?`
+pub comes_failed : {X Y Z W : Type 0} (named : List NamedFile) (seen : X → Y) (seen2 : Z → W) (meant : Files → Result Y Stop) (after : Y → Result W Stop) (old new : Shelved) (r : Result X Halt) (q : Result Z Halt) (h : Halt)
+    → r ≡ Err h → IsErrAnd q (λ y. y ≡ h) → Comes named seen meant old r new → Comes named seen2 (λ files. meant files >>= after) old q new
+comes_failed named seen seen2 meant after old new r q h e k x =
+    let p = err_from_is_err_and q k in
+    let xx : Comes named seen meant old (Err h) new = rw e at x in
+    rw (p.1 ∙ ap Err p.2) (halt_later named seen seen2 meant after old new h xx)
+
+kinds_same : (rules : List NamedRule) → map (λ rule. spoken rule.rule) rules ≡ map (λ (rule : Text × RuleKind). rule.1) (map named rules)
+kinds_same [] = refl
+kinds_same (rule ∷ rules) = ap (λ l. spoken rule.rule ∷ l) (kinds_same rules)
+
+-- the rules of a command, seen in one step
+pub kinds_of_rules : (rules seen : List NamedRule) → seen ≡ rules → map (λ rule. spoken rule.rule) seen ≡ map (λ (rule : Text × RuleKind). rule.1) (map named rules)
+kinds_of_rules rules seen e = rw e (kinds_same rules)
+
+named_length : (rules : List NamedRule) → length (map named rules) ≡ length rules
+named_length rules = length-map rules named
+
+-- the rules of a command, counted through a slice
+pub rules_counted : (rules seen : List NamedRule) → seen ≡ rules → length seen ≡ length (map named rules)
+rules_counted rules seen e = ap length e ∙ sym (named_length rules)
+
+-- a setting does not fit
+pub ready_misfits : (c : CommandWords) (files : Files) (i : InputValues) (setting : Setting) → inputs_of c files ≡ Ok i → Some setting ≡ misfit (setup_of c) (kinds_of c) i.film → ready_of c files ≡ Err (stop.Settings setting)
+unfolding ready_of
+ready_misfits c files i setting e m = rw (e, ← m) refl
+
+-- all settings fit
+pub ready_made : (c : CommandWords) (files : Files) (i : InputValues) → inputs_of c files ≡ Ok i → None ≡ misfit (setup_of c) (kinds_of c) i.film → ready_of c files ≡ Ok i
+unfolding ready_of
+ready_made c files i e m = rw (e, ← m) refl
+
+ok_value : {A E : Type 0} (r : Result A E) → IsOk r → (x : A) × (r ≡ Ok x)
+ok_value (Ok x) h = (x, refl)
+ok_value (Err e) h = cc
+
+heads : (x y : NamedFile) (xs ys : List NamedFile) → x ∷ xs ≡ y ∷ ys → x ≡ y
+heads x y xs ys e = cc
+
+tails : (x y : NamedFile) (xs ys : List NamedFile) → x ∷ xs ≡ y ∷ ys → xs ≡ ys
+tails x y xs ys e = cc
+
+not_there : (i : InputValues) (file : NamedFile) (files : Files) → files file.1 ≡ None → with_file i file files ≡ Err fault.NotRead
+unfolding with_file
+not_there i file files n = rw n refl
+
+no_film : (manifest : Text) (files : Files) → files manifest ≡ None → film_in manifest files ≡ Err fault.NotRead
+unfolding film_in
+no_film manifest files n = rw n refl
+
+-- a file that is lacking is what the inputs come to, where those before it are accepted
+pub lacking : (manifest : Text) (later before after : List NamedFile) (file : NamedFile) (files : Files) → (role.Manifest, manifest) ∷ later ≡ before ++ file ∷ after → AreAccepted before files → files file.1 ≡ None
+    → inputs_from manifest later files ≡ Err (stop.File file.0 fault.NotRead)
+lacking manifest later [] after file files split ok none =
+    let same : (role.Manifest, manifest) ≡ file = heads _ _ _ _ split in
+    let gone : files manifest ≡ None = ap (λ (f : NamedFile). files f.1) same ∙ none in
+    film_stopped manifest later fault.NotRead files (no_film manifest files gone) ∙ ap (λ (f : NamedFile). Err (stop.File f.0 fault.NotRead)) same
+lacking manifest later (first ∷ xs) after file files split ok none =
+    let same : (role.Manifest, manifest) ≡ first = heads _ _ _ _ split in
+    let rest : later ≡ xs ++ file ∷ after = tails _ _ _ _ split in
+    let v = ok_value (inputs_from first.1 xs files) ok in
+    let read : inputs_from manifest xs files ≡ Ok v.0 = ap (λ (f : NamedFile). inputs_from f.1 xs files) same ∙ v.1 in
+    rw rest (inputs_stopped manifest v.0 xs after file fault.NotRead files read (not_there v.0 file files none))
+
+up_to_some : (named : List NamedFile) (role : Role) (old new : Shelved) → AsksUpTo named role old new → AsksSome named old new
+up_to_some named role old new a = record { asked = a.before ++ (role, a.name) ∷ []; later = a.later; split = a.split ∙ sym (append_assoc a.before ((role, a.name) ∷ []) a.later); asks = a.asks }
+
+-- the files that were asked for before a stop are the first of those that are named
+pub stops_some : {Y : Type 0} (named : List NamedFile) (meant : Files → Result Y Stop) (old new : Shelved) (why : Stop) → Stops named meant old why new → AsksSome named old new
+stops_some named meant old new (stop.File role fault.NotRead) x = up_to_some named role old new x.0
+stops_some named meant old new (stop.File role fault.TooLong) x = up_to_some named role old new x.0
+stops_some named meant old new (stop.File role (fault.Refused why)) x = up_to_some named role old new x.0
+stops_some named meant old new (stop.Settings setting) x = asks_all named old new x.0
+
+map_ok : {A B E : Type 0} (f : A → B) (o : Result A E) (y : B) → result_map f o ≡ Ok y → (x : A) × (y ≡ f x)
+map_ok f (Ok x) y e = (x, ok_same _ y (f x) e refl)
+map_ok f (Err why) y e = cc
+
+length_kept : (old new : InputValues) (n : ℕ) → new.traces ≡ old.traces → n ≡ 0 → length new.traces ≡ length old.traces + n
+length_kept old new n e h = let k = ap length e in omega (arith, k, h)
+
+bytes_traces : (file : NamedFile) (i j : InputValues) (bytes : Text) → with_bytes file.0 file.1 i bytes ≡ Ok j → length j.traces ≡ length i.traces + trace_count file.0
+bytes_traces (role.Manifest, name) i j bytes e = let x = map_ok (with_film i) (manifest_of bytes) j e in length_kept i j 0 (ap (λ (v : InputValues). v.traces) x.1) refl
+bytes_traces (role.Trace, name) i j bytes e =
+    let x = map_ok (with_trace i) (trace_of name bytes) j e in
+    let k = ap (λ (v : InputValues). length v.traces) x.1 in
+    k ∙ length-append i.traces (x.0 ∷ [])
+bytes_traces (role.Seeks, name) i j bytes e = let x = map_ok (with_seeks i) (seeks_of bytes (segments_of i.film)) j e in length_kept i j 0 (ap (λ (v : InputValues). v.traces) x.1) refl
+
+read_ok : {A : Type 0} (o : Result A Refusal) (x : A) → read_as o ≡ Ok x → o ≡ Ok x
+read_ok (Ok y) x e = let k : y ≡ x = ok_same _ y x refl e in ap Ok k
+read_ok (Err why) x e = cc
+
+-- a chain that went well went well so far
+pub bind_ok : {A B E : Type 0} (o : Result A E) (f : A → Result B E) (y : B) → (o >>= f) ≡ Ok y → (x : A) × (o ≡ Ok x) × (f x ≡ Ok y)
+bind_ok (Ok x) f y e = (x, refl, e)
+bind_ok (Err why) f y e = cc
+
+role_ok : {A : Type 0} (role : Role) (o : Result A FileFault) (x : A) → at_role role o ≡ Ok x → o ≡ Ok x
+role_ok role (Ok y) x e = let k : y ≡ x = ok_same _ y x refl e in ap Ok k
+role_ok role (Err why) x e = cc
+
+file_traces : (file : NamedFile) (i j : InputValues) (files : Files) → with_file i file files ≡ Ok j → length j.traces ≡ length i.traces + trace_count file.0
+unfolding with_file
+file_traces file i j files e = let x = bind_ok (bytes_of file.0 (files file.1)) (λ bytes. read_as (with_bytes file.0 file.1 i bytes)) j e in bytes_traces file i j x.0 (read_ok (with_bytes file.0 file.1 i x.0) j x.2)
+
+files_traces : (later : List NamedFile) (i j : InputValues) (files : Files) → with_files i later files ≡ Ok j → length j.traces ≡ length i.traces + traces_among later
+files_traces [] i j files e = let k = ap (λ (v : InputValues). length v.traces) (ok_same (with_files i [] files) i j refl e) in omega (arith, k)
+files_traces (file ∷ later) i j files e =
+    let x = bind_ok (at_role file.0 (with_file i file files)) (λ more. with_files more later files) j e in
+    let one = file_traces file i x.0 files (role_ok file.0 (with_file i file files) x.0 x.1) in
+    let rest = files_traces later x.0 j files x.2 in
+    let both = sum_by-cons (λ (file : NamedFile). trace_count file.0) file later in
+    omega (arith, one, rest, both)
+
+from_traces : (manifest : Text) (later : List NamedFile) (j : InputValues) (files : Files) → inputs_from manifest later files ≡ Ok j → length j.traces ≡ traces_among later
+unfolding inputs_from
+from_traces manifest later j files e =
+    let x = bind_ok (at_role role.Manifest (film_in manifest files)) (λ film. with_files (film_alone film) later files) j e in
+    let k = files_traces later (film_alone x.0) j files x.2 in
+    omega (arith, k)
+
+misfit_ok : (i j : InputValues) (o : Option Setting) → unless_misfit i o ≡ Ok j → i ≡ j
+misfit_ok i j None e = ok_same _ i j refl e
+misfit_ok i j (Some setting) e = cc
+
+-- there is a trace for each that the words name
+pub ready_traces : (c : CommandWords) (files : Files) (j : InputValues) → ready_of c files ≡ Ok j → length j.traces ≡ length c.traces
+unfolding ready_of
+ready_traces c files j e =
+    let x = bind_ok (inputs_of c files) (λ i. unless_misfit i (misfit (setup_of c) (kinds_of c) i.film)) j e in
+    let same = misfit_ok x.0 j _ x.2 in
+    ap (λ (v : InputValues). length v.traces) (sym same) ∙ from_traces c.manifest (later_files c) x.0 files x.1 ∙ traces_named c.traces c.seeks

@@ -1,0 +1,5 @@
+pub mod Files
+pub mod Inputs
+pub mod Settings
+pub mod Notes
+pub mod Stages

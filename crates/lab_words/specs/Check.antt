@@ -1,0 +1,36 @@
+-- The command `check`: its words and what they ask for.
+use Rattle.std.specs.Prelude.{List, [], ◌∷◌, Option, Some, codes}
+use Rattle.clap.specs.Simple.{App}
+use Rattle.clap.specs.Walk.{Row}
+use Rattle.lab_words.specs.Command.{CommandWords, blank}
+use Rattle.lab_words.specs.Settings.{settings_in, settings_words, with_settings}
+use Rattle.lab_words.specs.Spelling.{Text}
+use Rattle.lab_words.specs.Table.{table_app}
+use Rattle.lab_words.specs.Values.{◌>>=◌, required}
+use Rattle.lab_words.specs.declared.Verb.TheVariants as verb
+use Rattle.lab_words.specs.declared.table.Kind.{Kind}
+use Rattle.lab_words.specs.declared.table.Kind.TheVariants as kind
+
+-- its own words
+abbrev pub check_words : List (Text × Kind)
+check_words = (codes "manifest", kind.Required)
+    ∷ (codes "trace", kind.Required)
+    ∷ (codes "certificate", kind.Required)
+    ∷ []
+
+-- the command for `clap`
+unfoldable pub check_app : App
+check_app = table_app (codes "check") check_words settings_words
+
+-- what `check` is asked for, by the values of its options
+unfoldable pub check_in : List Row → Option CommandWords
+check_in rows = do
+  manifest ← required (codes "manifest") rows
+  trace ← required (codes "trace") rows
+  settings ← settings_in rows
+  certificate ← required (codes "certificate") rows
+  Some (record (with_settings settings (blank verb.Check)) {
+    manifest = manifest;
+    traces = trace ∷ [];
+    certificate = Some certificate;
+  })

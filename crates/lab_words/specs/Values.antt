@@ -1,0 +1,73 @@
+-- The values of a command's options, by the rows of `clap`'s matches: optional or required, numbers, flags and rules.
+use Rattle.std.specs.Prelude.{◌≡◌, ℕ, ◌==◌, Bool, true, List, [], ◌∷◌, Option, Some, None, Result, Ok, Err, codes, option_and_then, unwrap_or, if◌then◌else◌}
+use Rattle.std.specs.List.{list_any}
+use Rattle.std.specs.Str.{bytes_eq}
+use Rattle.clap.specs.Walk.{Row, all_of, first_of}
+use Rattle.lab_model.specs.Rules.{RuleKind}
+use Rattle.lab_words.specs.Rules.{rule_of}
+use Rattle.lab_words.specs.Spelling.{Text, number_of}
+use Rattle.lab_words.specs.declared.WordsErr.{WordsErr}
+use Rattle.lab_words.specs.declared.WordsErr.TheVariants as errors
+
+-- a call gave the value, or refused, or was out of memory
+abbrev pub Gives : {X Y : Type 0} → (X → Y) → Result X WordsErr → Option Y → Type 0
+Gives view (Ok x) read = read ≡ Some (view x)
+Gives view (Err errors.Usage) read = read ≡ None
+Gives view (Err errors.Memory) read = Unit {0}
+
+infixl 10 ◌>>=◌
+-- the first that is refused refuses the whole
+abbrev pub ◌>>=◌ : {A B : Type 0} → Option A → (A → Option B) → Option B
+(Some x) >>= f = f x
+None >>= f = None
+
+-- a value that is empty or begins with `-`
+abbrev pub is_stray : Text → Bool
+is_stray [] = true
+is_stray (c ∷ cs) = c == 45
+
+-- one value and more, of which none is stray
+abbrev pub some_plain : List Text → Option (List Text)
+some_plain [] = None
+some_plain (text ∷ texts) = if list_any is_stray (text ∷ texts) then None else Some (text ∷ texts)
+
+-- a value that is given, unless it is stray
+abbrev pub not_stray : Text → Option (Option Text)
+not_stray text = if is_stray text then None else Some (Some text)
+
+-- none where nothing is given; a stray value is refused
+abbrev pub checked : Option Text → Option (Option Text)
+checked None = Some None
+checked (Some text) = not_stray text
+
+-- the value of an option, or that none is given; refused where it is stray
+unfoldable pub optional : Text → List Row → Option (Option Text)
+optional name rows = checked (first_of name rows)
+
+-- the value of an option that has to be given
+unfoldable pub required : Text → List Row → Option Text
+required name rows = option_and_then (λ given. given) (optional name rows)
+
+-- the number, or its default where none is given
+abbrev pub number_or : ℕ → ℕ → ℕ → Option Text → Option ℕ
+number_or default least most None = Some default
+number_or default least most (Some text) = number_of least most text
+
+-- the number of an option from `least` to `most`, or its default
+unfoldable pub number_in : ℕ → ℕ → ℕ → Text → List Row → Option ℕ
+number_in default least most name rows = option_and_then (number_or default least most) (optional name rows)
+
+-- the values of a word that stands once or more; refused where one is stray
+unfoldable pub several : Text → List Row → Option (List Text)
+several name rows = option_and_then some_plain (all_of name rows)
+
+-- whether a flag is given
+abbrev pub is_given : Text → List Row → Bool
+is_given name rows = bytes_eq (unwrap_or (first_of name rows) []) (codes "true")
+
+-- the rule, which has to be given, behind its word
+unfoldable pub rule_in : List Row → Option (Text × RuleKind)
+rule_in rows = do
+  text ← required (codes "rule") rows
+  rule ← rule_of text
+  Some (text, rule)

@@ -1,0 +1,152 @@
+//! The words of `compare`.
+
+ghost use Rattle.std.specs.Prelude.{◌≡◌, ◌==◌, IfOk, map, string_bytes};
+ghost use Rattle.std.specs.List.{slice_split};
+ghost use Rattle.clap.specs.Words.{found_of, rows_of};
+ghost use Rattle.lab_words.specs.Command.{named, view};
+ghost use Rattle.lab_words.specs.Compare.{compare_app, compare_in, distinct, few, named_rule, named_rules, rules_in, traces_in};
+ghost use Rattle.lab_words.specs.Table.{accepted};
+ghost use Rattle.lab_words.specs.Values.{Gives};
+ghost use Rattle.lab_words.specs.Words.{asked_of};
+
+use crate::rules::rule_of;
+use crate::settings::{SETTINGS, settings_in};
+use crate::table::{Kind, Word, table_matches};
+use crate::values::{file_name, is_given, optional_file_name, required, several};
+use crate::{Command, NamedRule, Verb, WordsErr};
+use clap::ArgMatches;
+use indexmap::IndexSet;
+use std::alloc::{AllocError, AllocFailed, Global};
+
+/// The words of `compare` alone.
+#[rattlefmt::skip]
+static COMPARE: [Word; 5] = [
+    Word { name: "manifest", kind: Kind::Required },
+    Word { name: "rules", kind: Kind::Required },
+    Word { name: "abandon", kind: Kind::Flag },
+    Word { name: "seeks", kind: Kind::Optional },
+    Word { name: "trace", kind: Kind::Several },
+];
+
+/// The most rules, without repeats.
+const MOST_RULES: usize = 32;
+
+/// The most traces, without repeats.
+const MOST_TRACES: usize = 64;
+
+/// The matches of `compare` on the words behind it.
+fn compare_matches<'a>(alloc: Global, words: &'a [String]) -> Result<ArgMatches<'a>, WordsErr>
+    ensures { Gives (λ m. rows_of (found_of m)) result
+        (accepted compare_app (map string_bytes words.entry.now)) }
+{
+    table_matches(alloc, "compare", &COMPARE, &SETTINGS, words)
+}
+
+/// The texts without repeats, each at its first place.
+fn distinct<'a>(alloc: Global, texts: &[&'a str]) -> Result<IndexSet<&'a str>, AllocFailed<&'a str>>
+    ensures { IfOk result (λ set. map (λ text. text.now) set.keys ≡ distinct (map (λ text. text.now) texts.now)) }
+{
+    let mut set = IndexSet::new(alloc);
+    for text in texts {
+        set.insert(*text)?;
+    }
+    Ok(set)
+}
+
+/// At most so many texts without repeats, each at its first place.
+#[tactic(auto, unfolding(crate::specs::Compare::few))]
+fn few<'a>(alloc: Global, texts: &[&'a str], most: usize) -> Result<IndexSet<&'a str>, WordsErr>
+    ensures { Gives (λ set. map (λ text. text.now) set.keys) result (few most (map (λ text. text.now) texts.now)) }
+{
+    let set = distinct(alloc, texts)?;
+    if set.len() > most {
+        return Err(WordsErr::Usage);
+    }
+    Ok(set)
+}
+
+/// What stands between the slashes of a text.
+fn pieces_of<'a>(alloc: Global, text: &'a str) -> Result<Vec<&'a str>, AllocError>
+    ensures { IfOk result (λ pieces. map (λ piece. piece.now) pieces.items ≡ slice_split (λ b. b == 47) text.entry.now) }
+{
+    text.split('/').collect(alloc)
+}
+
+/// The rule that a text spells, with the text as its name.
+fn named_rule(alloc: Global, text: &str) -> Result<NamedRule, WordsErr>
+    ensures { Gives named result (named_rule text.now) }
+{
+    Ok(NamedRule {
+        rule: rule_of(alloc, text)?,
+        name: text.to_string(alloc)?,
+    })
+}
+
+/// The rule of each text.
+fn named_rules(alloc: Global, texts: &[&str]) -> Result<Vec<NamedRule>, WordsErr>
+    ensures { Gives (λ rules. map named rules.items) result (named_rules (map (λ text. text.now) texts.now)) }
+{
+    let mut rules = Vec::new(alloc);
+    for text in texts {
+        rules.push(named_rule(alloc, text)?)?;
+    }
+    Ok(rules)
+}
+
+/// The rules, joined by `/`.
+#[tactic(auto, unfolding(crate::specs::Compare::rules_in))]
+fn rules_in(alloc: Global, matches: &ArgMatches<'_>) -> Result<Vec<NamedRule>, WordsErr>
+    ensures { Gives (λ rules. map named rules.items) result (rules_in (rows_of (found_of matches.now))) }
+{
+    let pieces = pieces_of(alloc, required(matches, "rules")?)?;
+    let names = few(alloc, &pieces, MOST_RULES)?;
+    named_rules(alloc, names.as_slice())
+}
+
+/// The texts, owned.
+fn owned(alloc: Global, texts: &[&str]) -> Result<Vec<String>, AllocError>
+    ensures { IfOk result (λ names. map string_bytes names.items ≡ map (λ text. text.now) texts.now) }
+{
+    let mut names = Vec::new(alloc);
+    for text in texts {
+        names.push(text.to_string(alloc)?)?;
+    }
+    Ok(names)
+}
+
+/// The traces.
+#[tactic(auto, unfolding(crate::specs::Compare::traces_in))]
+fn traces_in(alloc: Global, matches: &ArgMatches<'_>) -> Result<Vec<String>, WordsErr>
+    ensures { Gives (λ names. map string_bytes names.items) result (traces_in (rows_of (found_of matches.now))) }
+{
+    let names = few(alloc, several(matches, "trace")?, MOST_TRACES)?;
+    Ok(owned(alloc, names.as_slice())?)
+}
+
+/// What `compare` is asked for, by the values of its options.
+#[tactic(auto, unfolding(crate::specs::Compare::compare_in))]
+fn compare_in(alloc: Global, matches: &ArgMatches<'_>) -> Result<Command, WordsErr>
+    ensures { Gives view result (compare_in (rows_of (found_of matches.now))) }
+{
+    let manifest = file_name(alloc, matches, "manifest")?;
+    let rules = rules_in(alloc, matches)?;
+    let settings = settings_in(alloc, matches)?;
+    let seeks = optional_file_name(alloc, matches, "seeks")?;
+    let traces = traces_in(alloc, matches)?;
+    Ok(Command {
+        manifest,
+        traces,
+        rules,
+        abandon: is_given(matches, "abandon"),
+        seeks,
+        ..settings.command(alloc, Verb::Compare)
+    })
+}
+
+/// What the words behind `compare` ask for.
+pub(crate) fn compare_of(alloc: Global, words: &[String]) -> Result<Command, WordsErr>
+    ensures { Gives view result (asked_of Verb.Compare (map string_bytes words.now)) }
+{
+    let matches = compare_matches(alloc, words)?;
+    compare_in(alloc, &matches)
+}

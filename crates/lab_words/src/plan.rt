@@ -1,0 +1,59 @@
+//! The words of `plan`.
+
+ghost use Rattle.std.specs.Prelude.{map, string_bytes};
+ghost use Rattle.clap.specs.Words.{found_of, rows_of};
+ghost use Rattle.lab_words.specs.Command.{view};
+ghost use Rattle.lab_words.specs.Plan.{plan_app, plan_in};
+ghost use Rattle.lab_words.specs.Table.{accepted};
+ghost use Rattle.lab_words.specs.Values.{Gives};
+ghost use Rattle.lab_words.specs.Words.{asked_of};
+
+use crate::settings::{SETTINGS, settings_in};
+use crate::table::{Kind, Word, table_matches};
+use crate::values::{file_name, is_given, number_in};
+use crate::{Command, Verb, WordsErr};
+use clap::ArgMatches;
+use std::alloc::Global;
+
+/// The words of `plan` alone.
+#[rattlefmt::skip]
+static PLAN: [Word; 4] = [
+    Word { name: "manifest", kind: Kind::Required },
+    Word { name: "trace", kind: Kind::Required },
+    Word { name: "budget", kind: Kind::Optional },
+    Word { name: "as-certificate", kind: Kind::Flag },
+];
+
+/// The matches of `plan` on the words behind it.
+fn plan_matches<'a>(alloc: Global, words: &'a [String]) -> Result<ArgMatches<'a>, WordsErr>
+    ensures { Gives (λ m. rows_of (found_of m)) result
+        (accepted plan_app (map string_bytes words.entry.now)) }
+{
+    table_matches(alloc, "plan", &PLAN, &SETTINGS, words)
+}
+
+/// What `plan` is asked for, by the values of its options.
+#[tactic(auto, unfolding(crate::specs::Plan::plan_in))]
+fn plan_in(alloc: Global, matches: &ArgMatches<'_>) -> Result<Command, WordsErr>
+    ensures { Gives view result (plan_in (rows_of (found_of matches.now))) }
+{
+    let manifest = file_name(alloc, matches, "manifest")?;
+    let trace = file_name(alloc, matches, "trace")?;
+    let settings = settings_in(alloc, matches)?;
+    let budget = number_in(matches, "budget", 200_000, 1, 1_000_000)?;
+    Ok(Command {
+        manifest,
+        traces: vec![in alloc; trace]?,
+        budget,
+        as_certificate: is_given(matches, "as-certificate"),
+        ..settings.command(alloc, Verb::Plan)
+    })
+}
+
+/// What the words behind `plan` ask for.
+pub(crate) fn plan_of(alloc: Global, words: &[String]) -> Result<Command, WordsErr>
+    ensures { Gives view result (asked_of Verb.Plan (map string_bytes words.now)) }
+{
+    let matches = plan_matches(alloc, words)?;
+    plan_in(alloc, &matches)
+}

@@ -1,0 +1,72 @@
+//! The settings that the commands on a manifest share.
+
+ghost use Rattle.std.specs.Prelude.{◌≡◌};
+ghost use Rattle.clap.specs.Words.{found_of, rows_of};
+ghost use Rattle.lab_words.specs.Command.{blank, view};
+ghost use Rattle.lab_words.specs.Settings.{settings_in, settings_view, utilities_in, with_settings};
+ghost use Rattle.lab_words.specs.Values.{Gives};
+
+use crate::numbers::utilities_of;
+use crate::table::{Kind, Word};
+use crate::values::{number_in, required};
+use crate::{Command, Verb, WordsErr};
+use clap::ArgMatches;
+use std::alloc::Global;
+
+/// Their words.
+#[rattlefmt::skip]
+pub(crate) static SETTINGS: [Word; 5] = [
+    Word { name: "buffer", kind: Kind::Optional },
+    Word { name: "utilities", kind: Kind::Optional },
+    Word { name: "switch", kind: Kind::Optional },
+    Word { name: "stall", kind: Kind::Optional },
+    Word { name: "startup", kind: Kind::Optional },
+];
+
+/// The numbers that each command on a manifest has.
+#[derive(Drop)]
+pub(crate) struct Settings {
+    pub buffer_ms: u32,
+    pub utilities: Vec<u32>,
+    pub switch: u32,
+    pub stall: u32,
+    pub startup: u32,
+}
+
+/// The utilities that have to be given.
+#[tactic(auto, unfolding(crate::specs::Settings::utilities_in))]
+fn utilities_in(alloc: Global, matches: &ArgMatches<'_>) -> Result<Vec<u32>, WordsErr>
+    ensures { Gives (λ utilities. utilities.items) result (utilities_in (rows_of (found_of matches.now))) }
+{
+    utilities_of(alloc, required(matches, "utilities")?)
+}
+
+/// The numbers of a command on a manifest.
+#[tactic(auto, unfolding(crate::specs::Settings::settings_in))]
+pub(crate) fn settings_in(alloc: Global, matches: &ArgMatches<'_>) -> Result<Settings, WordsErr>
+    ensures { Gives settings_view result (settings_in (rows_of (found_of matches.now))) }
+{
+    Ok(Settings {
+        buffer_ms: number_in(matches, "buffer", 25_000, 1, 10_000_000)?,
+        utilities: utilities_in(alloc, matches)?,
+        switch: number_in(matches, "switch", 0, 0, 1_000_000)?,
+        stall: number_in(matches, "stall", 100, 0, 1_000_000)?,
+        startup: number_in(matches, "startup", 1, 0, 1_000_000)?,
+    })
+}
+
+impl Settings {
+    /// A command that asks for these settings alone.
+    pub(crate) fn command(self, alloc: Global, verb: Verb) -> Command
+        ensures { view result ≡ with_settings (settings_view self) (blank verb) }
+    {
+        Command {
+            buffer_ms: self.buffer_ms,
+            utilities: self.utilities,
+            switch: self.switch,
+            stall: self.stall,
+            startup: self.startup,
+            ..Command::blank(alloc, verb)
+        }
+    }
+}

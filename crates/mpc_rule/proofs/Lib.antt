@@ -1,0 +1,4 @@
+pub mod Lists
+pub mod Cut
+pub mod Drafts
+pub mod History

@@ -1,0 +1,121 @@
+//! RobustMPC (Yin, Jindal, Sekar and Sinopoli, SIGCOMM 2015) in this project's fixed point: a rule that looks a few segments
+//! ahead, and reckons with a rate that its errors so far make cautious.
+#![tactic(auto)]
+
+ghost use Rattle.std.specs.Prelude.{◌≡◌, ◌≤◌, ◌<◌, ◌↔◌, [], ◌∷◌, ◌++◌, ℕ, List, length, IfOk, IsTrue};
+ghost use Rattle.lab_model.specs.Film.{IsWithin};
+ghost use Rattle.lab_model.specs.Rules.{mpc};
+ghost use Rattle.mpc_rule.specs.Recall.{Recall, StandsFor, rate_ahead};
+
+mod ring;
+mod search;
+
+use circular_buffer::HeapCircularBuffer;
+use lab_model::{Context, Manifest, Rule, Sample, Setup};
+use ring::{KEPT, error_in, greatest_in, harmonic_in};
+use search::{LONGEST, Outlook};
+use std::alloc::{AllocError, Global};
+use std::marker::Model;
+
+/// Why there is no rule.
+#[derive(Clone, Copy, PartialEq, Eq, Debug)]
+pub enum MpcErr {
+    /// The horizon is 0 or above 5.
+    BadHorizon,
+    /// Out of memory.
+    Memory,
+}
+
+impl From<AllocError> for MpcErr {
+    ghost use Rattle.std.specs.Prelude.{◌≡◌};
+    ghost use Rattle.mpc_rule.specs.declared.MpcErr.TheVariants.{Memory};
+
+    ghost from_gives = { λ _ e. e ≡ Memory };
+
+    fn from(_refused: AllocError) -> MpcErr {
+        MpcErr::Memory
+    }
+}
+
+/// The rule RobustMPC: the first rung of the first list of rungs, as long as the horizon, with the greatest horizon score.
+/// It keeps the last 5 rates and the last 5 errors.
+#[derive(Drop)]
+pub struct RobustMpc {
+    horizon: u8,
+    rates: HeapCircularBuffer<u64>,
+    errors: HeapCircularBuffer<u64>,
+}
+
+impl Model for RobustMpc {
+    ghost use Rattle.lab_model.specs.Film.{IsWithin};
+    ghost use Rattle.mpc_rule.specs.Recall.{IsRing, Recall};
+
+    ghost Value = { Recall };
+
+    ghost view = { λ r. record { horizon = r.horizon; rates = r.rates.items; errors = r.errors.items } };
+
+    ghost invariant = { λ r. IsWithin 1 5 r.horizon × IsRing 1 10000000000 r.rates × IsRing 0 10000000000000 r.errors };
+}
+
+impl RobustMpc {
+    /// The rule of a horizon of 1 to 5 segments, for the empty history. `BadHorizon` exactly where the horizon is 0 or above 5.
+    pub fn new(alloc: Global, horizon: u8) -> Result<RobustMpc, MpcErr>
+        ensures kind { IfOk result (λ r. r.horizon ≡ horizon) }
+        ensures stands { IfOk result (λ r. StandsFor r []) }
+        ensures bad { (result ≡ Err MpcErr.BadHorizon) ↔ (¬ IsWithin 1 5 horizon) }
+    {
+        if horizon == 0 || horizon as usize > LONGEST {
+            return Err(MpcErr::BadHorizon);
+        }
+        Ok(RobustMpc {
+            horizon,
+            rates: HeapCircularBuffer::with_capacity(alloc, KEPT)?,
+            errors: HeapCircularBuffer::with_capacity(alloc, KEPT)?,
+        })
+    }
+
+    /// The rate that is reckoned with, in bits per second.
+    fn rate_ahead(&self) -> u64
+        requires { 0 < length self.now.rates }
+        ensures value { result ≡ rate_ahead self.now }
+        ensures limits { IsWithin 1 10000000000 result }
+    {
+        (1000 * harmonic_in(&self.rates) / (1000 + greatest_in(&self.errors))).max(1)
+    }
+}
+
+impl Rule for RobustMpc {
+    ghost kind = { λ r. mpc r.horizon };
+
+    ghost stands_for = { StandsFor };
+
+    fn fits(&self, m: &Manifest) -> bool {
+        let _ = m;
+        true
+    }
+
+    fn observe(&mut self, s: Sample) {
+        if !self.rates.is_empty() {
+            self.errors.push_back(error_in(&self.rates, s.rate));
+        }
+        self.rates.push_back(s.rate);
+    }
+
+    fn choose(&self, m: &Manifest, set: &Setup, c: &Context) -> u8 {
+        if self.rates.is_empty() {
+            return 0;
+        }
+        let outlook = Outlook {
+            film: m,
+            setup: set,
+            context: c,
+            rungs: set.weights.count(),
+            rate: self.rate_ahead(),
+        };
+        let to_come = m.segments() - c.next;
+        outlook.best_rung(to_come.min(self.horizon as u16) as u8)
+    }
+}
+
+#[cfg(test)]
+mod tests;

@@ -1,0 +1,36 @@
+-- The windows of a throughput rule, and what its rings keep of a history.
+use Rattle.std.specs.Prelude.{◌≡◌, ℕ, ◌/◌, List, [], ◌∷◌, ◌++◌, length, map, sum}
+use Rattle.std.specs.List.{All}
+use Rattle.lab_model.specs.Film.{IsWithin}
+use Rattle.lab_model.specs.Rates.{last_of}
+use Rattle.lab_model.specs.Rules.{RuleKind, throughput}
+
+-- 1 to 4 windows, each of 1 to 100 samples
+pub record AreWindows (windows : List ℕ) : Type 0 where
+  pub count : IsWithin 1 4 (length windows)
+  pub limits : All (IsWithin 1 100) windows
+
+-- a window of so many samples, and the last rates that fit it
+pub record Kept : Type 0 where
+  pub width : ℕ
+  pub rates : List ℕ
+
+-- a window without rates
+abbrev pub untold : ℕ → Kept
+untold width = record { width = width; rates = [] }
+
+-- the window after one rate more
+abbrev pub told : ℕ → Kept → Kept
+told rate k = record { width = k.width; rates = last_of k.width (k.rates ++ rate ∷ []) }
+
+-- the floor mean of its rates, 0 without rates
+abbrev pub mean_of : Kept → ℕ
+mean_of k = sum k.rates / length k.rates
+
+-- the kind of a rule with these windows
+abbrev pub kind_of : List Kept → RuleKind
+kind_of ks = throughput (map (λ k. k.width) ks)
+
+-- each window keeps the last rates of the history
+abbrev pub StandsFor : List Kept → List ℕ → Type 0
+StandsFor ks history = All (λ k. k.rates ≡ last_of k.width history) ks
