@@ -3,7 +3,7 @@ use Rattle.std.proofs.Common.{◌≡◌, ◌∙◌, ℕ, zero, suc, ◌+◌, ◌
 use Rattle.std.specs.Prelude.{ℤ, slice_index, nat_lt}
 use Rattle.std.specs.List.{All}
 use Rattle.lab_model.specs.Film.{rungs_of, segments_of}
-use Rattle.frontier_planner.specs.declared.plan.Chain.{Chain}
+use Rattle.frontier_planner.specs.declared.plans.Chain.{Chain}
 use Rattle.frontier_planner.specs.Labels.{AreRungs, Task, dominates, next_label, start_label}
 use Rattle.frontier_planner.specs.Parts.{CertificateParts, ChainParts}
 use Rattle.frontier_planner.specs.Valid.{chain_in}
