@@ -1,25 +1,22 @@
 -- Certificates: what is read is of the form and spelled so, and what is of the form is read from its spelling.
-use Rattle.std.proofs.Common.{◌≡◌, ◌∙◌, ◌+◌, ◌-◌, ◌*◌, ◌/◌, ◌%◌, ◌^◌, ◌<◌, ◌≤◌, ◌&&◌, ◌==◌, ◌++◌, ℕ, zero, suc, List, [], ◌∷◌, Bool, true, false, Result, Ok, Err, codes, cond, drop, length, length-append, map, nat_le, take, refl, sym, ap, subst, inl, inr, ℤ, add-one, append_assoc, append-nil, arith, lit≤}
-use Rattle.std.specs.List.{All, flat_map}
+use Rattle.std.proofs.Common.{◌≡◌, ◌∙◌, ◌+◌, ◌-◌, ◌*◌, ◌/◌, ◌%◌, ◌^◌, ◌<◌, ◌≤◌, ◌++◌, ℕ, zero, suc, List, [], ◌∷◌, true, Ok, codes, drop, length, length-append, map, nat_le, take, refl, sym, ap, subst, append_assoc, arith, lit≤}
+use Rattle.std.specs.List.{All}
 use Rattle.std.specs.Fmt.{decimal, signed_decimal}
-use Rattle.std.specs.Str.{bytes_eq}
-use Rattle.std.proofs.lemmas.Bool.{and_parts, cases_lt, eqb-true}
 use Rattle.std.proofs.lemmas.Bool.Decides.{nat_tests}
 use Rattle.std.proofs.lemmas.List.{drop_at, length-drop, length-take, take_at, take-append-drop}
 use Rattle.std.proofs.lemmas.List.Concat.{flat_map-append}
 use Rattle.std.proofs.lemmas.List.Elements.{All-append, All-cons, All-drop, All-head, All-nil, All-tail, All-take}
 use Rattle.std.proofs.Math.Nat.{div-le_self, mod-lt}
-use Rattle.lab_model.specs.declared.fault.Refusal.{Refusal}
 use Rattle.lab_model.specs.declared.label.Label.{Label}
 use Rattle.lab_io.specs.Sink.{Text}
 use Rattle.lab_io.specs.Piece.{fields_line, later_fields}
 use Rattle.frontier_planner.specs.Parts.{ChainParts}
 use Rattle.certificate_text.specs.Form.{AreChains, HasDigits, IsChain, IsSpelled, label_count, names_per}
-use Rattle.certificate_text.specs.Fields.{◌>>=◌, Read, known_at, number_at, numbers_at, passed, signed_at, stop_before, word_at}
-use Rattle.certificate_text.specs.Reading.{Place, Walks, chain_at, chains_at, joined, label_at, labels_at, layer_at, numbers_of_label_at}
+use Rattle.certificate_text.specs.Fields.{◌>>=◌, known_at, number_at, numbers_at, passed, signed_at, stop_before, word_at}
+use Rattle.certificate_text.specs.Reading.{Place, chain_at, chains_at, joined, label_at, labels_at, layer_at, numbers_of_label_at}
 use Rattle.certificate_text.specs.Spelling.{chain_lines, chains_lines, label_fields, label_lines, layer_fields, lines_text}
 use Rattle.certificate_text.proofs.Loops.{given, ok_is}
-use Rattle.certificate_text.proofs.FieldLaws.{TakesNumbers, bind_ok, known_again, known_takes, later_numbers, number_again, number_takes, numbers_again, numbers_take, numbers_text, passed_ok, signed_again, signed_takes, stop_low, word_again, word_takes}
+use Rattle.certificate_text.proofs.FieldLaws.{bind_ok, known_again, known_takes, later_numbers, number_again, number_takes, numbers_again, numbers_take, numbers_text, passed_ok, signed_again, signed_takes, stop_low, word_again, word_takes}
 
 -- where a reader stands
 abbrev place : ℕ → ℕ → Text → Place

@@ -1,9 +1,9 @@
 -- Fields: what is read is spelled so, and what is spelled so is read, whatever follows.
-use Rattle.std.proofs.Common.{◌≡◌, ◌≢◌, ◌∙◌, ◌+◌, ◌-◌, ◌*◌, ◌^◌, ◌<◌, ◌≤◌, ◌&&◌, ◌==◌, ◌++◌, ℕ, zero, suc, List, [], ◌∷◌, Bool, true, false, not, Option, Some, None, Result, Ok, Err, cond, drop, get_or, length, length-append, map, nat_le, nat_lt, take, position, refl, sym, ap, subst, inl, inr, ℤ, pos, negsuc, ◌-ℤ◌, ◌<ℤ◌, add-one, drop-cons, append_assoc, append-nil, arith, lit≤}
+use Rattle.std.proofs.Common.{◌≡◌, ◌∙◌, ◌+◌, ◌-◌, ◌^◌, ◌<◌, ◌≤◌, ◌&&◌, ◌==◌, ◌++◌, ℕ, zero, suc, List, [], ◌∷◌, Bool, true, false, not, Option, Some, None, Result, Ok, Err, cond, drop, get_or, length, length-append, map, nat_le, nat_lt, take, position, refl, sym, ap, subst, ℤ, pos, negsuc, ◌-ℤ◌, add-one, drop-cons, append_assoc, arith, lit≤}
 use Rattle.std.specs.List.{All, position_or_len}
 use Rattle.std.specs.Fmt.{decimal, signed_decimal}
 use Rattle.std.specs.Str.{all_ascii_digits, bytes_eq}
-use Rattle.std.proofs.lemmas.Bool.{and_parts, cases_lt, eqb-true}
+use Rattle.std.proofs.lemmas.Bool.{and_parts, eqb-true}
 use Rattle.std.proofs.lemmas.Bool.Decides.{nat_tests}
 use Rattle.std.proofs.lemmas.Int.{ints}
 use Rattle.std.proofs.lemmas.List.{drop_at, get_or_append_left, take_at, take-append-drop}
@@ -16,10 +16,10 @@ use Rattle.std.proofs.Math.Seq.{get_or-append_seam}
 use Rattle.lab_model.specs.declared.fault.Refusal.{Refusal}
 use Rattle.lab_io.specs.Sink.{Text}
 use Rattle.lab_io.specs.Number.{numeral}
-use Rattle.lab_io.specs.Piece.{fields_line, later_fields}
+use Rattle.lab_io.specs.Piece.{later_fields}
 use Rattle.lab_io.proofs.Numbers.{decimal-spelling, digit_at, numeral-decimal, numeral-takes}
 use Rattle.certificate_text.specs.Form.{HasDigits, HasSignedDigits}
-use Rattle.certificate_text.specs.Fields.{◌>>=◌, Read, bad_line, field_at, known_at, negative, number_at, numbers_at, parted, passed, signed_at, signed_of, some_at, stop_before, unsigned_of, word_at}
+use Rattle.certificate_text.specs.Fields.{◌>>=◌, field_at, known_at, negative, number_at, numbers_at, parted, passed, signed_at, signed_of, some_at, stop_before, unsigned_of, word_at}
 use Rattle.certificate_text.specs.Reading.{list_at}
 use Rattle.certificate_text.proofs.Loops.{given, ok_is}
 

@@ -1,11 +1,10 @@
 -- The lines before the chains: what is read is of the form and spelled so, and what is of the form is read from its spelling.
-use Rattle.std.proofs.Common.{◌≡◌, ◌∙◌, ◌+◌, ◌*◌, ◌^◌, ◌<◌, ◌≤◌, ◌&&◌, ◌++◌, ℕ, zero, suc, List, [], ◌∷◌, Bool, true, false, Result, Ok, Err, codes, cond, length, map, nat_le, refl, sym, ap, subst, ℤ, append_assoc, append-nil, arith, lit≤}
+use Rattle.std.proofs.Common.{◌≡◌, ◌∙◌, ◌+◌, ◌*◌, ◌≤◌, ◌&&◌, ◌++◌, ℕ, List, [], ◌∷◌, Bool, true, false, Result, Ok, Err, codes, cond, length, map, nat_le, refl, sym, ap, subst, ℤ, append_assoc, arith, lit≤}
 use Rattle.std.specs.List.{All}
 use Rattle.std.specs.Fmt.{decimal, signed_decimal}
 use Rattle.std.specs.Str.{bytes_eq}
 use Rattle.std.proofs.lemmas.Bool.{and_parts}
 use Rattle.std.proofs.lemmas.Bool.Decides.{nat_tests}
-use Rattle.lab_model.specs.declared.fault.Refusal.{Refusal}
 use Rattle.std.specs.Prelude.{IfOk}
 use Rattle.lab_model.specs.declared.fault.InputFault.{InputFault}
 use Rattle.lab_model.specs.Reading.{Gives}
@@ -15,12 +14,12 @@ use Rattle.lab_io.specs.Piece.{fields_line, later_fields}
 use Rattle.frontier_planner.specs.Parts.{CertificateParts}
 use Rattle.certificate_text.specs.declared.certificate.Certificate.{Certificate}
 use Rattle.certificate_text.specs.Form.{HasDigits, HasSignedDigits, IsCertificate, IsHead, certificate_parts}
-use Rattle.certificate_text.specs.Fields.{◌>>=◌, field_at, number_at, numbers_at, passed, signed_at, stop_before, word_at}
+use Rattle.certificate_text.specs.Fields.{◌>>=◌, field_at, number_at, numbers_at, passed, signed_at, word_at}
 use Rattle.certificate_text.specs.Reading.{Counts, Place, certificate_of, chains_at, count_at, counts_at, end_at, head_at, list_at, nothing_at, score_at, score_row, table_at, version_at, version_of}
 use Rattle.certificate_text.specs.Spelling.{chains_lines, end_text, head_lines, lines_text, spelling, table_lines, table_text, version_text}
-use Rattle.certificate_text.proofs.Loops.{given, ok_is}
-use Rattle.certificate_text.proofs.FieldLaws.{TakesNumbers, bind_ok, bytes_eq-same, field_again, field_takes, is_free, later_numbers, list_takes, number_again, number_takes, numbers_again, numbers_text, passed_ok, same_bytes, signed_again, signed_takes, word_again, word_takes}
-use Rattle.certificate_text.proofs.CertificateLaws.{TakesChains, chains_again, chains_take}
+use Rattle.certificate_text.proofs.Loops.{ok_is}
+use Rattle.certificate_text.proofs.FieldLaws.{bind_ok, bytes_eq-same, field_again, field_takes, is_free, later_numbers, list_takes, number_again, number_takes, numbers_again, numbers_text, passed_ok, signed_again, signed_takes, word_again, word_takes}
+use Rattle.certificate_text.proofs.CertificateLaws.{chains_again, chains_take}
 use Rattle.certificate_text.proofs.Texts.{counts_text, head_text, lists_text, spelling_parts}
 
 -- ---- the first line

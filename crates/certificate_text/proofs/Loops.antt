@@ -1,5 +1,5 @@
 -- What the loops of the reader have read, one step at a time.
-use Rattle.std.proofs.Common.{◌≡◌, ◌∙◌, ◌+◌, ◌-◌, ◌/◌, ◌%◌, ◌<◌, ◌≤◌, ℕ, zero, suc, List, [], ◌∷◌, ◌++◌, Result, Ok, Err, refl, sym, ap, append_assoc, append-nil, arith}
+use Rattle.std.proofs.Common.{◌≡◌, ◌+◌, ◌-◌, ◌/◌, ◌%◌, ◌<◌, ◌≤◌, ℕ, suc, List, [], ◌∷◌, ◌++◌, Result, Ok, Err, refl, sym, ap, append_assoc, append-nil, arith}
 use Rattle.lab_model.specs.declared.fault.Refusal.{Refusal}
 use Rattle.lab_io.specs.Sink.{Text}
 use Rattle.frontier_planner.specs.Parts.{ChainParts}

@@ -1,13 +1,12 @@
 -- The text of a certificate, part by part, and how the writer's loops go through it.
-use Rattle.std.proofs.Common.{◌≡◌, ◌∙◌, ◌+◌, ◌-◌, ◌*◌, ◌/◌, ◌%◌, ◌<◌, ◌≤◌, ℕ, List, [], ◌∷◌, ◌++◌, Bool, true, false, codes, drop, get_or, length, map, take, refl, sym, ap, subst, suc, add-one, append_assoc, append-nil, drop-cons, arith}
+use Rattle.std.proofs.Common.{◌≡◌, ◌∙◌, ◌+◌, ◌-◌, ◌*◌, ◌/◌, ◌%◌, ◌<◌, ◌≤◌, ℕ, List, [], ◌∷◌, ◌++◌, Bool, codes, drop, get_or, length, map, take, refl, sym, ap, subst, suc, add-one, append_assoc, append-nil, drop-cons, arith}
 use Rattle.std.specs.Fmt.{decimal, signed_decimal}
-use Rattle.std.specs.List.{flat_map}
 use Rattle.std.proofs.lemmas.List.{drop_all}
 use Rattle.std.proofs.lemmas.List.Concat.{flat_map-append}
 use Rattle.lab_model.specs.declared.label.Label.{Label}
 use Rattle.lab_io.specs.Sink.{Text}
 use Rattle.lab_io.specs.Piece.{fields_line, later_fields}
-use Rattle.frontier_planner.specs.declared.plan.Chain.{Chain}
+use Rattle.frontier_planner.specs.declared.plans.Chain.{Chain}
 use Rattle.frontier_planner.specs.Parts.{CertificateParts, ChainParts, chain_parts}
 use Rattle.certificate_text.specs.Form.{AreChains, IsChain, names_per}
 use Rattle.certificate_text.specs.Spelling.{chain_lines, chains_lines, end_text, head_lines, label_fields, label_numbers, label_lines, lines_text, spelling, table_lines, version_text}

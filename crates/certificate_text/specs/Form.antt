@@ -1,5 +1,5 @@
 -- The form of certificates: the counts and the digits that the grammar allows.
-use Rattle.std.specs.Prelude.{◌≡◌, ℕ, ◌+◌, ◌-◌, ◌*◌, ◌/◌, ◌^◌, ◌<◌, ◌≤◌, ◌==◌, Bool, List, [], ◌∷◌, length, map, if◌then◌else◌, ℤ, pos, ◌-ℤ◌, ◌<ℤ◌, sum}
+use Rattle.std.specs.Prelude.{◌≡◌, ℕ, ◌+◌, ◌*◌, ◌/◌, ◌^◌, ◌<◌, ◌≤◌, ◌==◌, List, [], ◌∷◌, length, map, if◌then◌else◌, ℤ, pos, ◌-ℤ◌, ◌<ℤ◌}
 use Rattle.std.specs.List.{All}
 use Rattle.lab_model.specs.declared.label.Label.{Label}
 use Rattle.lab_model.specs.Film.{IsWithin}

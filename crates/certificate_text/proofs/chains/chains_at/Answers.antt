@@ -1,4 +1,4 @@
-use Rattle.std.proofs.Common.{◌∙◌, ◌+◌, map, sym, arith}
+use Rattle.std.proofs.Common.{◌∙◌, map, sym, arith}
 use Rattle.std.proofs.lemmas.List.{map_push}
 use Rattle.lab_model.proofs.Refusals.{fails_on, gives_error}
 use Rattle.frontier_planner.specs.Parts.{chain_parts}

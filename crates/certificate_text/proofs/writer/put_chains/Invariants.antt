@@ -1,4 +1,4 @@
-use Rattle.std.proofs.Common.{◌≡◌, drop, map, Result}
+use Rattle.std.proofs.Common.{drop, map, Result}
 use Rattle.lab_io.specs.Sink.{Puts, Seen}
 use Rattle.lab_io.specs.declared.PutErr.{PutErr}
 use Rattle.frontier_planner.specs.Parts.{chain_parts}

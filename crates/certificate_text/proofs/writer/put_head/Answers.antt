@@ -1,6 +1,5 @@
 use Rattle.std.proofs.Common.{◌∷◌, [], ◌++◌, codes, map, sym}
 use Rattle.std.specs.Fmt.{decimal, signed_decimal}
-use Rattle.lab_model.specs.Film.{rungs_of, segments_of}
 use Rattle.lab_io.specs.Piece.{fields_line}
 use Rattle.lab_io.proofs.Puts.{puts_as, puts_failed, puts_more}
 use Rattle.frontier_planner.specs.Parts.{plan_parts}

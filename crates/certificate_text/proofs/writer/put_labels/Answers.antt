@@ -1,4 +1,4 @@
-use Rattle.std.proofs.Common.{◌≡◌, ◌∙◌, ◌+◌, ◌-◌, ◌*◌, ◌≤◌, length, refl, sym, arith}
+use Rattle.std.proofs.Common.{length, refl, sym, arith}
 use Rattle.lab_io.proofs.Puts.{puts_as, puts_failed, puts_more, puts_none}
 use Rattle.certificate_text.proofs.Texts.{labels_end, labels_from, names_left}
 use Rattle.certificate_text.proofs.writer.put_labels.Goals as goal
