@@ -3,7 +3,7 @@ use Rattle.std.proofs.Common.{◌≡◌, ◌∙◌, ℕ, ◌+◌, ◌*◌, ◌<�
 use Rattle.std.specs.Prelude.{nat_lt}
 use Rattle.std.proofs.lemmas.List.{get_or-map, get_or_read}
 use Rattle.std.proofs.lemmas.Nat.{mul-add-lt}
-use Rattle.frontier_planner.specs.declared.plan.Chain.{Chain}
+use Rattle.frontier_planner.specs.declared.plans.Chain.{Chain}
 use Rattle.frontier_planner.specs.Parts.{ChainParts, chain_parts}
 use Rattle.frontier_planner.specs.Valid.{no_chain}
 use Rattle.certificate_text.specs.Form.{IsChain}

@@ -3,7 +3,7 @@ use Rattle.std.specs.Prelude.{ℕ, ◌+◌, ◌*◌, ◌==◌, ◌&&◌, Bool, n
 use Rattle.std.specs.Ordering.{int_eq}
 use Rattle.lab_model.specs.declared.label.Label.{Label}
 use Rattle.lab_model.specs.Film.{rungs_of, segments_of}
-use Rattle.frontier_planner.specs.declared.plan.Chain.{Chain}
+use Rattle.frontier_planner.specs.declared.plans.Chain.{Chain}
 use Rattle.frontier_planner.specs.Labels.{Task, dominates, end_value, next_label, start_label}
 use Rattle.frontier_planner.specs.Near.{farthest_ms}
 use Rattle.frontier_planner.specs.Parts.{ChainParts, chain_parts}

@@ -1,7 +1,7 @@
 -- The form that the tests of a layer need, and what they need of what was found before.
 use Rattle.std.specs.Prelude.{◌≡◌, ℕ, ◌+◌, ◌<◌, ◌≤◌, List, length}
 use Rattle.lab_model.specs.Film.{rungs_of, segments_of}
-use Rattle.frontier_planner.specs.declared.plan.Chain.{Chain}
+use Rattle.frontier_planner.specs.declared.plans.Chain.{Chain}
 use Rattle.frontier_planner.specs.Labels.{AreRungs, Task}
 use Rattle.frontier_planner.specs.Parts.{CertificateParts}
 use Rattle.frontier_planner.specs.Valid.{chain_in}
