@@ -1,6 +1,6 @@
 -- One file after the other: what those before it gave, and what one more adds or refuses.
-use Rattle.std.proofs.Common.{◌≡◌, ℕ, ◌+◌, ◌≤◌, ◌++◌, List, [], ◌∷◌, map, Option, Some, None, Result, Ok, Err, IsOk, ap, sym, ◌∙◌, refl, inl, inr, arith, append_assoc, append-nil, length, length-append, ◌<◌, take, drop, get_or, add-one, drop-cons, subst}
-use Rattle.std.proofs.lemmas.List.{length-map, map-append, take-append-drop}
+use Rattle.std.proofs.Common.{◌≡◌, ℕ, ◌+◌, ◌≤◌, ◌++◌, List, [], ◌∷◌, map, string_bytes, String, Option, Some, None, Result, Ok, Err, IsOk, ap, sym, ◌∙◌, refl, inl, inr, arith, append_assoc, append-nil, length, length-append, ◌<◌, take, drop, get_or, add-one, drop-cons, subst}
+use Rattle.std.proofs.lemmas.List.{length-map, length-take-le, map-append, take-append-drop}
 use Rattle.std.proofs.Math.Seq.{take-suc}
 use Rattle.std.proofs.lemmas.List.Sums.{sum_by-append, sum_by-cons, sum_by_push}
 use Rattle.std.specs.Result.{IsErrAnd}
@@ -13,6 +13,9 @@ use Rattle.lab_io.specs.Sink.{Text, Rose}
 use Rattle.lab_io.specs.Shelf.{Shelved}
 use Rattle.lab_model.specs.Rules.{RuleKind}
 use Rattle.lab_words.specs.declared.NamedRule.{NamedRule}
+use Rattle.lab_words.specs.declared.Verb.{Verb}
+use Rattle.lab_words.specs.declared.Verb.TheVariants as verb
+use Rattle.lab_words.specs.Limits.{HasFilm}
 use Rattle.lab_words.specs.Rules.{spoken}
 use Rattle.lab_words.specs.Command.{CommandWords, named}
 use Rattle.lab_inputs.specs.declared.fetch.FileErr.{FileErr}
@@ -27,8 +30,8 @@ use Rattle.lab_inputs.specs.declared.stop.Stop.{Stop}
 use Rattle.lab_inputs.specs.declared.stop.Stop.TheVariants as stop
 use Rattle.lab_inputs.specs.declared.stop.Halt.{Halt}
 use Rattle.lab_inputs.specs.declared.stop.Halt.TheVariants as halt
-use Rattle.lab_inputs.specs.Files.{Files, NamedFile, bytes_of, later_files, request_of, seeks_file, trace_count, trace_files, traces_among}
-use Rattle.lab_inputs.specs.Inputs.{◌>>=◌, AreAccepted, InputValues, at_role, film_alone, film_in, inputs_from, inputs_of, read_as, result_map, trace_of, with_bytes, with_file, with_files, with_film, with_seeks, with_trace}
+use Rattle.lab_inputs.specs.Files.{Files, NamedFile, bytes_of, files_by, files_of, film_files, later_files, optional_file, request_of, trace_count, trace_files, trace_role, traces_among, traces_from}
+use Rattle.lab_inputs.specs.Inputs.{◌>>=◌, AreAccepted, InputValues, at_role, film_alone, film_in, inputs_from, inputs_of, read_as, result_map, trace_of, with_bytes, with_certificate, with_file, with_files, with_film, with_seeks, with_trace}
 use Rattle.lab_inputs.specs.Settings.{kinds_of, misfit, ready_of, setup_of, unless_misfit}
 use Rattle.lab_inputs.specs.Stages.{Asks, AsksSome, AsksUpTo, Comes, Means, Reads, Stops, Tells, file_of, halt_of}
 use Rattle.lab_inputs.proofs.Files.{asks_all, asks_none}
@@ -100,15 +103,53 @@ pub film_first : (manifest : Text) (film : Film) (files : Files) → film_in man
 unfolding inputs_from
 film_first manifest film files h = rw h refl
 
--- the traces among the files of a command are those that the words name
-pub traces_named : (names : List Text) (seeks : Option Text) → traces_among (trace_files names ++ seeks_file seeks) ≡ length names
-traces_named [] None = refl
-traces_named [] (Some name) = refl
-traces_named (name ∷ names) seeks =
-    let h = traces_named names seeks in
-    let e = sum_by-append (λ (file : NamedFile). trace_count file.0) ((role.Trace, name) ∷ []) (trace_files names ++ seeks_file seeks) in
-    let one : traces_among ((role.Trace, name) ∷ []) ≡ 1 = refl in
+one_trace : (v : Verb) (place : ℕ) → trace_count (trace_role v place) ≡ 1
+one_trace verb.Simulate place = refl
+one_trace verb.Compare place = refl
+one_trace verb.Plan place = refl
+one_trace verb.Check place = refl
+one_trace verb.Demo place = refl
+
+all_traces : (v : Verb) (place : ℕ) (names : List Text) → traces_among (traces_from v place names) ≡ length names
+all_traces v place [] = refl
+all_traces v place (name ∷ names) =
+    let h = all_traces v (place + 1) names in
+    let one = one_trace v place in
+    let e = sum_by-cons (λ (file : NamedFile). trace_count file.0) (trace_role v place, name) (traces_from v (place + 1) names) in
     omega (arith, e, one, h)
+
+no_traces : (seeks certificate : Option Text) → traces_among (optional_file role.Seeks seeks ++ optional_file role.Certificate certificate) ≡ 0
+no_traces None None = refl
+no_traces None (Some name) = refl
+no_traces (Some name) None = refl
+no_traces (Some name) (Some other) = refl
+
+-- the traces among the files of a command are those that the words name
+pub traces_named : (c : CommandWords) → traces_among (later_files c) ≡ length c.traces
+traces_named c =
+    let e = sum_by-append (λ (file : NamedFile). trace_count file.0) (trace_files c.verb c.traces) (optional_file role.Seeks c.seeks ++ optional_file role.Certificate c.certificate) in
+    let some = all_traces c.verb 1 c.traces in
+    let none = no_traces c.seeks c.certificate in
+    omega (arith, e, some, none)
+
+from_more : (v : Verb) (place : ℕ) (names : List Text) (name : Text) → traces_from v place (names ++ name ∷ []) ≡ traces_from v place names ++ (trace_role v (place + length names), name) ∷ []
+from_more v place [] name = ap (λ p. (trace_role v p, name) ∷ []) (omega arith)
+from_more v place (first ∷ names) name =
+    let same : place + 1 + length names ≡ place + length (first ∷ names) = omega arith in
+    ap (λ l. (trace_role v place, first) ∷ l) (from_more v (place + 1) names name ∙ ap (λ p. traces_from v (place + 1) names ++ (trace_role v p, name) ∷ []) same)
+
+-- the names up to a place and the one there
+pub names_more : {Z : Type 0} (names : List (String Z)) (i : ℕ) (name : String Z) → i < length names → name ≡ get_or names i name
+    → (i + 1 ≡ length (map string_bytes (take i names)) + 1) × (map string_bytes (take (i + 1) names) ≡ map string_bytes (take i names) ++ string_bytes name ∷ [])
+names_more names i name lt e =
+    let count = length-map (take i names) string_bytes ∙ length-take-le i names (omega arith) in
+    (omega (arith, count), ap (map string_bytes) (rw (add-one, take-suc names i name lt, ← e) refl) ∙ map-append string_bytes (take i names) (name ∷ []))
+
+-- one trace more, behind those before it
+pub trace_more : (v : Verb) (names : List Text) (name : Text) (files : List NamedFile) (place : ℕ) → files ≡ trace_files v names → place ≡ length names + 1 → files ++ (trace_role v place, name) ∷ [] ≡ trace_files v (names ++ name ∷ [])
+trace_more v names name files place e n =
+    let same : place ≡ 1 + length names = omega (arith, n) in
+    rw (e, same) (sym (from_more v 1 names name))
 
 -- the file at a place, with those before it and those behind it
 pub at_file : (items : List FileName) (i : ℕ) (d : FileName) → i < length items → map file_of items ≡ map file_of (take i items) ++ file_of (get_or items i d) ∷ map file_of (drop (i + 1) items)
@@ -150,6 +191,7 @@ halt_later named seen seen2 meant after old new (halt.Stopped (stop.File role fa
 halt_later named seen seen2 meant after old new (halt.Stopped (stop.File role fault.TooLong)) x = (x.0, λ files t. rw (x.1 files t) refl)
 halt_later named seen seen2 meant after old new (halt.Stopped (stop.File role (fault.Refused why))) x = (x.0, λ files t. rw (x.1 files t) refl)
 halt_later named seen seen2 meant after old new (halt.Stopped (stop.Settings setting)) x = (x.0, λ files t. rw (x.1 files t) refl)
+halt_later named seen seen2 meant after old new (halt.Stopped (stop.Budget segment)) x = (x.0, λ files t. rw (x.1 files t) refl)
 
 -- the same at the exit of a `?`
 pub comes_failed : {X Y Z W : Type 0} (named : List NamedFile) (seen : X → Y) (seen2 : Z → W) (meant : Files → Result Y Stop) (after : Y → Result W Stop) (old new : Shelved) (r : Result X Halt) (q : Result Z Halt) (h : Halt)
@@ -216,6 +258,17 @@ lacking manifest later (first ∷ xs) after file files split ok none =
     let read : inputs_from manifest xs files ≡ Ok v.0 = ap (λ (f : NamedFile). inputs_from f.1 xs files) same ∙ v.1 in
     rw rest (inputs_stopped manifest v.0 xs after file fault.NotRead files read (not_there v.0 file files none))
 
+-- a command on a film names the manifest and the files behind it
+pub on_film : (c : CommandWords) → HasFilm c.verb → files_of c ≡ film_files c
+on_film c film = by_verb c.verb c film
+  where
+    by_verb : (v : Verb) (c : CommandWords) → HasFilm v → files_by v c ≡ film_files c
+    by_verb verb.Simulate c film = refl
+    by_verb verb.Compare c film = refl
+    by_verb verb.Plan c film = refl
+    by_verb verb.Check c film = refl
+    by_verb verb.Demo c film = absurd film
+
 up_to_some : (named : List NamedFile) (role : Role) (old new : Shelved) → AsksUpTo named role old new → AsksSome named old new
 up_to_some named role old new a = record { asked = a.before ++ (role, a.name) ∷ []; later = a.later; split = a.split ∙ sym (append_assoc a.before ((role, a.name) ∷ []) a.later); asks = a.asks }
 
@@ -225,6 +278,7 @@ stops_some named meant old new (stop.File role fault.NotRead) x = up_to_some nam
 stops_some named meant old new (stop.File role fault.TooLong) x = up_to_some named role old new x.0
 stops_some named meant old new (stop.File role (fault.Refused why)) x = up_to_some named role old new x.0
 stops_some named meant old new (stop.Settings setting) x = asks_all named old new x.0
+stops_some named meant old new (stop.Budget segment) x = asks_all named old new x.0
 
 map_ok : {A B E : Type 0} (f : A → B) (o : Result A E) (y : B) → result_map f o ≡ Ok y → (x : A) × (y ≡ f x)
 map_ok f (Ok x) y e = (x, ok_same _ y (f x) e refl)
@@ -239,6 +293,11 @@ bytes_traces (role.Trace, name) i j bytes e =
     let x = map_ok (with_trace i) (trace_of name bytes) j e in
     let k = ap (λ (v : InputValues). length v.traces) x.1 in
     k ∙ length-append i.traces (x.0 ∷ [])
+bytes_traces (role.TraceAt place, name) i j bytes e =
+    let x = map_ok (with_trace i) (trace_of name bytes) j e in
+    let k = ap (λ (v : InputValues). length v.traces) x.1 in
+    k ∙ length-append i.traces (x.0 ∷ [])
+bytes_traces (role.Certificate, name) i j bytes e = length_kept i j 0 (sym (ap (λ (v : InputValues). v.traces) (ok_same _ (with_certificate i bytes) j refl e))) refl
 bytes_traces (role.Seeks, name) i j bytes e = let x = map_ok (with_seeks i) (seeks_of bytes (segments_of i.film)) j e in length_kept i j 0 (ap (λ (v : InputValues). v.traces) x.1) refl
 
 read_ok : {A : Type 0} (o : Result A Refusal) (x : A) → read_as o ≡ Ok x → o ≡ Ok x
@@ -284,4 +343,4 @@ unfolding ready_of
 ready_traces c files j e =
     let x = bind_ok (inputs_of c files) (λ i. unless_misfit i (misfit (setup_of c) (kinds_of c) i.film)) j e in
     let same = misfit_ok x.0 j _ x.2 in
-    ap (λ (v : InputValues). length v.traces) (sym same) ∙ from_traces c.manifest (later_files c) x.0 files x.1 ∙ traces_named c.traces c.seeks
+    ap (λ (v : InputValues). length v.traces) (sym same) ∙ from_traces c.manifest (later_files c) x.0 files x.1 ∙ traces_named c

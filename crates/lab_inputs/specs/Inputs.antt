@@ -24,15 +24,16 @@ abbrev pub ◌>>=◌ : {A B E : Type 0} → Result A E → (A → Result B E) �
 (Ok x) >>= f = f x
 (Err e) >>= f = Err e
 
--- what the files that were read hold: the film, the traces in order, and the seeks
+-- what the files that were read hold: the film, the traces in order, the seeks, and the bytes of the certificate
 pub record InputValues : Type 0 where
   pub film : Film
   pub traces : List (List Period)
   pub seeks : List Seek
+  pub certificate : Text
 
 -- the film alone
 abbrev pub film_alone : Film → InputValues
-film_alone film = record { film = film; traces = []; seeks = [] }
+film_alone film = record { film = film; traces = []; seeks = []; certificate = [] }
 
 -- the film in place of the one before, whose seeks go with it
 abbrev pub with_film : InputValues → Film → InputValues
@@ -46,6 +47,10 @@ with_trace i periods = record i { traces = i.traces ++ periods ∷ [] }
 abbrev pub with_seeks : InputValues → List Seek → InputValues
 with_seeks i seeks = record i { seeks = seeks }
 
+-- the certificate of these bytes
+abbrev pub with_certificate : InputValues → Text → InputValues
+with_certificate i bytes = record i { certificate = bytes }
+
 -- what a value adds, unless its reader refuses it
 abbrev pub result_map : {A B E : Type 0} → (A → B) → Result A E → Result B E
 result_map f (Ok x) = Ok (f x)
@@ -55,11 +60,13 @@ result_map f (Err e) = Err e
 abbrev pub trace_of : Text → Text → Result (List Period) Refusal
 trace_of name bytes = if is_csv name then trace_csv_of bytes else trace_json bytes
 
--- the inputs with what the bytes of one file more hold
+-- the inputs with what the bytes of one file more hold; those of a certificate are read later
 abbrev pub with_bytes : Role → Text → InputValues → Text → Result InputValues Refusal
 with_bytes role.Manifest name i bytes = result_map (with_film i) (manifest_of bytes)
 with_bytes role.Trace name i bytes = result_map (with_trace i) (trace_of name bytes)
+with_bytes (role.TraceAt place) name i bytes = result_map (with_trace i) (trace_of name bytes)
 with_bytes role.Seeks name i bytes = result_map (with_seeks i) (seeks_of bytes (segments_of i.film))
+with_bytes role.Certificate name i bytes = Ok (with_certificate i bytes)
 
 -- what a reader makes of bytes
 abbrev pub read_as : {A : Type 0} → Result A Refusal → Result A FileFault

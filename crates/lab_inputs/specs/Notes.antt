@@ -24,7 +24,9 @@ use Rattle.lab_inputs.specs.declared.stop.Ending.TheVariants as ending
 abbrev pub role_text : Role → Text
 role_text role.Manifest = codes "manifest"
 role_text role.Trace = codes "trace"
+role_text (role.TraceAt place) = codes "trace " ++ decimal place
 role_text role.Seeks = codes "seeks"
+role_text role.Certificate = codes "certificate"
 
 -- the word of a kind of fault
 abbrev pub kind_word : Kind → Text
@@ -78,6 +80,7 @@ setting_fields (setting.Rule place) = codes "rule" ∷ decimal place ∷ []
 abbrev pub stop_note : Stop → Text
 stop_note (stop.File role why) = codes "abrlab: " ++ (role_text role ++ (codes " file: " ++ fields_line (fault_fields why)))
 stop_note (stop.Settings setting) = codes "abrlab: settings: " ++ fields_line (setting_fields setting)
+stop_note (stop.Budget segment) = codes "abrlab: budget spent at segment " ++ fields_line (decimal segment ∷ [])
 
 -- the line where the words are refused
 abbrev pub usage_note : Text
@@ -98,6 +101,7 @@ Says old said new = (answer : Result (Unit {0}) PutErr) × Puts old said new ans
 -- `err` was told of the ending, but for a text that went out whole
 abbrev pub Told : Seen → Ending → Seen → Type 0
 Told old ending.Done new = new ≡ old
+Told old ending.Invalid new = new ≡ old
 Told old ending.Usage new = Says old usage_note new
 Told old (ending.Stopped why) new = Says old (stop_note why) new
 Told old ending.OutputFailed new = Says old output_note new

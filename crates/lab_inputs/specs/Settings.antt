@@ -38,8 +38,16 @@ abbrev pub unless_misfit : InputValues → Option Setting → Result InputValues
 unless_misfit i None = Ok i
 unless_misfit i (Some setting) = Err (stop.Settings setting)
 
+-- the first setting of a command that does not fit this film
+abbrev pub misfit_of : CommandWords → Film → Option Setting
+misfit_of c f = misfit (setup_of c) (kinds_of c) f
+
+-- what was read, where the settings of the command fit the film
+abbrev pub settled : CommandWords → InputValues → Result InputValues Stop
+settled c inputs = unless_misfit inputs (misfit_of c inputs.film)
+
 -- what the files of a command hold, where the settings fit the film
 unfoldable pub ready_of : CommandWords → Files → Result InputValues Stop
 ready_of c files = do
   inputs ← inputs_of c files
-  unless_misfit inputs (misfit (setup_of c) (kinds_of c) inputs.film)
+  settled c inputs

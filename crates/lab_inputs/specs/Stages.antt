@@ -60,6 +60,7 @@ pub record AsksUpTo (named : List NamedFile) (role : Role) (old new : Shelved) :
 abbrev pub AsksFor : List NamedFile → Stop → Shelved → Shelved → Type 0
 AsksFor named (stop.File role why) old new = AsksUpTo named role old new
 AsksFor named (stop.Settings setting) old new = Asks named old new
+AsksFor named (stop.Budget segment) old new = Asks named old new
 
 -- ---- what a stage comes to
 
@@ -82,6 +83,7 @@ Stops named meant old (stop.File role fault.NotRead) new =
 Stops named meant old (stop.File role fault.TooLong) new = AsksUpTo named role old new × Means meant old (Err (stop.File role fault.TooLong))
 Stops named meant old (stop.File role (fault.Refused why)) new = AsksUpTo named role old new × Means meant old (Err (stop.File role (fault.Refused why)))
 Stops named meant old (stop.Settings setting) new = Asks named old new × Means meant old (Err (stop.Settings setting))
+Stops named meant old (stop.Budget segment) new = Asks named old new × Means meant old (Err (stop.Budget segment))
 
 -- what a stage of a command that names these files gave: its value, or why the command stopped
 abbrev pub Comes : {X Y : Type 0} → List NamedFile → (X → Y) → (Files → Result Y Stop) → Shelved → Result X Halt → Shelved → Type 0
@@ -107,7 +109,7 @@ file_of file = (file.role, file.name.now)
 
 -- what was read, without where it lies in memory
 abbrev pub values_of : Inputs → InputValues
-values_of i = record { film = i.manifest; traces = i.traces.items; seeks = i.seeks.items }
+values_of i = record { film = i.manifest; traces = i.traces.items; seeks = i.seeks.items; certificate = i.certificate.items }
 
 -- the seeks are within the film
 abbrev pub IsSound : Inputs → Type 0

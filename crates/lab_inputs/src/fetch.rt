@@ -49,7 +49,8 @@ fn limit_of(role: Role) -> u64
     ensures { result ≡ limit_of role }
 {
     match role {
-        Role::Manifest | Role::Trace | Role::Seeks => 67_108_864,
+        Role::Manifest | Role::Trace | Role::TraceAt(_) | Role::Seeks => 67_108_864,
+        Role::Certificate => 536_870_912,
     }
 }
 

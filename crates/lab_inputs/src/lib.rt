@@ -10,5 +10,5 @@ mod stop;
 
 pub use inputs::{Inputs, read_inputs};
 pub use note::tell;
-pub use settings::{Ready, prepare};
+pub use settings::{Ready, Settings, prepare, settings_on};
 pub use stop::{Ending, FileFault, Halt, Role, Setting, Stop};

@@ -6,8 +6,8 @@ ghost use Rattle.lab_model.specs.Rules.{kind_fits};
 ghost use Rattle.lab_words.specs.Limits.{HasFilm, IsWithinLimits};
 ghost use Rattle.lab_words.specs.Rules.{spoken};
 ghost use Rattle.lab_words.specs.Command.{view};
-ghost use Rattle.lab_inputs.specs.Files.{files_of};
-ghost use Rattle.lab_inputs.specs.Settings.{misfit, misfit_from, ready_of, setup_of};
+ghost use Rattle.lab_inputs.specs.Files.{film_files};
+ghost use Rattle.lab_inputs.specs.Settings.{misfit, misfit_from, misfit_of, ready_of, setup_of};
 ghost use Rattle.lab_inputs.specs.Stages.{Comes, IsReady, values_of};
 
 use crate::inputs::{Inputs, read_inputs};
@@ -22,6 +22,15 @@ use std::alloc::{AllocError, Global};
 pub struct Ready {
     pub inputs: Inputs,
     pub setup: Setup,
+}
+
+/// The settings of a command on a film.
+#[derive(Drop)]
+pub struct Settings {
+    /// The setup that the options give.
+    pub setup: Setup,
+    /// The first setting that does not fit the film.
+    pub misfit: Option<Setting>,
 }
 
 /// The setup that the options give.
@@ -91,17 +100,29 @@ fn misfit(setup: &Setup, rules: &[NamedRule], m: &Manifest) -> Option<Setting>
     misfit_rule(rules, m).map(Setting::Rule)
 }
 
+/// The settings of a command on a film, with the first that does not fit it.
+pub fn settings_on(alloc: Global, command: &Command, m: &Manifest) -> Result<Settings, AllocError>
+    requires limits { IsWithinLimits (view command.now) }
+    requires film { HasFilm (view command.now).verb }
+    ensures setup { IfOk result (λ s. s.setup ≡ setup_of (view command.now)) }
+    ensures misfit { IfOk result (λ s. s.misfit ≡ misfit_of (view command.now) m.now) }
+{
+    let setup = setup_of(alloc, command)?;
+    let misfit = misfit(&setup, &command.rules, m);
+    Ok(Settings { setup, misfit })
+}
+
 /// What a command has in hand once its files are read and its settings fit the film.
 pub fn prepare<F: Shelf>(alloc: Global, shelf: &mut F, command: &Command) -> Result<Ready, Halt>
     requires limits { IsWithinLimits (view command.now) }
     requires film { HasFilm (view command.now).verb }
-    ensures ready { Comes (files_of (view command.now)) (λ r. values_of r.inputs) (ready_of (view command.now))
+    ensures ready { Comes (film_files (view command.now)) (λ r. values_of r.inputs) (ready_of (view command.now))
         (F.shelved shelf.old) result (F.shelved shelf.new) }
     ensures fits { IfOk result (λ r. IsReady (view command.now) r) }
 {
     let inputs = read_inputs(alloc, shelf, command)?;
-    let setup = setup_of(alloc, command)?;
-    match misfit(&setup, &command.rules, &inputs.manifest) {
+    let Settings { setup, misfit } = settings_on(alloc, command, &inputs.manifest)?;
+    match misfit {
         Some(setting) => Err(Halt::Stopped(Stop::Settings(setting))),
         None => Ok(Ready { inputs, setup }),
     }

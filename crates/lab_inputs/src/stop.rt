@@ -10,8 +10,12 @@ pub enum Role {
     Manifest,
     /// The recorded network.
     Trace,
+    /// One of several recorded networks, by its place from 1.
+    TraceAt(usize),
     /// The seek script.
     Seeks,
+    /// The certificate.
+    Certificate,
 }
 
 /// What is wrong with a file.
@@ -43,6 +47,8 @@ pub enum Stop {
     File(Role, FileFault),
     /// The settings do not fit the film.
     Settings(Setting),
+    /// The labels of a plan, up to the end of this segment and not before, are more than the budget.
+    Budget(u16),
 }
 
 /// Why there is nothing to write.
@@ -70,6 +76,8 @@ impl From<AllocError> for Halt {
 pub enum Ending {
     /// The text went out whole.
     Done,
+    /// The text went out whole, which says that a certificate isn't valid.
+    Invalid,
     /// The words are refused.
     Usage,
     /// The command stopped before it wrote.

@@ -3,7 +3,7 @@ use Rattle.std.proofs.lemmas.List.{take_all}
 use Rattle.std.proofs.lemmas.List.Sums.{sum_by-append}
 use Rattle.lab_words.specs.Command.{view}
 use Rattle.lab_inputs.specs.declared.stop.Role.TheVariants as role
-use Rattle.lab_inputs.specs.Files.{NamedFile, later_files, seeks_file, trace_count, trace_files, traces_among}
+use Rattle.lab_inputs.specs.Files.{later_files, traces_among}
 use Rattle.lab_inputs.specs.Stages.{file_of, values_of}
 use Rattle.lab_inputs.proofs.Steps.{asks_more, at_file, film_first, film_halts, inputs_one_more, later_halts, next_file, traces_named, traces_next}
 use Rattle.lab_inputs.proofs.inputs.read_inputs.Goals as goal
@@ -48,4 +48,4 @@ returns-clause-inputs g c =
 pub returns-clause-traces : goal.returns-clause-traces
 returns-clause-traces g c =
     let all = ap (map file_of) (take_all c.loop-file.file-index c.deref-file-items.result.now c.loop-file-test.false) ∙ ap (map file_of) c.deref-file-items.ensures.value ∙ c.in_ok-later.ensures in
-    c.loop-file.invariant.count ∙ ap traces_among all ∙ traces_named (view c.args.command.now).traces (view c.args.command.now).seeks
+    c.loop-file.invariant.count ∙ ap traces_among all ∙ traces_named (view c.args.command.now)

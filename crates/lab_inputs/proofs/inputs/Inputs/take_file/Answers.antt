@@ -14,10 +14,10 @@ pub returns-in_err-take_bytes-clause-values : goal.returns-in_err-take_bytes-cla
 unfolding with_file
 returns-in_err-take_bytes-clause-values g c =
     reads_fault (c.args.role, c.args.name.now) (λ bytes. bytes.items) _ (with_bytes c.args.role c.args.name.now (values_of c.args.self.now)) _ _ c.fetch_file.result c.from_residual-in_err-take_bytes.result c.in_ok-bytes.bytes c.in_err-take_bytes.field-0.0
-    c.in_ok-bytes.was c.from_residual-in_err-take_bytes.ensures.1 c.fetch_file.ensures (rw c.deref.ensures.value at c.in_err-take_bytes.ensures.values)
+    c.in_ok-bytes.was c.from_residual-in_err-take_bytes.ensures.1 c.fetch_file.ensures c.in_err-take_bytes.ensures.values
 
 pub returns-clause-values : goal.returns-clause-values
 unfolding with_file
 returns-clause-values g c =
     reads_ok (c.args.role, c.args.name.now) (λ bytes. bytes.items) (λ (done : Unit {0}). values_of c.take_bytes.new.self) (with_bytes c.args.role c.args.name.now (values_of c.args.self.now)) _ _ c.fetch_file.result c.in_ok-bytes.bytes tt
-    c.in_ok-bytes.was c.fetch_file.ensures (rw c.deref.ensures.value at c.in_ok-take_bytes.ensures.values)
+    c.in_ok-bytes.was c.fetch_file.ensures c.in_ok-take_bytes.ensures.values
