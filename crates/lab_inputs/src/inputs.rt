@@ -4,9 +4,10 @@ ghost use Rattle.std.specs.Prelude.{◌≡◌, ◌+◌, ◌++◌, IfOk, OnOk, le
 ghost use Rattle.lab_model.specs.Film.{segments_of};
 ghost use Rattle.lab_model.specs.Reading.{Gives};
 ghost use Rattle.lab_words.specs.Command.{view};
+ghost use Rattle.lab_words.specs.Limits.{HasFilm};
 ghost use Rattle.manifest_reader.specs.Manifest.{manifest_of};
 ghost use Rattle.seek_script.specs.Script.{seeks_of};
-ghost use Rattle.lab_inputs.specs.Files.{film_files, is_csv, later_files, optional_file, trace_count, trace_files, trace_role};
+ghost use Rattle.lab_inputs.specs.Files.{files_of, is_csv, later_files, optional_file, trace_count, trace_files, trace_role};
 ghost use Rattle.lab_inputs.specs.Inputs.{film_alone, film_in, inputs_of, result_map, trace_of, with_bytes, with_certificate, with_file, with_film, with_seeks, with_trace};
 ghost use Rattle.lab_inputs.specs.Stages.{Comes, IsSound, Reads, file_of, values_of};
 
@@ -223,7 +224,8 @@ pub fn read_inputs<F: Shelf>(
     shelf: &mut F,
     command: &Command,
 ) -> Result<Inputs, Halt>
-    ensures inputs { Comes (film_files (view command.now)) (λ i. values_of i) (inputs_of (view command.now))
+    requires film { HasFilm (view command.now).verb }
+    ensures inputs { Comes (files_of (view command.now)) (λ i. values_of i) (inputs_of (view command.now))
         (F.shelved shelf.old) result (F.shelved shelf.new) }
     ensures sound { IfOk result (λ i. IsSound i) }
     ensures traces { IfOk result (λ i. vec_len i.traces ≡ length (view command.now).traces) }

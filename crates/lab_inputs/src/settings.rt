@@ -6,7 +6,7 @@ ghost use Rattle.lab_model.specs.Rules.{kind_fits};
 ghost use Rattle.lab_words.specs.Limits.{HasFilm, IsWithinLimits};
 ghost use Rattle.lab_words.specs.Rules.{spoken};
 ghost use Rattle.lab_words.specs.Command.{view};
-ghost use Rattle.lab_inputs.specs.Files.{film_files};
+ghost use Rattle.lab_inputs.specs.Files.{files_of};
 ghost use Rattle.lab_inputs.specs.Settings.{misfit, misfit_from, misfit_of, ready_of, setup_of};
 ghost use Rattle.lab_inputs.specs.Stages.{Comes, IsReady, values_of};
 
@@ -116,7 +116,7 @@ pub fn settings_on(alloc: Global, command: &Command, m: &Manifest) -> Result<Set
 pub fn prepare<F: Shelf>(alloc: Global, shelf: &mut F, command: &Command) -> Result<Ready, Halt>
     requires limits { IsWithinLimits (view command.now) }
     requires film { HasFilm (view command.now).verb }
-    ensures ready { Comes (film_files (view command.now)) (λ r. values_of r.inputs) (ready_of (view command.now))
+    ensures ready { Comes (files_of (view command.now)) (λ r. values_of r.inputs) (ready_of (view command.now))
         (F.shelved shelf.old) result (F.shelved shelf.new) }
     ensures fits { IfOk result (λ r. IsReady (view command.now) r) }
 {

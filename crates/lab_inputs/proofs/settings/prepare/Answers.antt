@@ -1,7 +1,7 @@
 use Rattle.std.proofs.Common.{◌∙◌, subst, sym}
 use Rattle.lab_model.specs.Fit.{SetupFits}
 use Rattle.lab_words.specs.Command.{view}
-use Rattle.lab_inputs.specs.Files.{film_files}
+use Rattle.lab_inputs.specs.Files.{files_of}
 use Rattle.lab_inputs.specs.Inputs.{inputs_of}
 use Rattle.lab_inputs.specs.Settings.{kinds_of, misfit, ready_of, settled, setup_of, unless_misfit}
 use Rattle.lab_inputs.specs.Stages.{values_of}
@@ -12,7 +12,7 @@ use Rattle.lab_inputs.proofs.settings.prepare.Goals as goal
 pub returns-in_err-inputs-clause-ready : goal.returns-in_err-inputs-clause-ready
 unfolding ready_of
 returns-in_err-inputs-clause-ready g c =
-    comes_failed (film_files (view c.args.command.now)) (λ i. values_of i) (λ r. values_of r.inputs) (inputs_of (view c.args.command.now)) (settled (view c.args.command.now))
+    comes_failed (files_of (view c.args.command.now)) (λ i. values_of i) (λ r. values_of r.inputs) (inputs_of (view c.args.command.now)) (settled (view c.args.command.now))
     _ _ c.read_inputs.result c.from_residual.result _ c.in_err-inputs.was c.from_residual.ensures.1 c.read_inputs.ensures.inputs
 
 pub returns-in-Some-clause-ready : goal.returns-in-Some-clause-ready
