@@ -39,11 +39,11 @@ pub fn check_lines(
     requires setup { SetupFits set.now m.now }
     requires begun { IsBegun lines }
     // A bad line comes first, then the verdict on the whole certificate.
-    ensures verdict { (bytes : List ℕ) → begun bytes ≡ Ok lines → Gives (λ v. v) result
+    ensures verdict { (bytes : List ℕ) → begun bytes ≡ Ok lines.entry → Gives (λ v. v) result
         (lines_verdict (task_of m.now clock.now set.now all_ahead) bytes) }
     // A yes proves that the rung list has the score, and that no rung list has a greater value.
     ensures sound { IfOk result (λ v. v ≡ Yes → Certifies
-        (task_of m.now clock.now set.now all_ahead) lines.head.plan lines.head.score lines.head.score) }
+        (task_of m.now clock.now set.now all_ahead) lines.entry.head.plan lines.entry.head.score lines.entry.head.score) }
 {
     let checker = Checker::new(m, clock, set, ALL_AHEAD);
     let mut lines = lines;

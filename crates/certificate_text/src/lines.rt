@@ -85,12 +85,11 @@ impl<'a> Lines<'a> {
     ///
     /// Where the lines are as `begin` answered them, it is refused exactly where the bytes are no spelling, with the
     /// first bad line.
-    pub fn read_rest(self) -> Result<(), InputFault>
-        ensures { (bytes : Text) → begun bytes ≡ Ok self
+    pub fn read_rest(mut self) -> Result<(), InputFault>
+        ensures { (bytes : Text) → begun bytes ≡ Ok self.entry
             → Gives (λ done. done) result (accepted bytes) }
     {
-        let mut lines = self;
-        while lines.next_layer()?.is_some() {}
+        while self.next_layer()?.is_some() {}
         Ok(())
     }
 
