@@ -1,9 +1,14 @@
 //! The checker of certificates: it says yes exactly to valid ones, whoever wrote them, and a yes proves the claim.
 #![tactic(auto)]
 
+mod by_layer;
 mod checker;
 mod ranges;
 mod whole;
 
+pub use by_layer::check_lines;
 pub use certificate_text::Verdict;
 pub use whole::{check, check_bound, check_from};
+
+#[cfg(test)]
+mod tests;

@@ -18,7 +18,7 @@ use lab_model::{Manifest, Setup};
 use network_clock::Clock;
 
 /// So many milliseconds of media ahead that every film within the limits is there at instant 0.
-const ALL_AHEAD: u32 = 120_000_000;
+pub(crate) const ALL_AHEAD: u32 = 120_000_000;
 
 /// The chains of a segment, by rung.
 fn layer(cert: &Certificate, segment: u16) -> &[Chain]

@@ -4,3 +4,4 @@ pub mod FieldLaws
 pub mod Texts
 pub mod CertificateLaws
 pub mod HeadLaws
+pub mod WalkLaws

@@ -9,7 +9,7 @@ use Rattle.frontier_planner.specs.Parts.{CertificateParts, ChainParts, chain_par
 use Rattle.certificate_text.specs.declared.certificate.Layer.{Layer}
 use Rattle.certificate_text.specs.declared.chains.Spot.{Spot}
 use Rattle.certificate_text.specs.Fields.{◌>>=◌}
-use Rattle.certificate_text.specs.Reading.{Place, chains_at, end_at, head_at, place_of}
+use Rattle.certificate_text.specs.Reading.{Place, certificate_of, chains_at, end_at, head_at, place_of}
 
 -- what was read before the chains, the segment whose layer comes next, and the place where it begins, or the refusal that was met
 pub record Walk : Type 0 where
@@ -27,6 +27,17 @@ unfoldable pub begun : Text → Result Walk Refusal
 begun bytes = do
   head ← head_at bytes
   Ok (record { head = head.0; segment = 0; at = Ok head.1 })
+
+-- a walk that has just begun, at the first line of some bytes
+pub record IsBegun (w : Walk) : Type 0 where
+  pub bytes : Text
+  pub is : begun bytes ≡ Ok w
+
+-- that the bytes are the spelling of a certificate, or their first bad line
+abbrev pub accepted : Text → Result (Unit {0}) Refusal
+accepted bytes = do
+  c ← certificate_of bytes
+  Ok tt
 
 -- the end of the walk: nothing more comes
 abbrev pub ended : Walk → Place → Result (Option (List ChainParts) × Walk) Refusal

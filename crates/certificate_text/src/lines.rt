@@ -7,7 +7,7 @@ ghost use Rattle.frontier_planner.specs.Parts.{CertificateParts};
 ghost use Rattle.certificate_text.specs.Form.{IsCertificate, certificate_parts};
 ghost use Rattle.certificate_text.specs.Reading.{certificate_of};
 ghost use Rattle.certificate_text.specs.Spelling.{spelling};
-ghost use Rattle.certificate_text.specs.Walk.{Steps, Walk, after_fault, begun, standing};
+ghost use Rattle.certificate_text.specs.Walk.{IsBegun, Steps, Walk, accepted, after_fault, begun, standing};
 
 use crate::certificate::{Certificate, Layer};
 use crate::chains::{Spot, chains_at, end_at};
@@ -38,7 +38,8 @@ impl<'a> Lines<'a> {
     /// Reads the lines before the first layer. It is refused exactly where a bad line is among them.
     #[tactic(auto, unfolding(crate::specs::Walk::begun))]
     pub fn begin(alloc: Global, bytes: &'a [u8]) -> Result<Lines<'a>, InputFault>
-        ensures { Gives (λ lines. lines) result (begun bytes.now) }
+        ensures walk { Gives (λ lines. lines) result (begun bytes.now) }
+        ensures begun { IfOk result IsBegun }
     {
         let (head, spot) = head_at(alloc, bytes)?;
         Ok(Lines {
@@ -78,6 +79,18 @@ impl<'a> Lines<'a> {
             }
             Err(fault) => Err(self.keep(fault)),
         }
+    }
+
+    /// Reads what is left, layer by layer, and keeps nothing of it.
+    ///
+    /// Where the lines are as `begin` answered them, it is refused exactly where the bytes are no spelling, with the
+    /// first bad line.
+    pub fn read_rest(mut self) -> Result<(), InputFault>
+        ensures { (bytes : Text) → begun bytes ≡ Ok self.entry
+            → Gives (λ done. done) result (accepted bytes) }
+    {
+        while self.next_layer()?.is_some() {}
+        Ok(())
     }
 
     /// Keeps a refusal for later calls.

@@ -1,0 +1,67 @@
+//! The check of a certificate that is read layer by layer.
+
+ghost use Rattle.std.specs.Prelude.{◌≡◌, ◌<◌, ℕ, List, Ok, IfOk};
+ghost use Rattle.lab_model.specs.Fit.{SetupFits};
+ghost use Rattle.lab_model.specs.Reading.{Gives};
+ghost use Rattle.player_core.specs.Available.{all_ahead};
+ghost use Rattle.frontier_planner.specs.Labels.{task_of};
+ghost use Rattle.certificate_text.specs.declared.certificate.Verdict.TheVariants.{Yes};
+ghost use Rattle.certificate_text.specs.Walk.{IsBegun, begun};
+ghost use Rattle.certificate_check.specs.Soundness.{Certifies};
+ghost use Rattle.certificate_check.specs.Verdict.{lines_verdict};
+
+use crate::checker::Checker;
+use crate::whole::ALL_AHEAD;
+use certificate_text::{Layer, Lines, Verdict};
+use lab_model::{InputFault, Manifest, Setup};
+use network_clock::Clock;
+
+/// The next layer, where one is left.
+fn next_layer(lines: &mut Lines<'_>) -> Result<Layer, InputFault>
+    requires { lines.old.segment < lines.old.head.segments }
+{
+    match lines.next_layer()? {
+        Some(layer) => Ok(layer),
+        None => unreachable!(),
+    }
+}
+
+/// The verdict for a film on demand on a certificate that is read layer by layer, with its own score as the bound: see
+/// `check`. The lines are as `begin` answered them.
+///
+/// The faults are those of the lines, and come before any verdict. It holds two layers at a time.
+pub fn check_lines(
+    m: &Manifest,
+    clock: &Clock,
+    set: &Setup,
+    lines: Lines<'_>,
+) -> Result<Verdict, InputFault>
+    requires setup { SetupFits set.now m.now }
+    requires begun { IsBegun lines }
+    // A bad line comes first, then the verdict on the whole certificate.
+    ensures verdict { (bytes : List ℕ) → begun bytes ≡ Ok lines.entry → Gives (λ v. v) result
+        (lines_verdict (task_of m.now clock.now set.now all_ahead) bytes) }
+    // A yes proves that the rung list has the score, and that no rung list has a greater value.
+    ensures sound { IfOk result (λ v. v ≡ Yes → Certifies
+        (task_of m.now clock.now set.now all_ahead) lines.entry.head.plan lines.entry.head.score lines.entry.head.score) }
+{
+    let checker = Checker::new(m, clock, set, ALL_AHEAD);
+    let mut lines = lines;
+    let head = checker.head_verdict(
+        lines.table(),
+        lines.segments(),
+        lines.rungs(),
+        lines.plan(),
+    );
+    let last = lines.segments() - 1;
+    let mut here = next_layer(&mut lines)?;
+    let mut found = checker.found_first(head, lines.starts(), &here.chains);
+    for segment in 0..last {
+        let next = next_layer(&mut lines)?;
+        found = checker.found_more(found, segment, &here.chains, &next.chains);
+        here = next;
+    }
+    lines.next_layer()?;
+    let score = lines.score();
+    Ok(checker.verdict(found, last, &here.chains, lines.plan(), score, score))
+}
