@@ -8,7 +8,7 @@ use Rattle.lab_model.specs.Ladder.{rungs_below}
 use Rattle.lab_model.specs.Weighing.{weighing}
 use Rattle.player_core.specs.Available.{all_ahead}
 use Rattle.frontier_planner.specs.Labels.{Task, task_of}
-use Rattle.demo_case.specs.Draws.{draw, state_after}
+use Rattle.demo_case.specs.Draws.{draw, draws_from, state_after}
 
 -- the bitrates in kbps
 abbrev pub demo_bitrates : List ℕ
@@ -24,7 +24,7 @@ sizes_drawn drawn = map (size_drawn drawn) demo_bitrates
 
 -- the sizes of so many segments, one draw a segment, from a state on
 unfoldable pub sizes_from : ℕ → ℕ → List ℕ
-sizes_from x segments = flat_map (λ i. sizes_drawn (draw x i)) (rungs_below segments)
+sizes_from x segments = flat_map sizes_drawn (draws_from x segments)
 
 -- the period of two draws: the first gives the bandwidth, 500 to 4000 kbps in thousandths, the second the latency, 20 to 100 ms
 abbrev pub period_drawn : ℕ → ℕ → Period

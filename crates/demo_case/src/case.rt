@@ -53,6 +53,7 @@ fn add_sizes(sizes: &mut Vec<u32>, drawn: u32) -> Result<(), AllocError>
 }
 
 /// The sizes in bits of the film, segment by segment, with one draw a segment.
+#[tactic(auto, using(crate::proofs::Drawn::sizes_first, crate::proofs::Drawn::sizes_more, crate::proofs::Drawn::state_first, crate::proofs::Drawn::state_more, crate::proofs::Drawn::draw_more))]
 fn draw_sizes(alloc: Global, draws: &mut Draws) -> Result<Vec<u32>, AllocError>
     ensures sizes { IfOk result (λ v. v.items ≡ sizes_from draws.old 40) }
     ensures state { IfOk result (λ _. draws.new ≡ state_after draws.old 40) }
@@ -65,6 +66,7 @@ fn draw_sizes(alloc: Global, draws: &mut Draws) -> Result<Vec<u32>, AllocError>
 }
 
 /// The period of the next two drawn numbers: first the bandwidth, then the latency.
+#[tactic(auto, unfolding(crate::specs::Draws::state_after))]
 fn draw_period(draws: &mut Draws) -> Period
     ensures period { result ≡ period_drawn (draw draws.old 0) (draw draws.old 1) }
     ensures state { draws.new ≡ state_after draws.old 2 }
@@ -79,6 +81,7 @@ fn draw_period(draws: &mut Draws) -> Period
 }
 
 /// The periods of the network, with two draws a period.
+#[tactic(auto, using(crate::proofs::Drawn::periods_first, crate::proofs::Drawn::periods_more, crate::proofs::Drawn::state_first, crate::proofs::Drawn::period_next, crate::proofs::Drawn::state_next))]
 fn draw_periods(alloc: Global, draws: &mut Draws) -> Result<Vec<Period>, AllocError>
     ensures { IfOk result (λ v. v.items ≡ periods_from draws.old 20) }
 {
@@ -90,6 +93,7 @@ fn draw_periods(alloc: Global, draws: &mut Draws) -> Result<Vec<Period>, AllocEr
 }
 
 /// The setup of each made case.
+#[tactic(auto, using(crate::proofs::Within::demo_is_weighing))]
 fn demo_setup(alloc: Global) -> Result<Setup, AllocError>
     ensures { IfOk result (λ s. s ≡ demo_setup) }
 {
@@ -101,20 +105,39 @@ fn demo_setup(alloc: Global) -> Result<Setup, AllocError>
     })
 }
 
-/// The parts of the made case.
-fn made_case(alloc: Global, n: u32) -> Result<DemoCase, AllocError>
+/// The film of the next drawn numbers, one a segment.
+#[tactic(auto, using(crate::proofs::Within::demo_is_film))]
+fn draw_film(alloc: Global, draws: &mut Draws) -> Result<Manifest, AllocError>
+    ensures film { IfOk result (λ m. m ≡ demo_film draws.old) }
+    ensures state { IfOk result (λ _. draws.new ≡ state_after draws.old 40) }
+{
+    let bitrates = BITRATES.to_vec(alloc)?;
+    let sizes = draw_sizes(alloc, draws)?;
+    Ok(Manifest::from_parts(SEGMENT_MS, bitrates, sizes).unwrap())
+}
+
+/// The network of the next drawn numbers, two a period.
+#[tactic(auto, using(crate::proofs::Within::periods_are_trace))]
+fn draw_trace(alloc: Global, draws: &mut Draws) -> Result<Trace, AllocError>
+    ensures { IfOk result (λ t. t ≡ periods_from draws.old 20) }
+{
+    let periods = draw_periods(alloc, draws)?;
+    Ok(Trace::from_parts(periods).unwrap())
+}
+
+/// The parts of the made case: first the film is drawn, then the network.
+fn draw_case(alloc: Global, n: u32) -> Result<DemoCase, AllocError>
     requires { n ≤ 2147483647 }
     ensures manifest { IfOk result (λ c. c.manifest ≡ demo_film n) }
     ensures trace { IfOk result (λ c. c.trace ≡ demo_periods n) }
     ensures setup { IfOk result (λ c. c.setup ≡ demo_setup) }
 {
     let mut draws = Draws::new(n);
-    let bitrates = BITRATES.to_vec(alloc)?;
-    let sizes = draw_sizes(alloc, &mut draws)?;
-    let periods = draw_periods(alloc, &mut draws)?;
+    let manifest = draw_film(alloc, &mut draws)?;
+    let trace = draw_trace(alloc, &mut draws)?;
     Ok(DemoCase {
-        manifest: Manifest::from_parts(SEGMENT_MS, bitrates, sizes).unwrap(),
-        trace: Trace::from_parts(periods).unwrap(),
+        manifest,
+        trace,
         setup: demo_setup(alloc)?,
     })
 }
@@ -128,5 +151,5 @@ pub fn demo_case(alloc: Global, n: u32) -> Result<DemoCase, NoMemory>
     ensures fits { SetupFits demo_setup (demo_film n) }
     ensures task { IsTask (demo_task n) }
 {
-    made_case(alloc, n).map_err(|_| NoMemory)
+    draw_case(alloc, n).map_err(|_| NoMemory)
 }

@@ -43,6 +43,7 @@ impl Draws {
     }
 
     /// The next drawn number, 0 to 32767.
+    #[tactic(auto, unfolding(crate::specs::Draws::state_after))]
     pub fn next(&mut self) -> u32
         ensures value { result ≡ draw self.old 0 }
         ensures state { self.new ≡ next_state self.old }
