@@ -1,0 +1,4 @@
+pub mod Drawn
+pub mod Within
+pub mod Values
+pub mod Bound
