@@ -1,9 +1,9 @@
 -- What reading one file comes to: what is fetched, and what a reader makes of it.
-use Rattle.std.proofs.Common.{◌≡◌, ◌⊎◌, inl, inr, ◌++◌, List, [], ◌∷◌, Option, Some, Result, Ok, Err, ap, ◌∙◌, refl, append-nil, sym, rules, ◌+◌}
+use Rattle.std.proofs.Common.{◌≡◌, inl, inr, List, [], ◌∷◌, Result, Ok, Err, ap, ◌∙◌, refl, append-nil, sym, rules, ◌+◌}
 use Rattle.std.specs.Result.{IsErrAnd}
 use Rattle.std.proofs.lemmas.Result.{err_from_is_err_and}
 use Rattle.lab_io.specs.Sink.{Text}
-use Rattle.lab_io.specs.Shelf.{Shelved, Asked, Fetches}
+use Rattle.lab_io.specs.Shelf.{Shelved, Fetches}
 use Rattle.lab_io.specs.declared.FetchErr.TheVariants as fetch
 use Rattle.lab_model.specs.declared.fault.Refusal.{Refusal}
 use Rattle.lab_model.specs.declared.fault.InputFault.{InputFault}
@@ -14,8 +14,8 @@ use Rattle.lab_inputs.specs.declared.fetch.FileErr.TheVariants as err
 use Rattle.lab_inputs.specs.declared.stop.FileFault.{FileFault}
 use Rattle.lab_inputs.specs.declared.stop.FileFault.TheVariants as fault
 use Rattle.lab_inputs.specs.Files.{Files, NamedFile, bytes_of, limit_of}
-use Rattle.lab_inputs.specs.Inputs.{◌>>=◌, file_in, read_as}
-use Rattle.lab_inputs.specs.Stages.{Asks, AsksSome, Means, Reads, Tells, err_of}
+use Rattle.lab_inputs.specs.Inputs.{◌>>=◌, file_in}
+use Rattle.lab_inputs.specs.Stages.{Asks, AsksSome, Reads, err_of}
 
 -- the shelf was asked for nothing
 pub asks_none : (s : Shelved) → Asks [] s s

@@ -10,7 +10,6 @@ use Rattle.lab_model.proofs.Fits.{kind_passes, setup_passes}
 use Rattle.lab_words.specs.declared.Verb.{Verb}
 use Rattle.lab_words.specs.declared.Verb.TheVariants.{Simulate, Compare, Plan, Check, Demo}
 use Rattle.lab_words.specs.Limits.{AreCounted}
-use Rattle.lab_inputs.specs.declared.stop.Setting.{Setting}
 use Rattle.lab_inputs.specs.declared.stop.Setting.TheVariants as setting
 use Rattle.lab_inputs.specs.Settings.{misfit, misfit_from}
 

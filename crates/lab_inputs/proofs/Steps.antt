@@ -1,5 +1,5 @@
 -- One file after the other: what those before it gave, and what one more adds or refuses.
-use Rattle.std.proofs.Common.{◌≡◌, ℕ, ◌+◌, ◌≤◌, ◌++◌, List, [], ◌∷◌, map, string_bytes, String, Option, Some, None, Result, Ok, Err, IsOk, ap, sym, ◌∙◌, refl, inl, inr, arith, append_assoc, append-nil, length, length-append, ◌<◌, take, drop, get_or, add-one, drop-cons, subst}
+use Rattle.std.proofs.Common.{◌≡◌, ℕ, ◌+◌, ◌≤◌, ◌++◌, List, [], ◌∷◌, map, string_bytes, String, Option, Some, None, Result, Ok, Err, IsOk, ap, sym, ◌∙◌, refl, inl, inr, arith, append_assoc, length, length-append, ◌<◌, take, drop, get_or, add-one, drop-cons, subst}
 use Rattle.std.proofs.lemmas.List.{length-map, length-take-le, map-append, take-append-drop}
 use Rattle.std.proofs.Math.Seq.{take-suc}
 use Rattle.std.proofs.lemmas.List.Sums.{sum_by-append, sum_by-cons, sum_by_push}
@@ -33,7 +33,7 @@ use Rattle.lab_inputs.specs.declared.stop.Halt.TheVariants as halt
 use Rattle.lab_inputs.specs.Files.{Files, NamedFile, bytes_of, files_by, files_of, film_files, later_files, optional_file, request_of, trace_count, trace_files, trace_role, traces_among, traces_from}
 use Rattle.lab_inputs.specs.Inputs.{◌>>=◌, AreAccepted, InputValues, at_role, film_alone, film_in, inputs_from, inputs_of, read_as, result_map, trace_of, with_bytes, with_certificate, with_file, with_files, with_film, with_seeks, with_trace}
 use Rattle.lab_inputs.specs.Settings.{kinds_of, misfit, ready_of, setup_of, unless_misfit}
-use Rattle.lab_inputs.specs.Stages.{Asks, AsksSome, AsksUpTo, Comes, Means, Reads, Stops, Tells, file_of, halt_of}
+use Rattle.lab_inputs.specs.Stages.{Asks, AsksSome, AsksUpTo, Comes, Reads, Stops, Tells, file_of, halt_of}
 use Rattle.lab_inputs.proofs.Files.{asks_all, asks_none}
 
 -- these files were asked for, and then those
@@ -268,6 +268,10 @@ on_film c film = by_verb c.verb c film
     by_verb verb.Plan c film = refl
     by_verb verb.Check c film = refl
     by_verb verb.Demo c film = absurd film
+
+-- what a stage over the files of a film comes to, over the files of the command
+pub comes_on_film : {X Y : Type 0} (c : CommandWords) (seen : X → Y) (meant : Files → Result Y Stop) (old new : Shelved) (r : Result X Halt) → HasFilm c.verb → Comes (film_files c) seen meant old r new → Comes (files_of c) seen meant old r new
+comes_on_film c seen meant old new r film h = subst (λ named. Comes named seen meant old r new) (sym (on_film c film)) h
 
 up_to_some : (named : List NamedFile) (role : Role) (old new : Shelved) → AsksUpTo named role old new → AsksSome named old new
 up_to_some named role old new a = record { asked = a.before ++ (role, a.name) ∷ []; later = a.later; split = a.split ∙ sym (append_assoc a.before ((role, a.name) ∷ []) a.later); asks = a.asks }

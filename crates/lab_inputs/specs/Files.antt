@@ -1,5 +1,5 @@
 -- The files that a command names, in the order of refusals, and what each holds.
-use Rattle.std.specs.Prelude.{ℕ, ◌+◌, List, [], ◌∷◌, ◌++◌, map, length, Bool, Option, Some, None, Result, Ok, Err, codes, if◌then◌else◌, nat_lt, nat_eq, sum_by}
+use Rattle.std.specs.Prelude.{ℕ, ◌+◌, List, [], ◌∷◌, ◌++◌, length, Bool, Option, Some, None, Result, Ok, Err, codes, if◌then◌else◌, nat_lt, nat_eq, sum_by}
 use Rattle.std.specs.List.{ends_with}
 use Rattle.lab_io.specs.Sink.{Text}
 use Rattle.lab_words.specs.declared.Verb.{Verb}

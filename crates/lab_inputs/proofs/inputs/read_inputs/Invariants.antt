@@ -1,4 +1,4 @@
-use Rattle.std.proofs.Common.{◌≡◌, ◌∷◌, List, Ok, map, string_bytes, take, vec_len}
+use Rattle.std.proofs.Common.{◌≡◌, ◌∷◌, Ok, map, string_bytes, take, vec_len}
 use Rattle.lab_inputs.specs.declared.stop.Role.TheVariants as role
 use Rattle.lab_inputs.specs.Files.{Files, traces_among}
 use Rattle.lab_inputs.specs.Inputs.{inputs_from}

@@ -3,7 +3,7 @@ use Rattle.lab_model.specs.Fit.{SetupFits}
 use Rattle.lab_words.specs.Command.{view}
 use Rattle.lab_inputs.specs.Files.{files_of}
 use Rattle.lab_inputs.specs.Inputs.{inputs_of}
-use Rattle.lab_inputs.specs.Settings.{kinds_of, misfit, ready_of, settled, setup_of, unless_misfit}
+use Rattle.lab_inputs.specs.Settings.{kinds_of, ready_of, settled, setup_of}
 use Rattle.lab_inputs.specs.Stages.{values_of}
 use Rattle.lab_inputs.proofs.Fits.{all_fits}
 use Rattle.lab_inputs.proofs.Steps.{comes_failed, ready_made, ready_misfits}
