@@ -1,5 +1,5 @@
 -- The stages of a run, put together.
-use Rattle.std.proofs.Common.{◌≡◌, List, [], ◌∷◌, map, length, get_or, arith, subst, Some, Result, Ok, Err, inr, ap, sym, ◌∙◌, refl}
+use Rattle.std.proofs.Common.{◌≡◌, List, [], ◌∷◌, map, length, get_or, arith, subst, Some, Result, Ok, Err, inl, inr, ap, sym, ◌∙◌, refl}
 use Rattle.lab_io.specs.declared.PutErr.{PutErr}
 use Rattle.lab_io.specs.declared.PutErr.TheVariants as put
 use Rattle.lab_io.specs.Shelf.{Shelved}
@@ -12,9 +12,11 @@ use Rattle.lab_model.specs.declared.trace.Period.{Period}
 use Rattle.lab_model.specs.Film.{Film}
 use Rattle.lab_model.specs.Rules.{RuleKind, KindFits}
 use Rattle.lab_words.specs.declared.NamedRule.{NamedRule}
+use Rattle.lab_words.specs.declared.Verb.{Verb}
 use Rattle.lab_words.specs.declared.Verb.TheVariants.{Simulate}
 use Rattle.lab_words.specs.Command.{CommandWords, named}
-use Rattle.lab_words.specs.Limits.{AreCounted, IsRuleWithin}
+use Rattle.lab_words.specs.Limits.{AreCounted, IsRuleWithin, IsWithinLimits}
+use Rattle.lab_words.specs.Words.{command_of}
 use Rattle.lab_words.specs.Rules.{spoken}
 use Rattle.player_core.specs.Available.{all_ahead}
 use Rattle.player_core.specs.State.{case_of}
@@ -29,16 +31,16 @@ use Rattle.lab_inputs.specs.Settings.{ready_of, setup_of}
 use Rattle.lab_inputs.specs.Stages.{Asks, Means}
 use Rattle.lab_inputs.proofs.Files.{asks_all}
 use Rattle.abrlab_top.specs.Answer.{Answer, printed}
-use Rattle.abrlab_top.specs.Outcome.{answer_of, asked_command}
+use Rattle.abrlab_top.specs.Outcome.{answer_of, writes_between}
 use Rattle.abrlab_top.specs.Simulate.{case_on, simulate}
-use Rattle.abrlab_top.specs.Stages.{Ends, IsTaken, Ran, Writes, ending_of}
+use Rattle.abrlab_top.specs.Stages.{Ends, Ran, Writes, ending_of}
 use Rattle.abrlab_top.proofs.Words.{begins}
 
 -- what was put is what was written
-pub writes : (old new : Seen) (said text : Text) (r : Result (Unit {0}) PutErr) → said ≡ text → Puts old text new r → Writes said old r new
-writes old new said text (Ok done) e p = rw e p.answered
-writes old new said text (Err put.Failed) e p = (rw e p.answered.0, record { rose = p.answered.1; steady = p.steady })
-writes old new said text (Err put.Memory) e p = (rw e p.answered.0, inr p.answered.1)
+pub writes : (v : Verb) (old new : Seen) (said text : Text) (r : Result (Unit {0}) PutErr) → said ≡ text → Puts old text new r → Writes v said old r new
+writes v old new said text (Ok done) e p = rw e p.answered
+writes v old new said text (Err put.Failed) e p = (rw e p.answered.0, record { rose = p.answered.1; steady = p.steady })
+writes v old new said text (Err put.Memory) e p = (rw e p.answered.0, λ h. inr p.answered.1)
 
 answered_by : (c : CommandWords) (after : InputValues → Result Answer Stop) (i : InputValues) (said : Text) (files : Files) → answer_of c files ≡ (ready_of c files >>= after) → ready_of c files ≡ Ok i → after i ≡ Ok (printed said)
     → answer_of c files ≡ Ok (printed said)
@@ -48,11 +50,11 @@ answered_by c after i said files first ready then =
 
 -- a command whose inputs are ready, and which then answers just this text, ends as the writing of it does
 pub ends_written : (c : CommandWords) (after : InputValues → Result Answer Stop) (i : InputValues) (said : Text) (shelf shelf2 : Shelved) (out out2 : Seen) (r : Result (Unit {0}) PutErr)
-    → ((files : Files) → answer_of c files ≡ (ready_of c files >>= after)) → after i ≡ Ok (printed said) → Asks (files_of c) shelf shelf2 → Means (ready_of c) shelf (Ok i) → Writes said out r out2
-    → Ends c shelf out (ending_of r) shelf2 out2
+    → ((files : Files) → answer_of c files ≡ (ready_of c files >>= after)) → after i ≡ Ok (printed said) → Asks (files_of c) shelf shelf2 → Means (ready_of c) shelf (Ok i) → Writes c.verb said out r out2
+    → Ends c shelf out (ending_of ending.Done r) shelf2 out2
 ends_written c after i said shelf shelf2 out out2 (Ok done) first then asks ready w = (asks, λ files t. (printed said, answered_by c after i said files (first files) (ready files t) then, refl, w))
-ends_written c after i said shelf shelf2 out out2 (Err put.Failed) first then asks ready w = (asks, w.1, λ files t. (printed said, answered_by c after i said files (first files) (ready files t) then, refl, w.0))
-ends_written c after i said shelf shelf2 out out2 (Err put.Memory) first then asks ready w = (asks_all (files_of c) shelf shelf2 asks, λ h. w.1, λ files t. rw (answered_by c after i said files (first files) (ready files t) then) w.0)
+ends_written c after i said shelf shelf2 out out2 (Err put.Failed) first then asks ready w = (asks, w.1, λ files t. (printed said, answered_by c after i said files (first files) (ready files t) then, inl refl, w.0))
+ends_written c after i said shelf shelf2 out out2 (Err put.Memory) first then asks ready w = (asks_all (files_of c) shelf shelf2 asks, w.1, λ files t. rw (answered_by c after i said files (first files) (ready files t) then) w.0)
 
 -- `simulate` prints what it prints
 pub simulate_printed : (c : CommandWords) (i : InputValues) → simulate c i ≡ printed (simulate c i).text
@@ -79,8 +81,8 @@ pub one_within : (rules : List NamedRule) (rule : NamedRule) → rules ≡ rule 
 one_within rules rule e h = let x : All (λ (r : Text × RuleKind). IsRuleWithin r.1) (named rule ∷ []) = rw e at h in x 0 (named rule) (omega arith)
 
 -- a command line of `simulate` names one trace and one rule
-pub counted : (c : CommandWords) → IsTaken c → c.verb ≡ Simulate → (length c.traces ≡ 1) × (length c.rules ≡ 1)
-counted c t v = subst (λ w. AreCounted w (length c.traces) (length c.rules)) v t.limits.counts
+pub counted : (c : CommandWords) → IsWithinLimits c → c.verb ≡ Simulate → (length c.traces ≡ 1) × (length c.rules ≡ 1)
+counted c t v = subst (λ w. AreCounted w (length c.traces) (length c.rules)) v t.counts
 
 -- the one rule by its list
 pub one_rule : (rules seen : List NamedRule) (rule : NamedRule) → seen ≡ rules → length (map named rules) ≡ 1 → rule ≡ get_or seen 0 rule → rules ≡ rule ∷ []
@@ -99,9 +101,10 @@ said_is c i periods clock rule setup seeks kind s traces rules e p q r k =
     session_printed c i periods rule traces rules ∙ sym played
 
 -- the words ask for a command that ended so
-pub ran : (words : List Text) (c : CommandWords) (shelf shelf2 : Shelved) (out out2 : Seen) (e : Ending) → asked_command words ≡ Some c → IsTaken c → Ends c shelf out e shelf2 out2 → Ran words shelf out e shelf2 out2
-ran words c shelf shelf2 out out2 ending.Done a t x = record { command = c; asked = a; taken = t; ends = x }
+pub ran : (words : List Text) (c : CommandWords) (shelf shelf2 : Shelved) (out out2 : Seen) (e : Ending) → command_of words ≡ Some c → IsWithinLimits c → Ends c shelf out e shelf2 out2 → Ran words shelf out e shelf2 out2
+ran words c shelf shelf2 out out2 ending.Done a t x = record { command = c; asked = a; limits = t; ends = x }
+ran words c shelf shelf2 out out2 ending.Invalid a t x = record { command = c; asked = a; limits = t; ends = x }
 ran words c shelf shelf2 out out2 ending.Usage a t x = absurd x
-ran words c shelf shelf2 out out2 (ending.Stopped why) a t x = record { command = c; asked = a; taken = t; ends = x }
-ran words c shelf shelf2 out out2 ending.OutputFailed a t x = record { command = c; asked = a; taken = t; ends = x }
-ran words c shelf shelf2 out out2 ending.NoMemory a t x = (begins words (rw a refl), inr (record { command = c; asked = a; taken = t; ends = x }))
+ran words c shelf shelf2 out out2 (ending.Stopped why) a t x = record { command = c; asked = a; limits = t; ends = x }
+ran words c shelf shelf2 out out2 ending.OutputFailed a t x = record { command = c; asked = a; limits = t; ends = x }
+ran words c shelf shelf2 out out2 ending.NoMemory a t x = (begins words (rw a refl), inr (record { command = c; asked = a; limits = t; ends = x }))

@@ -5,6 +5,7 @@ use Rattle.lab_model.specs.declared.trace.Period.{Period}
 use Rattle.lab_model.specs.Rules.{RuleKind}
 use Rattle.lab_words.specs.declared.Verb.TheVariants as verb
 use Rattle.lab_words.specs.Command.{CommandWords}
+use Rattle.lab_words.specs.Words.{command_of}
 use Rattle.lab_inputs.specs.Files.{Files}
 use Rattle.lab_inputs.specs.Inputs.{InputValues}
 use Rattle.lab_inputs.specs.Settings.{ready_of, setup_of}
@@ -12,7 +13,6 @@ use Rattle.lab_inputs.specs.Stages.{Tells}
 use Rattle.player_core.specs.Session.{session_of}
 use Rattle.session_report.specs.Session.{session_text}
 use Rattle.abrlab_top.specs.Causes.{World}
-use Rattle.abrlab_top.specs.Outcome.{asked_command}
 use Rattle.abrlab_top.specs.Simulate.{case_on}
 
 -- `out` has grown by exactly the session text of the millisecond player, on the film, the one trace and the seeks that the files
@@ -30,4 +30,4 @@ pub record PrintsTheSession (c : CommandWords) (files : Files) (old new : World)
 -- of `simulate`: where the run answers 0, the session is printed
 abbrev pub Simulates : List Text → World → ℕ → World → Type 0
 Simulates words old result new =
-    (c : CommandWords) (files : Files) → asked_command words ≡ Some c → c.verb ≡ verb.Simulate → Tells old.shelf files → result ≡ 0 → PrintsTheSession c files old new
+    (c : CommandWords) (files : Files) → command_of words ≡ Some c → c.verb ≡ verb.Simulate → Tells old.shelf files → result ≡ 0 → PrintsTheSession c files old new

@@ -1,6 +1,11 @@
 pub mod Answer
 pub mod Rules
 pub mod Simulate
+pub mod Rows
+pub mod Compare
+pub mod Plan
+pub mod Check
+pub mod Demo
 pub mod Outcome
 pub mod Causes
 pub mod Headline

@@ -1,5 +1,5 @@
 -- What a run comes to, by its words and its files: its status, its text and its note.
-use Rattle.std.specs.Prelude.{ℕ, Bool, true, false, List, [], Option, Some, None, option_map, option_and_then, Result, Ok, Err, IsSome, if◌then◌else◌}
+use Rattle.std.specs.Prelude.{◌≡◌, ◌⊎◌, ℕ, Bool, true, false, List, [], Option, Some, None, option_map, Result, Ok, Err, IsSome}
 use Rattle.lab_io.specs.Sink.{Text}
 use Rattle.lab_words.specs.declared.Verb.{Verb}
 use Rattle.lab_words.specs.declared.Verb.TheVariants as verb
@@ -15,32 +15,16 @@ use Rattle.lab_inputs.specs.Notes.{stop_note, usage_note}
 use Rattle.lab_inputs.specs.Settings.{ready_of}
 use Rattle.abrlab_top.specs.Answer.{Answer, printed}
 use Rattle.abrlab_top.specs.Simulate.{simulate}
+use Rattle.abrlab_top.specs.Compare.{compare}
+use Rattle.abrlab_top.specs.Plan.{plan}
+use Rattle.abrlab_top.specs.Check.{check}
+use Rattle.abrlab_top.specs.Demo.{demo}
 
 -- ---- the words
 
--- the commands that are built
-abbrev pub is_built_verb : Verb → Bool
-is_built_verb verb.Simulate = true
-is_built_verb verb.Compare = false
-is_built_verb verb.Plan = false
-is_built_verb verb.Check = false
-is_built_verb verb.Demo = false
-
--- the command is built
-abbrev pub is_built : CommandWords → Bool
-is_built c = is_built_verb c.verb
-
--- the command, where it is built
-abbrev pub if_built : CommandWords → Option CommandWords
-if_built c = if is_built c then Some c else None
-
--- the command that the words ask for; none where they are refused
-unfoldable pub asked_command : List Text → Option CommandWords
-asked_command words = option_and_then if_built (command_of words)
-
 -- the words ask for a command
 abbrev pub AreTaken : List Text → Type 0
-AreTaken words = IsSome (asked_command words)
+AreTaken words = IsSome (command_of words)
 
 -- the files that a command names, if there is one
 abbrev pub files_asked : Option CommandWords → List NamedFile
@@ -49,7 +33,7 @@ files_asked (Some c) = files_of c
 
 -- the files that the words name, in the order of refusals
 abbrev pub named_files : List Text → List NamedFile
-named_files words = files_asked (asked_command words)
+named_files words = files_asked (command_of words)
 
 -- ---- the commands
 
@@ -58,10 +42,14 @@ abbrev pub answer_by : Verb → CommandWords → Files → Result Answer Stop
 answer_by verb.Simulate c files = do
   inputs ← ready_of c files
   Ok (simulate c inputs)
-answer_by verb.Compare c files = Ok (printed [])
-answer_by verb.Plan c files = Ok (printed [])
-answer_by verb.Check c files = Ok (printed [])
-answer_by verb.Demo c files = Ok (printed [])
+answer_by verb.Compare c files = do
+  inputs ← ready_of c files
+  Ok (compare c inputs)
+answer_by verb.Plan c files = do
+  inputs ← ready_of c files
+  plan c inputs
+answer_by verb.Check c files = check c files
+answer_by verb.Demo c files = Ok (demo c)
 
 -- what a command answers, or the stop that comes first
 abbrev pub answer_of : CommandWords → Files → Result Answer Stop
@@ -83,7 +71,7 @@ Outcome = Option (Result Answer Stop)
 
 -- the outcome of words and files
 unfoldable pub outcome : List Text → Files → Outcome
-outcome words files = option_map (λ c. answer_of c files) (asked_command words)
+outcome words files = option_map (λ c. answer_of c files) (command_of words)
 
 -- the status where something is wrong with a file
 abbrev pub fault_status : FileFault → ℕ
@@ -91,10 +79,15 @@ fault_status fault.NotRead = 4
 fault_status fault.TooLong = 3
 fault_status (fault.Refused why) = 3
 
+-- the status of a command that writes a text: 0, or 1 where it says that a certificate isn't valid
+abbrev pub IsWritten : ℕ → Type 0
+IsWritten status = (status ≡ 0) ⊎ (status ≡ 1)
+
 -- the status of a command that stops before it writes
 abbrev pub stop_status : Stop → ℕ
 stop_status (stop.File role why) = fault_status why
 stop_status (stop.Settings setting) = 3
+stop_status (stop.Budget segment) = 6
 
 -- the status of an outcome
 abbrev pub outcome_status : Outcome → ℕ

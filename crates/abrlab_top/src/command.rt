@@ -1,43 +1,19 @@
 //! The command that the words ask for, and what became of it.
 
-ghost use Rattle.std.specs.Prelude.{◌≡◌, map, string_bytes};
+ghost use Rattle.std.specs.Prelude.{map, string_bytes};
 ghost use Rattle.lab_words.specs.Command.{view};
-ghost use Rattle.abrlab_top.specs.Outcome.{is_built, is_built_verb};
-ghost use Rattle.abrlab_top.specs.Stages.{AsksCommand, Ends, IsTaken, Ran};
+ghost use Rattle.lab_words.specs.Limits.{IsWithinLimits};
+ghost use Rattle.abrlab_top.specs.Stages.{Ends, Ran};
 
+use crate::check::check;
+use crate::compare::compare;
+use crate::demo::demo;
+use crate::plan::plan;
 use crate::simulate::simulate;
 use lab_inputs::Ending;
 use lab_io::{Shelf, Sink};
 use lab_words::{Command, Verb, WordsErr, read_words};
 use std::alloc::Global;
-
-fn is_built_verb(verb: Verb) -> bool
-    ensures { result ≡ is_built_verb verb }
-{
-    match verb {
-        Verb::Simulate => true,
-        Verb::Compare | Verb::Plan | Verb::Check | Verb::Demo => false,
-    }
-}
-
-/// Whether the command is built.
-fn is_built(command: &Command) -> bool
-    ensures { result ≡ is_built (view command.now) }
-{
-    is_built_verb(command.verb)
-}
-
-/// The command that the words ask for.
-#[tactic(auto, unfolding(crate::specs::Outcome::asked_command))]
-fn ask_command(alloc: Global, words: &[String]) -> Result<Command, WordsErr>
-    ensures { AsksCommand (map string_bytes words.now) result }
-{
-    let command = read_words(alloc, words)?;
-    if !is_built(&command) {
-        return Err(WordsErr::Usage);
-    }
-    Ok(command)
-}
 
 /// Reads what a command needs, and writes what it answers.
 fn answer_command<F: Shelf, O: Sink>(
@@ -46,12 +22,16 @@ fn answer_command<F: Shelf, O: Sink>(
     shelf: &mut F,
     out: &mut O,
 ) -> Ending
-    requires { IsTaken (view command.now) }
-    ensures { Ends (view command.now) (F.shelved shelf.old) (O.seen out.old) result (F.shelved shelf.new) (O.seen out.new) }
+    requires limits { IsWithinLimits (view command.now) }
+    ensures { Ends (view command.now) (F.shelved shelf.old) (O.seen out.old) result
+        (F.shelved shelf.new) (O.seen out.new) }
 {
     match command.verb {
         Verb::Simulate => simulate(alloc, command, shelf, out),
-        Verb::Compare | Verb::Plan | Verb::Check | Verb::Demo => unreachable!(),
+        Verb::Compare => compare(alloc, command, shelf, out),
+        Verb::Plan => plan(alloc, command, shelf, out),
+        Verb::Check => check(alloc, command, shelf, out),
+        Verb::Demo => demo(alloc, command, out),
     }
 }
 
@@ -62,9 +42,10 @@ pub(crate) fn run_command<F: Shelf, O: Sink>(
     shelf: &mut F,
     out: &mut O,
 ) -> Ending
-    ensures { Ran (map string_bytes words.now) (F.shelved shelf.old) (O.seen out.old) result (F.shelved shelf.new) (O.seen out.new) }
+    ensures { Ran (map string_bytes words.now) (F.shelved shelf.old) (O.seen out.old) result
+        (F.shelved shelf.new) (O.seen out.new) }
 {
-    match ask_command(alloc, words) {
+    match read_words(alloc, words) {
         Ok(command) => answer_command(alloc, &command, shelf, out),
         Err(WordsErr::Usage) => Ending::Usage,
         Err(WordsErr::Memory) => Ending::NoMemory,

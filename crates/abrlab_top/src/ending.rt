@@ -7,12 +7,12 @@ ghost use Rattle.abrlab_top.specs.Stages.{ending_of, ending_status};
 use lab_inputs::{Ending, FileFault, Stop};
 use lab_io::PutErr;
 
-/// How a command ends that has written its text, or did not come to its end.
-pub(crate) fn ending_of(written: Result<(), PutErr>) -> Ending
-    ensures { result ≡ ending_of written }
+/// How a command ends, which ends so where its text went out whole.
+pub(crate) fn ending_of(whole: Ending, written: Result<(), PutErr>) -> Ending
+    ensures { result ≡ ending_of whole written }
 {
     match written {
-        Ok(()) => Ending::Done,
+        Ok(()) => whole,
         Err(PutErr::Failed) => Ending::OutputFailed,
         Err(PutErr::Memory) => Ending::NoMemory,
     }
@@ -33,6 +33,7 @@ fn stop_status(stop: Stop) -> u8
     match stop {
         Stop::File(_, fault) => fault_status(fault),
         Stop::Settings(_) => 3,
+        Stop::Budget(_) => 6,
     }
 }
 
@@ -42,6 +43,7 @@ pub(crate) fn ending_status(ending: Ending) -> u8
 {
     match ending {
         Ending::Done => 0,
+        Ending::Invalid => 1,
         Ending::Usage => 2,
         Ending::Stopped(stop) => stop_status(stop),
         Ending::OutputFailed => 5,

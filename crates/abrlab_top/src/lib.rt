@@ -1,9 +1,14 @@
 //! The whole run of a command line: from its words and files to a status, a text and a note.
 #![tactic(auto)]
 
+mod check;
 mod command;
+mod compare;
+mod demo;
 mod ending;
 mod memory;
+mod plan;
+mod row;
 mod rule;
 mod simulate;
 
@@ -20,15 +25,16 @@ pub use rule::AnyRule;
 use std::alloc::Global;
 
 /// Runs a command line, `words`, without the program's name: reads its files from `shelf`, puts its text on `out` and, where
-/// it does not end with status 0, one line on `err`.
+/// it does not end with status 0 or 1, one line on `err`.
 ///
-/// The answer is the status. 0: the text went out whole. 2: the words are refused. 3: a file is longer than its limit or is
-/// refused by its reader, or the settings do not fit the film. 4: a file was not read. 5: `out` did not take the text.
-/// 9: memory was wanting.
+/// The answer is the status. 0: the text went out whole. 1: the same, and it says that a certificate isn't valid. 2: the words
+/// are refused. 3: a file is longer than its limit or is refused by its reader, or the settings do not fit the film. 4: a file
+/// was not read. 5: `out` did not take the text. 6: the labels of a plan are more than its budget. 9: out of memory.
 ///
 /// Refusals come in this order: the words; the files one after the other, of each first that it was not read, then that it is
-/// too long, then its first fault; the buffer, the utilities and the rules. Only the files that the words name are fetched,
-/// in this order and each once. Nothing stands on `out` before all is played.
+/// too long, then its first fault; the first bad line of a certificate; the buffer, the utilities and the rules; the budget. Only
+/// the files that the words name are fetched, in this order and each once. Nothing stands on `out` before all is played and
+/// planned, but `compare` and `demo` write a row as soon as they have it.
 pub fn run<F: Shelf, O: Sink, E: Sink>(
     alloc: Global,
     words: &[String],

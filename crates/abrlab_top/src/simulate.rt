@@ -3,9 +3,10 @@
 ghost use Rattle.std.specs.Prelude.{◌≡◌};
 ghost use Rattle.lab_words.specs.declared.Verb.TheVariants.{Simulate};
 ghost use Rattle.lab_words.specs.Command.{view};
+ghost use Rattle.lab_words.specs.Limits.{IsWithinLimits};
 ghost use Rattle.lab_inputs.specs.Stages.{IsReady, values_of};
 ghost use Rattle.abrlab_top.specs.Simulate.{simulate};
-ghost use Rattle.abrlab_top.specs.Stages.{Ends, IsTaken, Writes};
+ghost use Rattle.abrlab_top.specs.Stages.{Ends, Writes};
 
 use crate::ending::ending_of;
 use crate::rule::any_rule;
@@ -24,10 +25,11 @@ fn write_simulation<O: Sink>(
     ready: &Ready,
     out: &mut O,
 ) -> Result<(), PutErr>
-    requires taken { IsTaken (view command.now) }
+    requires limits { IsWithinLimits (view command.now) }
     requires verb { (view command.now).verb ≡ Simulate }
     requires ready { IsReady (view command.now) ready.now }
-    ensures { Writes (simulate (view command.now) (values_of ready.now.inputs)).text (O.seen out.old) result (O.seen out.new) }
+    ensures { Writes (view command.now).verb (simulate (view command.now) (values_of ready.now.inputs)).text
+        (O.seen out.old) result (O.seen out.new) }
 {
     let ([trace], [rule]) = (ready.inputs.traces.as_slice(), command.rules.as_slice()) else {
         unreachable!()
@@ -52,12 +54,13 @@ pub(crate) fn simulate<F: Shelf, O: Sink>(
     shelf: &mut F,
     out: &mut O,
 ) -> Ending
-    requires taken { IsTaken (view command.now) }
+    requires limits { IsWithinLimits (view command.now) }
     requires verb { (view command.now).verb ≡ Simulate }
-    ensures { Ends (view command.now) (F.shelved shelf.old) (O.seen out.old) result (F.shelved shelf.new) (O.seen out.new) }
+    ensures { Ends (view command.now) (F.shelved shelf.old) (O.seen out.old) result
+        (F.shelved shelf.new) (O.seen out.new) }
 {
     match prepare(alloc, shelf, command) {
-        Ok(ready) => ending_of(write_simulation(alloc, command, &ready, out)),
+        Ok(ready) => ending_of(Ending::Done, write_simulation(alloc, command, &ready, out)),
         Err(Halt::Stopped(stop)) => Ending::Stopped(stop),
         Err(Halt::NoMemory) => Ending::NoMemory,
     }

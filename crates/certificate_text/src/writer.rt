@@ -42,8 +42,8 @@ fn put_rungs<O: Sink>(out: &mut O, rungs: &[u8]) -> Result<(), PutErr>
     put_text(out, "\n")
 }
 
-/// The line of the rung list.
-fn put_plan<O: Sink>(out: &mut O, rungs: &[u8]) -> Result<(), PutErr>
+/// Puts the line of a rung list: `plan` and its numbers. It takes no memory of its own; after an `Err` a prefix went out.
+pub fn put_plan<O: Sink>(out: &mut O, rungs: &[u8]) -> Result<(), PutErr>
     ensures { Puts (O.seen out.old) (fields_line (codes "plan" ∷ map decimal rungs.now)) (O.seen out.new) result }
 {
     put_text(out, "plan")?;

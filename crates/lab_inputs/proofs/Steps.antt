@@ -269,6 +269,21 @@ on_film c film = by_verb c.verb c film
     by_verb verb.Check c film = refl
     by_verb verb.Demo c film = absurd film
 
+no_member : {A : Type 0} (xs ys : List A) (x : A) → [] ≡ xs ++ x ∷ ys → ⊥
+no_member [] ys x e = cc
+no_member (y ∷ xs) ys x e = cc
+
+-- a command that names a file is on a film
+pub named_film : (c : CommandWords) (before later : List NamedFile) (file : NamedFile) → files_of c ≡ before ++ file ∷ later → HasFilm c.verb
+named_film c before later file e = by_verb c.verb c e
+  where
+    by_verb : (v : Verb) (c : CommandWords) → files_by v c ≡ before ++ file ∷ later → HasFilm v
+    by_verb verb.Simulate c e = tt
+    by_verb verb.Compare c e = tt
+    by_verb verb.Plan c e = tt
+    by_verb verb.Check c e = tt
+    by_verb verb.Demo c e = no_member before later file e
+
 -- what a stage over the files of a film comes to, over the files of the command
 pub comes_on_film : {X Y : Type 0} (c : CommandWords) (seen : X → Y) (meant : Files → Result Y Stop) (old new : Shelved) (r : Result X Halt) → HasFilm c.verb → Comes (film_files c) seen meant old r new → Comes (files_of c) seen meant old r new
 comes_on_film c seen meant old new r film h = subst (λ named. Comes named seen meant old r new) (sym (on_film c film)) h

@@ -1,0 +1,66 @@
+-- What `plan` answers: the best rung list that a network allowed, or its certificate, unless its frontiers spend the budget.
+use Rattle.std.specs.Prelude.{ℕ, ℤ, suc, Bool, List, [], ◌∷◌, ◌++◌, map, Option, Some, None, Result, Ok, Err, codes, nat_lt, if◌then◌else◌}
+use Rattle.std.specs.List.{find}
+use Rattle.std.specs.Fmt.{decimal, signed_decimal}
+use Rattle.lab_io.specs.Piece.{fields_line}
+use Rattle.lab_io.specs.Sink.{Text}
+use Rattle.lab_model.specs.declared.trace.Period.{Period}
+use Rattle.lab_model.specs.Film.{segments_of}
+use Rattle.lab_model.specs.Ladder.{rungs_below}
+use Rattle.lab_words.specs.Command.{CommandWords}
+use Rattle.lab_inputs.specs.declared.stop.Stop.{Stop}
+use Rattle.lab_inputs.specs.declared.stop.Stop.TheVariants as stop
+use Rattle.lab_inputs.specs.Inputs.{InputValues}
+use Rattle.lab_inputs.specs.Settings.{setup_of}
+use Rattle.player_core.specs.Available.{all_ahead}
+use Rattle.frontier_planner.specs.Frontier.{frontier}
+use Rattle.frontier_planner.specs.Grid.{exact}
+use Rattle.frontier_planner.specs.Labels.{Task, task_of}
+use Rattle.frontier_planner.specs.Parts.{CertificateParts}
+use Rattle.frontier_planner.specs.Read.{certificate_of, labels_before, labels_in}
+use Rattle.certificate_text.specs.Spelling.{spelling}
+use Rattle.abrlab_top.specs.Answer.{Answer, printed}
+
+-- the planner's task on one trace, for a film on demand
+abbrev pub task_on : CommandWords → InputValues → List Period → Task
+task_on c i periods = task_of i.film periods (setup_of c) all_ahead
+
+-- the certificate that is read off the frontiers of a task
+abbrev pub certificate_on : Task → CertificateParts
+certificate_on g = certificate_of exact g (frontier g)
+
+-- the number of labels in the frontiers of a task
+abbrev pub labels_on : Task → ℕ
+labels_on g = labels_in g (frontier g)
+
+-- the first segment at whose end the labels so far are more than the budget
+unfoldable pub spent_on : Task → ℕ → Option ℕ
+spent_on g budget = find (λ i. nat_lt budget (labels_before g (frontier g) (suc i))) (rungs_below (segments_of g.film))
+
+-- the three lines of a plan with this score, so many labels and this rung list
+abbrev pub plan_lines : ℤ → ℕ → List ℕ → Text
+plan_lines score labels rungs =
+    fields_line (codes "score" ∷ signed_decimal score ∷ [])
+    ++ (fields_line (codes "labels" ∷ decimal labels ∷ []) ++ fields_line (codes "plan" ∷ map decimal rungs))
+
+-- the text of a certificate, or of the plan in it with so many labels
+abbrev pub parts_text : Bool → CertificateParts → ℕ → Text
+parts_text as_certificate p labels = if as_certificate then spelling p else plan_lines p.score labels p.plan
+
+-- the text of the plan of a task, or of its certificate
+abbrev pub plan_text : Bool → Task → Text
+plan_text as_certificate g = parts_text as_certificate (certificate_on g) (labels_on g)
+
+-- the plan of a task, unless its frontiers spend the budget
+abbrev pub unless_spent : Bool → Task → Option ℕ → Result Answer Stop
+unless_spent as_certificate g None = Ok (printed (plan_text as_certificate g))
+unless_spent as_certificate g (Some segment) = Err (stop.Budget segment)
+
+-- the plan on the one trace; a command line of `plan` names just one
+abbrev pub plan_traces : CommandWords → InputValues → List (List Period) → Result Answer Stop
+plan_traces c i (periods ∷ []) = unless_spent c.as_certificate (task_on c i periods) (spent_on (task_on c i periods) c.budget)
+plan_traces c i traces = Ok (printed [])
+
+-- what `plan` answers, by its words and inputs
+unfoldable pub plan : CommandWords → InputValues → Result Answer Stop
+plan c i = plan_traces c i i.traces

@@ -1,0 +1,126 @@
+//! `demo`: everything on one made case.
+
+ghost use Rattle.std.specs.Prelude.{◌≡◌, ◌∷◌, [], IfOk, codes, map};
+ghost use Rattle.std.specs.Fmt.{decimal, signed_decimal};
+ghost use Rattle.lab_io.specs.Piece.{fields_line};
+ghost use Rattle.lab_io.specs.Shelf.{Shelved};
+ghost use Rattle.lab_io.specs.Sink.{Puts};
+ghost use Rattle.lab_words.specs.declared.Verb.TheVariants.{Demo};
+ghost use Rattle.lab_words.specs.Command.{named, view};
+ghost use Rattle.lab_words.specs.Limits.{IsWithinLimits};
+ghost use Rattle.abrlab_top.specs.Demo.{demo_plan_line, demo_rules, demo_text};
+ghost use Rattle.abrlab_top.specs.Stages.{Ends, WritesRows};
+
+use crate::ending::ending_of;
+use crate::row::Bench;
+use certificate_check::{Verdict, check};
+use certificate_text::Certificate;
+use demo_case::{DemoCase, demo_case};
+use frontier_planner::{Plan, PlanErr, plan};
+use lab_inputs::Ending;
+use lab_io::Piece::{Number, Word};
+use lab_io::{PutErr, Sink, put_fields};
+use lab_words::{Command, NamedRule, RuleWords};
+use network_clock::Clock;
+use std::alloc::{AllocError, Global};
+
+/// The labels that the plan may have.
+const BUDGET: u32 = 200_000;
+
+/// A rule and its name.
+fn named_rule(alloc: Global, name: &str, rule: RuleWords) -> Result<NamedRule, AllocError> {
+    Ok(NamedRule {
+        name: String::from_str(alloc, name)?,
+        rule,
+    })
+}
+
+/// The rules of the demo.
+fn demo_rules(alloc: Global) -> Result<Vec<NamedRule>, AllocError>
+    ensures { IfOk result (λ rules. map named rules.items ≡ demo_rules) }
+{
+    let windows = Vec::from_slice(alloc, &[3, 5])?;
+    let throughput = RuleWords::Throughput { windows };
+    let mut rules = Vec::new(alloc);
+    rules.push(named_rule(alloc, "fixed:0", RuleWords::Fixed { rung: 0 })?)?;
+    rules.push(named_rule(alloc, "fixed:3", RuleWords::Fixed { rung: 3 })?)?;
+    rules.push(named_rule(alloc, "throughput:3,5", throughput)?)?;
+    rules.push(named_rule(alloc, "bola:5", RuleWords::Bola { g: 5 })?)?;
+    rules.push(named_rule(alloc, "mpc:3", RuleWords::Mpc { horizon: 3 })?)?;
+    Ok(rules)
+}
+
+/// The certificate of a plan for the made case.
+fn certificate_of(case: &DemoCase, plan: Plan) -> Certificate {
+    Certificate {
+        table: plan.table,
+        segments: case.manifest.segments(),
+        rungs: case.manifest.rungs(),
+        score: plan.score,
+        plan: plan.rungs,
+        starts: plan.starts,
+        chains: plan.chains,
+    }
+}
+
+/// Plans the made case, checks the plan's certificate and writes the two lines of both.
+fn write_plan<O: Sink>(
+    alloc: Global,
+    case: &DemoCase,
+    clock: &Clock,
+    out: &mut O,
+) -> Result<(), PutErr>
+{
+    let plan = match plan(alloc, &case.manifest, clock, &case.setup, BUDGET) {
+        Ok(plan) => plan,
+        Err(PlanErr::Memory) => return Err(PutErr::Memory),
+        Err(PlanErr::BudgetSpent { .. }) => unreachable!(),
+    };
+    put_plan(out, plan.score, plan.labels)?;
+    let certificate = certificate_of(case, plan);
+    match check(&case.manifest, clock, &case.setup, &certificate) {
+        Verdict::Yes => put_fields(out, &[Word("check"), Word("yes")]),
+        Verdict::No { .. } => unreachable!(),
+    }
+}
+
+/// Writes the line of the plan.
+fn put_plan<O: Sink>(out: &mut O, score: i128, labels: u32) -> Result<(), PutErr>
+{
+    put_fields(
+        out,
+        &[
+            Word("plan"),
+            Word("score"),
+            Number(score),
+            Word("labels"),
+            Number(labels as i128),
+        ],
+    )
+}
+
+/// Plays, plans and checks the made case of a number, and writes its summary.
+fn write_demo<O: Sink>(alloc: Global, number: u32, out: &mut O) -> Result<(), PutErr>
+    requires { number ≤ 2147483647 }
+    ensures { WritesRows (O.seen out.old) (demo_text number) result (O.seen out.new) }
+{
+    let (Ok(case), Ok(rules)) = (demo_case(alloc, number), demo_rules(alloc)) else {
+        return Err(PutErr::Memory);
+    };
+    let Ok(clock) = Clock::new(alloc, &case.trace) else {
+        return Err(PutErr::Memory);
+    };
+    put_fields(out, &[Word("demo"), Number(number as i128)])?;
+    let bench = Bench::new(&case.manifest, &clock, &case.setup, &[]);
+    bench.write_rows(alloc, &rules, out)?;
+    write_plan(alloc, &case, &clock, out)
+}
+
+/// Writes the summary of the made case; it reads no file.
+pub(crate) fn demo<O: Sink>(alloc: Global, command: &Command, out: &mut O) -> Ending
+    requires limits { IsWithinLimits (view command.now) }
+    requires verb { (view command.now).verb ≡ Demo }
+    ensures { (shelf : Shelved) → Ends (view command.now) shelf (O.seen out.old) result shelf (O.seen out.new) }
+{
+    ending_of(Ending::Done, write_demo(alloc, command.number, out))
+}

@@ -1,0 +1,114 @@
+//! `plan`: the best rung list that the network allowed, or its certificate.
+
+ghost use Rattle.std.specs.Prelude.{◌≡◌, ◌∷◌, [], codes};
+ghost use Rattle.std.specs.Fmt.{decimal, signed_decimal};
+ghost use Rattle.lab_io.specs.Piece.{fields_line};
+ghost use Rattle.lab_io.specs.Sink.{Puts};
+ghost use Rattle.lab_words.specs.declared.Verb.TheVariants.{Plan};
+ghost use Rattle.lab_words.specs.Command.{view};
+ghost use Rattle.lab_words.specs.Limits.{IsWithinLimits};
+ghost use Rattle.frontier_planner.specs.Parts.{plan_parts};
+ghost use Rattle.certificate_text.specs.Form.{IsCertificate};
+ghost use Rattle.lab_inputs.specs.Stages.{IsReady, values_of};
+ghost use Rattle.abrlab_top.specs.Plan.{parts_text, plan_lines};
+ghost use Rattle.abrlab_top.specs.Stages.{Ends, Plans};
+
+use crate::ending::ending_of;
+use certificate_text::{put_plan, write_certificate};
+use frontier_planner::{Plan, PlanErr};
+use lab_inputs::{Ending, Halt, Ready, Stop, prepare};
+use lab_io::Piece::{Number, Word};
+use lab_io::{PutErr, Shelf, Sink, put_fields};
+use lab_model::Manifest;
+use lab_words::Command;
+use network_clock::Clock;
+use std::alloc::Global;
+
+/// Writes the line of the score.
+fn put_score<O: Sink>(out: &mut O, score: i128) -> Result<(), PutErr>
+    ensures { Puts (O.seen out.old) (fields_line (codes "score" ∷ signed_decimal score ∷ [])) (O.seen out.new) result }
+{
+    put_fields(out, &[Word("score"), Number(score)])
+}
+
+/// Writes the line of the number of labels.
+fn put_labels<O: Sink>(out: &mut O, labels: u32) -> Result<(), PutErr>
+    ensures { Puts (O.seen out.old) (fields_line (codes "labels" ∷ decimal labels ∷ [])) (O.seen out.new) result }
+{
+    put_fields(out, &[Word("labels"), Number(labels as i128)])
+}
+
+/// Writes the three lines of a plan.
+fn put_lines<O: Sink>(out: &mut O, plan: &Plan) -> Result<(), PutErr>
+    ensures { Puts (O.seen out.old) (plan_lines plan.now.score plan.now.labels plan.now.rungs.items)
+        (O.seen out.new) result }
+{
+    put_score(out, plan.score)?;
+    put_labels(out, plan.labels)?;
+    put_plan(out, &plan.rungs)
+}
+
+/// Writes a plan, or its certificate.
+fn put_answer<O: Sink>(
+    out: &mut O,
+    m: &Manifest,
+    plan: &Plan,
+    as_certificate: bool,
+) -> Result<(), PutErr>
+    requires { IsCertificate (plan_parts m.now plan.now) }
+    ensures { Puts (O.seen out.old) (parts_text as_certificate (plan_parts m.now plan.now) plan.now.labels)
+        (O.seen out.new) result }
+{
+    if as_certificate {
+        write_certificate(m, plan, out)
+    } else {
+        put_lines(out, plan)
+    }
+}
+
+/// The plan on the one trace.
+fn plan_of(alloc: Global, command: &Command, ready: &Ready) -> Result<Plan, PlanErr>
+    requires limits { IsWithinLimits (view command.now) }
+    requires verb { (view command.now).verb ≡ Plan }
+    requires ready { IsReady (view command.now) ready.now }
+    ensures { Plans (view command.now) (values_of ready.now.inputs) result }
+{
+    let [trace] = ready.inputs.traces.as_slice() else {
+        unreachable!()
+    };
+    let Ok(clock) = Clock::new(alloc, trace) else {
+        return Err(PlanErr::Memory);
+    };
+    let Ready { inputs, setup } = ready;
+    frontier_planner::plan(alloc, &inputs.manifest, &clock, setup, command.budget)
+}
+
+/// Reads the files, plans and writes the plan.
+pub(crate) fn plan<F: Shelf, O: Sink>(
+    alloc: Global,
+    command: &Command,
+    shelf: &mut F,
+    out: &mut O,
+) -> Ending
+    requires limits { IsWithinLimits (view command.now) }
+    requires verb { (view command.now).verb ≡ Plan }
+    ensures { Ends (view command.now) (F.shelved shelf.old) (O.seen out.old) result
+        (F.shelved shelf.new) (O.seen out.new) }
+{
+    let ready = match prepare(alloc, shelf, command) {
+        Ok(ready) => ready,
+        Err(Halt::Stopped(stop)) => return Ending::Stopped(stop),
+        Err(Halt::NoMemory) => return Ending::NoMemory,
+    };
+    match plan_of(alloc, command, &ready) {
+        Ok(plan) => {
+            let manifest = &ready.inputs.manifest;
+            ending_of(
+                Ending::Done,
+                put_answer(out, manifest, &plan, command.as_certificate),
+            )
+        }
+        Err(PlanErr::BudgetSpent { segment }) => Ending::Stopped(Stop::Budget(segment)),
+        Err(PlanErr::Memory) => Ending::NoMemory,
+    }
+}
