@@ -6,3 +6,4 @@ pub mod Verdicts
 pub mod Progress
 pub mod Slices
 pub mod Sound
+pub mod ByLayer

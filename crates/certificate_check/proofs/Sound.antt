@@ -13,8 +13,11 @@ use Rattle.frontier_planner.specs.Read.{Chains, no_label}
 use Rattle.frontier_planner.specs.Valid.{IsPlace, IsValid, chain_in, count_in, label_in, name_in, start_in}
 use Rattle.frontier_planner.proofs.Covered.{covered_value}
 use Rattle.frontier_planner.proofs.LabelsAreValues.{labels_are_values}
+use Rattle.certificate_text.specs.declared.certificate.Verdict.TheVariants.{Yes}
+use Rattle.certificate_text.specs.Form.{IsCertificate}
 use Rattle.certificate_check.specs.Soundness.{Certifies}
-use Rattle.certificate_check.proofs.Verdicts.{all_below}
+use Rattle.certificate_check.specs.Verdict.{verdict_of}
+use Rattle.certificate_check.proofs.Verdicts.{all_below, valid_yes, yes_valid}
 
 -- the labels of a certificate as chains
 abbrev chains_of : CertificateParts → Chains
@@ -65,3 +68,11 @@ certifies g c bound is some long h =
           let at = at_place c (c.segments - 1) q l (subst (λ i. Contains (chains_of c i q) l) (sym before) there) in
           subst (λ m. end_value g m ≤ℤ bound) at.2 (h.v5.holds q at.0 (record { segment = omega (arith, some); rung = omega (arith, rungs, low); label = at.1 }))) rs fits);
     }
+
+-- a Yes to a certificate proves what it claims, with the bound for all rung lists
+pub yes_certifies : (g : Task) (c : CertificateParts) (bound : ℤ) → IsTask g → IsCertificate c → verdict_of g c bound ≡ Yes → Certifies g c.plan c.score bound
+yes_certifies g c bound is form passed = certifies g c bound is form.head.segments.0 form.head.plan_length (yes_valid g c bound passed)
+
+-- a valid certificate is accepted, whoever made it
+pub valid_accepted : (g : Task) (c : CertificateParts) (bound : ℤ) → IsCertificate c → IsValid g c bound → verdict_of g c bound ≡ Yes
+valid_accepted g c bound form valid = valid_yes g c bound form.head.segments.0 valid

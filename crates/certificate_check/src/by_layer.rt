@@ -1,12 +1,13 @@
 //! The check of a certificate that is read layer by layer.
 
-ghost use Rattle.std.specs.Prelude.{◌≡◌, ◌<◌, ℕ, List, Ok, IfOk};
+ghost use Rattle.std.specs.Prelude.{◌≡◌, ◌<◌, ℕ, List, map, Some, Ok, IfOk};
 ghost use Rattle.lab_model.specs.Fit.{SetupFits};
 ghost use Rattle.lab_model.specs.Reading.{Gives};
 ghost use Rattle.player_core.specs.Available.{all_ahead};
 ghost use Rattle.frontier_planner.specs.Labels.{task_of};
+ghost use Rattle.frontier_planner.specs.Parts.{chain_parts};
 ghost use Rattle.certificate_text.specs.declared.certificate.Verdict.TheVariants.{Yes};
-ghost use Rattle.certificate_text.specs.Walk.{IsBegun, begun};
+ghost use Rattle.certificate_text.specs.Walk.{IsBegun, begun, layer_of};
 ghost use Rattle.certificate_check.specs.Soundness.{Certifies};
 ghost use Rattle.certificate_check.specs.Verdict.{lines_verdict};
 
@@ -19,6 +20,8 @@ use network_clock::Clock;
 /// The next layer, where one is left.
 fn next_layer(lines: &mut Lines<'_>) -> Result<Layer, InputFault>
     requires { lines.old.segment < lines.old.head.segments }
+    ensures { Gives (λ layer. (Some (map chain_parts layer.chains.items), lines.new)) result
+        (layer_of lines.old) }
 {
     match lines.next_layer()? {
         Some(layer) => Ok(layer),
@@ -61,7 +64,8 @@ pub fn check_lines(
         found = checker.found_more(found, segment, &here.chains, &next.chains);
         here = next;
     }
-    lines.next_layer()?;
     let score = lines.score();
-    Ok(checker.verdict(found, last, &here.chains, lines.plan(), score, score))
+    let verdict = checker.verdict(found, last, &here.chains, lines.plan(), score, score);
+    lines.next_layer()?;
+    Ok(verdict)
 }

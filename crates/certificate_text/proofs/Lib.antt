@@ -5,3 +5,4 @@ pub mod Texts
 pub mod CertificateLaws
 pub mod HeadLaws
 pub mod WalkLaws
+pub mod PlanText

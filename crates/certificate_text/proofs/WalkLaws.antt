@@ -78,7 +78,7 @@ abbrev first_walk : CertificateParts × Place → Walk
 first_walk x = record { head = x.0; segment = 0; at = Ok x.1 }
 
 -- the certificate of a head and what is read behind it
-abbrev whole_of : CertificateParts → Result (List ChainParts) Refusal → Result CertificateParts Refusal
+abbrev pub whole_of : CertificateParts → Result (List ChainParts) Refusal → Result CertificateParts Refusal
 whole_of head read = read >>= λ cs. Ok (record head { chains = cs })
 
 begun_at : (head : CertificateParts) (first : Place)

@@ -1,0 +1,312 @@
+-- A certificate that is checked layer by layer: what was found stands for every certificate that begins with what was read.
+use Rattle.std.proofs.Common.{◌≡◌, ◌∙◌, ℕ, ◌+◌, ◌-◌, ◌*◌, ◌/◌, ◌<◌, ◌≤◌, List, [], ◌++◌, length, map, get_or, Option, Some, None, Result, Ok, Err, refl, sym, ap, ap₂, subst, append_assoc, append-nil, length-append, arith}
+use Rattle.std.specs.Prelude.{ℤ}
+use Rattle.std.proofs.lemmas.List.{get_or-append-add, get_or_append_left, length-map}
+use Rattle.std.proofs.lemmas.Nat.{div-mul-add}
+use Rattle.lab_model.specs.Film.{rungs_of, segments_of}
+use Rattle.lab_model.specs.Reading.{Fails}
+use Rattle.lab_model.proofs.Refusals.{fails_on}
+use Rattle.lab_model.specs.declared.fault.InputFault.{InputFault}
+use Rattle.lab_model.specs.declared.fault.Refusal.{Refusal}
+use Rattle.frontier_planner.specs.declared.plans.Chain.{Chain}
+use Rattle.frontier_planner.specs.Labels.{IsTask, Task}
+use Rattle.frontier_planner.specs.Parts.{CertificateParts, ChainParts, chain_parts}
+use Rattle.frontier_planner.specs.Valid.{chain_in, no_chain}
+use Rattle.certificate_text.specs.declared.certificate.Layer.{Layer}
+use Rattle.certificate_text.specs.declared.certificate.Verdict.{Verdict}
+use Rattle.certificate_text.specs.declared.certificate.Verdict.TheVariants.{Yes}
+use Rattle.certificate_text.specs.Fields.{◌>>=◌}
+use Rattle.certificate_text.specs.Form.{AreChains, IsChain, IsHead, label_count, names_per}
+use Rattle.certificate_text.specs.Reading.{Place, certificate_of, head_at}
+use Rattle.certificate_text.specs.Walk.{IsBegun, Walk, begun, layer_of, layer_parts}
+use Rattle.certificate_text.proofs.CertificateLaws.{chains_take}
+use Rattle.certificate_text.proofs.FieldLaws.{bind_ok}
+use Rattle.certificate_text.proofs.Loops.{ok_is}
+use Rattle.certificate_text.proofs.HeadLaws.{certificate_takes, head_takes}
+use Rattle.certificate_text.proofs.WalkLaws.{begins, begun_rest, layer_ends, layer_reads, prepended, rest_more, rest_of, rest_stopped, whole_of}
+use Rattle.certificate_check.specs.declared.checker.Found.{Found}
+use Rattle.certificate_check.specs.Scheme.{both}
+use Rattle.certificate_check.specs.Clauses.{count_of, counts_verdict, ends_verdict, layer_of as chains_by_rung, names_verdict, plan_verdict, ranges_verdict, score_verdict, starts_held, starts_verdict}
+use Rattle.certificate_check.specs.Layers.{AreBoth, IsLayer, IsLayerOf, MayEnd}
+use Rattle.certificate_check.specs.Soundness.{Certifies}
+use Rattle.certificate_check.specs.Verdict.{lines_verdict, verdict_of}
+use Rattle.certificate_check.proofs.Progress.{StandsFor, are_both, may_end, stands_first, stands_last, stands_more}
+use Rattle.certificate_check.proofs.Slices.{count_at, form_at}
+use Rattle.certificate_check.proofs.Sound.{yes_certifies}
+use Rattle.certificate_check.proofs.Verdicts.{per_inside, per_last}
+
+-- ---- a layer that was read
+
+-- the chains of a layer in a row have the form of one
+layer_form : (segments rungs i : ℕ) (here : List Chain) → rungs ≤ 16 → length here ≡ rungs → AreChains segments rungs (i * rungs) (map chain_parts here) → label_count (map chain_parts here) ≤ 1000000
+    → IsLayer (names_per segments rungs i) here
+layer_form segments rungs i here few long form labels =
+    let wide = length-map here chain_parts in
+    record {
+      rungs = omega (arith, few, long);
+      chain = λ q low.
+          subst (λ n. IsChain (names_per segments rungs n) (chains_by_rung here q)) (div-mul-add i rungs q (omega (arith, low, long)))
+          (form_at segments rungs (i * rungs) (map chain_parts here) form q (omega (arith, low, wide)));
+      count = λ q low. let one = count_at (map chain_parts here) q (omega (arith, low, wide)) in omega (arith, one, labels);
+    }
+
+-- a certificate with these chains
+abbrev pub with_chains : CertificateParts → List ChainParts → CertificateParts
+with_chains head cs = record head { chains = cs }
+
+-- the chains behind those of the segments before are those of this segment
+layer_there : (head : CertificateParts) (before more : List ChainParts) (i : ℕ) (here : List Chain) → length before ≡ i * head.rungs → length here ≡ head.rungs
+    → IsLayerOf (with_chains head (before ++ (map chain_parts here ++ more))) i here
+layer_there head before more i here past long =
+    let wide = length-map here chain_parts in
+    record {
+      count = long;
+      same = λ q low.
+          sym (ap (λ n. get_or (before ++ (map chain_parts here ++ more)) (n + q) no_chain) (sym past)
+          ∙ get_or-append-add before (map chain_parts here ++ more) q no_chain
+          ∙ get_or_append_left (map chain_parts here) more no_chain q (omega (arith, wide, long, low)));
+    }
+
+-- what is known of a walk that has read the layer of a segment, and of what was found so far
+pub record StandsAt (g : Task) (first w : Walk) (i : ℕ) (here : List Chain) (f : Found) : Type 0 where
+  -- the chains of the segments before
+  pub before : List ChainParts
+  pub past : length before ≡ i * first.head.rungs
+  pub head : w.head ≡ first.head
+  pub segment : w.segment ≡ i + 1
+  pub room : (p : Place) → w.at ≡ Ok p → p.left ≤ 1000000
+  pub rest : rest_of first ≡ prepended (before ++ map chain_parts here) (rest_of w)
+  pub long : length here ≡ first.head.rungs
+  pub form : IsLayer (names_per first.head.segments first.head.rungs i) here
+  -- whatever chains come later
+  pub stands : (more : List ChainParts) → StandsFor g (with_chains first.head (before ++ (map chain_parts here ++ more))) i f
+
+-- what is known of a layer that was read
+pub record LayerRead (w v : Walk) (i : ℕ) (here : List Chain) : Type 0 where
+  pub head : v.head ≡ w.head
+  pub segment : v.segment ≡ i + 1
+  pub room : (p : Place) → v.at ≡ Ok p → p.left ≤ 1000000
+  pub long : length here ≡ w.head.rungs
+  pub form : IsLayer (names_per w.head.segments w.head.rungs i) here
+
+-- an answer that holds a place
+abbrev at_place : Place → Result Place Refusal
+at_place p = Ok p
+
+pub layer_read : (w v : Walk) (i : ℕ) (here : List Chain) → w.head.rungs ≤ 16 → w.segment ≡ i → ((p : Place) → w.at ≡ Ok p → p.left ≤ 1000000) → layer_of w ≡ Ok (Some (map chain_parts here), v) → LayerRead w v i here
+layer_read w v i here few at room h =
+    let r = layer_reads w v (map chain_parts here) h in
+    let t = chains_take w.head.segments w.head.rungs (w.segment * w.head.rungs) w.head.rungs r.at (map chain_parts here, r.next) r.read in
+    let left = t.left in
+    let most = room r.at r.standing in
+    let long = sym (length-map here chain_parts) ∙ t.count_is in
+    let there : v.at ≡ Ok r.next = ap (λ (x : Walk). x.at) r.after in
+    record {
+      head = ap (λ (x : Walk). x.head) r.after;
+      segment = ap (λ (x : Walk). x.segment) r.after ∙ ap (λ n. n + 1) at;
+      room = λ p is. let same : r.next ≡ p = place_is r.next p (sym there ∙ is) in subst (λ (q : Place). q.left ≤ 1000000) same (omega (arith, left, most));
+      long = long;
+      form = layer_form w.head.segments w.head.rungs i here few long (subst (λ n. AreChains w.head.segments w.head.rungs (n * w.head.rungs) (map chain_parts here)) at t.chains) (omega (arith, left, most));
+    }
+  where
+    place_is : (p q : Place) → at_place p ≡ at_place q → p ≡ q
+    place_is p q e = cc
+
+-- ---- the walk that has begun
+
+-- what a walk that has begun tells of its head
+pub record HeadRead (w : Walk) : Type 0 where
+  pub form : IsHead w.head
+  pub segment : w.segment ≡ 0
+  pub room : (p : Place) → w.at ≡ Ok p → p.left ≤ 1000000
+
+pub head_read : (w : Walk) → IsBegun w → HeadRead w
+head_read w begun =
+    let b = begins begun.bytes w begun.is in
+    let t = head_takes b.bytes (w.head, b.at) b.head in
+    let left = t.left in
+    record {
+      form = t.head;
+      segment = b.segment;
+      room = λ p is. let same : b.at ≡ p = place_is b.at p (sym b.standing ∙ is) in subst (λ (q : Place). q.left ≤ 1000000) same (omega (arith, left));
+    }
+  where
+    place_is : (p q : Place) → at_place p ≡ at_place q → p ≡ q
+    place_is p q e = cc
+
+-- the first layer
+pub first_read : (first w : Walk) (here : List Chain) → IsBegun first → layer_of first ≡ Ok (Some (map chain_parts here), w) → LayerRead first w 0 here
+first_read first w here begun h = let known = head_read first begun in layer_read first w 0 here known.form.rungs.1 known.segment known.room h
+
+-- ---- how the checks go on
+
+-- after the first layer
+pub stands_begun : (g : Task) (first w : Walk) (head : Verdict) (here : List Chain) (f : Found) → IsBegun first → layer_of first ≡ Ok (Some (map chain_parts here), w)
+    → head ≡ both (counts_verdict g first.head.table first.head.segments first.head.rungs) (plan_verdict first.head.segments first.head.rungs first.head.plan)
+    → f.ranges ≡ both head (starts_verdict (length first.head.starts) first.head.starts (chains_by_rung here))
+    → (f.ranges ≡ Yes → f.claims ≡ starts_held g (length first.head.starts) first.head.starts (chains_by_rung here)) → StandsAt g first w 0 here f
+stands_begun g first w head here f begun h is ranges claims =
+    let known = head_read first begun in
+    let r = layer_read first w 0 here known.form.rungs.1 known.segment known.room h in
+    record {
+      before = [];
+      past = omega arith;
+      head = r.head;
+      segment = r.segment;
+      room = r.room;
+      rest = rest_more first w (map chain_parts here) (omega (arith, known.segment)) h;
+      long = r.long;
+      form = r.form;
+      stands = λ more.
+          stands_first g (with_chains first.head (map chain_parts here ++ more)) head here f known.form.starts_length
+          (layer_there first.head [] more 0 here (omega arith) r.long) is ranges claims;
+    }
+
+-- after one more
+pub stands_on : (g : Task) (first w v : Walk) (i : ℕ) (here next : List Chain) (f h : Found) → IsBegun first → i + 1 < first.head.segments → StandsAt g first w i here f → layer_of w ≡ Ok (Some (map chain_parts next), v)
+    → h.ranges ≡ both f.ranges (ranges_verdict (length next) (length here) i (chains_by_rung here) (chains_by_rung next))
+    → (h.ranges ≡ Yes → h.claims ≡ both f.claims (names_verdict g (length next) (length here) i (chains_by_rung here) (chains_by_rung next))) → StandsAt g first v (i + 1) next h
+stands_on g first w v i here next f h begun inside s read ranges claims =
+    let known = head_read first begun in
+    let few : w.head.rungs ≤ 16 = subst (λ (x : CertificateParts). x.rungs ≤ 16) (sym s.head) known.form.rungs.1 in
+    let r = layer_read w v (i + 1) next few s.segment s.room read in
+    let past = s.past in
+    let long = s.long in
+    let wide = length-map here chain_parts in
+    let both_long = length-append s.before (map chain_parts here) in
+    let row : i * first.head.rungs + first.head.rungs ≡ (i + 1) * first.head.rungs = omega arith in
+    let later : length (s.before ++ map chain_parts here) ≡ (i + 1) * first.head.rungs = omega (arith, both_long, past, wide, long, row) in
+    let next_long : length next ≡ first.head.rungs = r.long ∙ ap (λ (x : CertificateParts). x.rungs) s.head in
+    let segment = s.segment in
+    let same_head = s.head in
+    let low : w.segment ≤ w.head.segments = subst (λ (x : CertificateParts). w.segment ≤ x.segments) (sym same_head) (omega (arith, inside, segment)) in
+    record {
+      before = s.before ++ map chain_parts here;
+      past = later;
+      head = r.head ∙ s.head;
+      segment = r.segment;
+      room = r.room;
+      rest = s.rest ∙ ap (prepended (s.before ++ map chain_parts here)) (rest_more w v (map chain_parts next) low read) ∙ prepended_twice (s.before ++ map chain_parts here) (map chain_parts next) (rest_of v);
+      long = next_long;
+      form = subst (λ (x : CertificateParts). IsLayer (names_per x.segments x.rungs (i + 1)) next) s.head r.form;
+      stands = λ more.
+          let c = with_chains first.head ((s.before ++ map chain_parts here) ++ (map chain_parts next ++ more)) in
+          let same : s.before ++ (map chain_parts here ++ (map chain_parts next ++ more)) ≡ (s.before ++ map chain_parts here) ++ (map chain_parts next ++ more) = sym (append_assoc s.before (map chain_parts here) (map chain_parts next ++ more)) in
+          stands_more g c i here next f h inside
+          (subst (λ (cs : List ChainParts). IsLayerOf (with_chains first.head cs) i here) same (layer_there first.head s.before (map chain_parts next ++ more) i here past long))
+          (layer_there first.head (s.before ++ map chain_parts here) more (i + 1) next later next_long)
+          (subst (λ (cs : List ChainParts). StandsFor g (with_chains first.head cs) i f) same (s.stands (map chain_parts next ++ more))) ranges claims;
+    }
+  where
+    prepended_twice : (front more : List ChainParts) (read : Result (List ChainParts) Refusal) → prepended front (prepended more read) ≡ prepended (front ++ more) read
+    prepended_twice front more (Ok cs) = ap (λ (x : List ChainParts). Ok x) (sym (append_assoc front more cs))
+    prepended_twice front more (Err e) = refl
+
+-- ---- what the calls ask
+
+-- what the checks of one more layer ask
+pub record MoreFits (g : Task) (i : ℕ) (here next : List Chain) (f : Found) : Type 0 where
+  pub form : IsLayer (length next) here
+  pub few : length next ≤ 16
+  pub fits : f.ranges ≡ Yes → AreBoth g i here next
+
+pub more_fits : (g : Task) (first w v : Walk) (i : ℕ) (here next : List Chain) (f : Found) → IsBegun first → i + 1 < first.head.segments → StandsAt g first w i here f → layer_of w ≡ Ok (Some (map chain_parts next), v)
+    → MoreFits g i here next f
+more_fits g first w v i here next f begun inside s read =
+    let known = head_read first begun in
+    let few = known.form.rungs.1 in
+    let r = layer_read w v (i + 1) next (subst (λ (x : CertificateParts). x.rungs ≤ 16) (sym s.head) few) s.segment s.room read in
+    let next_long : length next ≡ first.head.rungs = r.long ∙ ap (λ (x : CertificateParts). x.rungs) s.head in
+    let past = s.past in
+    let long = s.long in
+    let wide = length-map here chain_parts in
+    let both_long = length-append s.before (map chain_parts here) in
+    let row : i * first.head.rungs + first.head.rungs ≡ (i + 1) * first.head.rungs = omega arith in
+    let later : length (s.before ++ map chain_parts here) ≡ (i + 1) * first.head.rungs = omega (arith, both_long, past, wide, long, row) in
+    let same : s.before ++ (map chain_parts here ++ (map chain_parts next ++ [])) ≡ (s.before ++ map chain_parts here) ++ (map chain_parts next ++ []) = sym (append_assoc s.before (map chain_parts here) (map chain_parts next ++ [])) in
+    let own = layer_there first.head s.before (map chain_parts next ++ []) i here past long in
+    let more = subst (λ (cs : List ChainParts). IsLayerOf (with_chains first.head cs) (i + 1) next) (sym same) (layer_there first.head (s.before ++ map chain_parts here) [] (i + 1) next later next_long) in
+    record {
+      form = subst (λ n. IsLayer n here) (per_inside first.head.segments first.head.rungs i inside ∙ sym next_long) s.form;
+      few = omega (arith, next_long, few);
+      fits = are_both g (with_chains first.head (s.before ++ (map chain_parts here ++ (map chain_parts next ++ [])))) i here next f inside own more (s.stands (map chain_parts next ++ []));
+    }
+
+-- what the checks of the last layer ask
+pub record EndFits (g : Task) (i : ℕ) (here : List Chain) (plan : List ℕ) (f : Found) : Type 0 where
+  pub form : IsLayer 0 here
+  pub fits : f.ranges ≡ Yes → MayEnd g i here plan
+
+pub end_fits : (g : Task) (first w : Walk) (i : ℕ) (here : List Chain) (f : Found) → IsBegun first → i + 1 ≡ first.head.segments → StandsAt g first w i here f → EndFits g i here first.head.plan f
+end_fits g first w i here f begun last s =
+    let known = head_read first begun in
+    record {
+      form = subst (λ n. IsLayer n here) (per_last first.head.segments first.head.rungs i last) s.form;
+      fits = may_end g (with_chains first.head (s.before ++ (map chain_parts here ++ []))) i here f last known.form.plan_length (layer_there first.head s.before [] i here s.past s.long) (s.stands []);
+    }
+
+-- a walk within its segments
+pub still_inside : (g : Task) (first w : Walk) (i : ℕ) (here : List Chain) (f : Found) → i + 1 ≤ first.head.segments → StandsAt g first w i here f → w.segment ≤ w.head.segments
+still_inside g first w i here f low s =
+    let segment = s.segment in
+    subst (λ (x : CertificateParts). w.segment ≤ x.segments) (sym s.head) (omega (arith, low, segment))
+
+-- ---- the end
+
+-- a walk that has read the last layer stands at its end
+at_end : (g : Task) (first w v : Walk) (i : ℕ) (here : List Chain) (f : Found) (layer : Option Layer) → i + 1 ≡ first.head.segments → StandsAt g first w i here f → layer_of w ≡ Ok (layer_parts layer, v) → rest_of w ≡ Ok []
+at_end g first w v i here f (Some layer) last s h =
+    absurd ((layer_reads w v (map chain_parts layer.chains.items) h).other (s.segment ∙ last ∙ ap (λ (x : CertificateParts). x.segments) (sym s.head)))
+at_end g first w v i here f None last s h = (layer_ends w v h).1
+
+-- what was read is the whole
+whole_read : (g : Task) (bytes : List ℕ) (first w v : Walk) (i : ℕ) (here : List Chain) (f : Found) (layer : Option Layer) → begun bytes ≡ Ok first → i + 1 ≡ first.head.segments → StandsAt g first w i here f
+    → layer_of w ≡ Ok (layer_parts layer, v) → (s : List ChainParts) × (certificate_of bytes ≡ Ok (with_chains first.head s)) × StandsFor g (with_chains first.head s) i f × IsLayerOf (with_chains first.head s) i here
+whole_read g bytes first w v i here f layer is last s h = (
+  s.before ++ (map chain_parts here ++ []),
+  begun_rest bytes first is ∙ ap (whole_of first.head) (s.rest ∙ ap (prepended (s.before ++ map chain_parts here)) (at_end g first w v i here f layer last s h))
+  ∙ ap (λ (cs : List ChainParts). Ok (with_chains first.head cs)) (append_assoc s.before (map chain_parts here) []),
+  s.stands [],
+  layer_there first.head s.before [] i here s.past s.long,
+)
+
+-- the verdict is that on the whole certificate
+pub verdict_said : (g : Task) (bytes : List ℕ) (first w v : Walk) (i : ℕ) (here : List Chain) (f : Found) (layer : Option Layer) (said : Verdict) → begun bytes ≡ Ok first → i + 1 ≡ first.head.segments → StandsAt g first w i here f
+    → layer_of w ≡ Ok (layer_parts layer, v)
+    → said ≡ both (both f.ranges (ranges_verdict 0 (length here) i (chains_by_rung here) (chains_by_rung []))) (both f.claims (both (ends_verdict g first.head.score (length here) i (chains_by_rung here)) (score_verdict g first.head.plan first.head.score)))
+    → lines_verdict g bytes ≡ Ok said
+verdict_said g bytes first w v i here f layer said is last s h e =
+    let whole = whole_read g bytes first w v i here f layer is last s h in
+    let c = with_chains first.head whole.0 in
+    ap (verdict_on g) whole.1 ∙ ap (λ (x : Verdict). Ok x) (sym (stands_last g c first.head.score i here f said last whole.3 whole.2 e))
+  where
+    verdict_on : (g : Task) → Result CertificateParts Refusal → Result Verdict Refusal
+    verdict_on g read = read >>= λ c. Ok (verdict_of g c c.score)
+
+-- a Yes proves what the head claims
+pub yes_said : (g : Task) (bytes : List ℕ) (first : Walk) → IsTask g → begun bytes ≡ Ok first → lines_verdict g bytes ≡ Ok Yes → Certifies g first.head.plan first.head.score first.head.score
+yes_said g bytes first is begun passed =
+    let read = bind_ok (certificate_of bytes) (λ c. Ok (verdict_of g c c.score)) Yes passed in
+    let whole = bind_ok (rest_of first) (λ cs. Ok (with_chains first.head cs)) read.0 (sym (begun_rest bytes first begun) ∙ read.1) in
+    let same : with_chains first.head whole.0 ≡ read.0 = ok_is (with_chains first.head whole.0) read.0 whole.2 in
+    let said : verdict_of g read.0 read.0.score ≡ Yes = ok_is (verdict_of g read.0 read.0.score) Yes read.2 in
+    subst (λ (c : CertificateParts). Certifies g c.plan c.score c.score) (sym same) (yes_certifies g read.0 read.0.score is (certificate_takes bytes read.0 read.1).0 said)
+
+-- a fault of the lines is the answer
+pub fault_said : (g : Task) (bytes : List ℕ) (first w : Walk) (front : List ChainParts) (e : InputFault) → begun bytes ≡ Ok first → w.segment ≤ w.head.segments → rest_of first ≡ prepended front (rest_of w) → Fails e (layer_of w) → Fails e (lines_verdict g bytes)
+fault_said g bytes first w front e is low rest h =
+    fails_on e (layer_of w) (lines_verdict g bytes) h (λ y refused.
+    ap (verdict_on g) (begun_rest bytes first is ∙ ap (whole_of first.head) (rest ∙ ap (prepended front) (rest_stopped w y low refused))))
+  where
+    verdict_on : (g : Task) → Result CertificateParts Refusal → Result Verdict Refusal
+    verdict_on g read = read >>= λ c. Ok (verdict_of g c c.score)
+
+-- and so is one before the first layer
+pub fault_first : (g : Task) (bytes : List ℕ) (first : Walk) (e : InputFault) → begun bytes ≡ Ok first → Fails e (layer_of first) → Fails e (lines_verdict g bytes)
+fault_first g bytes first e is h =
+    let known = head_read first (record { bytes = bytes; is = is }) in
+    fault_said g bytes first first [] e is (omega (arith, known.segment)) (nothing_before (rest_of first)) h
+  where
+    nothing_before : (read : Result (List ChainParts) Refusal) → read ≡ prepended [] read
+    nothing_before (Ok cs) = refl
+    nothing_before (Err e) = refl
