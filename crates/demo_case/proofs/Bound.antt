@@ -1,11 +1,10 @@
 -- The bound on the labels of a made case: in each of 160 frontiers at most 484 values, each of one label.
-use Rattle.std.proofs.Common.{◌≡◌, ◌≢◌, ◌∙◌, ℕ, zero, suc, ◌+◌, ◌*◌, ◌<◌, ◌≤◌, List, [], ◌∷◌, ◌++◌, length, map, get_or, refl, sym, ap, subst, arith, true, length-append}
-use Rattle.std.specs.Prelude.{ℤ, pos}
+use Rattle.std.proofs.Common.{◌≡◌, ◌≢◌, ◌∙◌, ℕ, zero, suc, ◌+◌, ◌*◌, ◌<◌, ◌≤◌, List, length, map, get_or, sym, subst, arith, true, length-append}
+use Rattle.std.specs.Prelude.{ℤ}
 use Rattle.std.specs.List.{AllPairs, Contains, IsDistinct, flat_map, range_with_len}
 use Rattle.std.specs.List.Sorted.{IsStrictlySortedBy}
 use Rattle.std.specs.Bool.{Decides}
-use Rattle.std.specs.Ordering.{eq_by_cmp, int_eq}
-use Rattle.std.specs.Set.{is_member}
+use Rattle.std.specs.Ordering.{int_eq}
 use Rattle.std.proofs.lemmas.Bool.Decides.{Decides-int_eq}
 use Rattle.std.proofs.lemmas.Cmp.{eq_by_cmp_equiv, int_eq_equiv}
 use Rattle.std.proofs.lemmas.List.{get_or-map, get_or_default, length-map}
@@ -17,7 +16,7 @@ use Rattle.lab_model.specs.declared.label.Label.{Label}
 use Rattle.lab_model.specs.Film.{segments_of}
 use Rattle.lab_model.specs.Ladder.{rungs_below}
 use Rattle.frontier_planner.specs.Frontier.{frontier, is_same, label_cmp, prefix_labels}
-use Rattle.frontier_planner.specs.Read.{SpentAt, labels_before, labels_in, labels_of}
+use Rattle.frontier_planner.specs.Read.{labels_before, labels_of}
 use Rattle.frontier_planner.proofs.Kept.{undominated_sorted}
 use Rattle.frontier_planner.proofs.Order.{label_exact, label_total}
 use Rattle.frontier_planner.proofs.Prefixes.{frontier_is, grown_is_frontier}
@@ -25,7 +24,7 @@ use Rattle.frontier_planner.proofs.SmallBuffers.{frontier_apart}
 use Rattle.frontier_planner.proofs.Walks.{from_map, in_flat_map, in_map, in_rungs}
 use Rattle.demo_case.specs.Case.{demo_task}
 use Rattle.demo_case.specs.Laws.{DemoFitsBudget, DemoIsSmall}
-use Rattle.demo_case.proofs.Values.{HasValue, grown_value, value_of}
+use Rattle.demo_case.proofs.Values.{grown_value, value_of}
 use Rattle.demo_case.proofs.Within.{demo_is_task, demo_segments}
 
 -- ---- counting
@@ -100,7 +99,7 @@ module _ (n i q : ℕ) (inside : i < 40) (rung : q < 4) where
       (frontier_apart (demo_task n) (demo_is_task n) (omega arith) i q segment_inside rung)
 
   -- so there are at most 484
-  pub frontier_few : length (frontier (demo_task n) i q) ≤ 484
+  frontier_few : length (frontier (demo_task n) i q) ≤ 484
   unfolding values
   frontier_few =
       let ls = frontier (demo_task n) i q in
@@ -108,17 +107,17 @@ module _ (n i q : ℕ) (inside : i < 40) (rung : q < 4) where
       let here : length vs ≡ length ls = length-map ls (λ (l : Label). l.v) in
       let all : length (values n) ≡ 4 * 121 = count_pairs (value_of n) 121 0 4 in
       let few : length vs ≤ length (values n) =
-        length-le_from_is_member int_eq_equiv vs (values n) values_apart
-        (λ v there.
-        let from = from_map (λ (l : Label). l.v) ls v ((is_member-Decides Decides-int_eq vs v).0 there) in
-        (is_member-Decides Decides-int_eq (values n) v).1 (subst (Contains (values n)) from.2 (value_in from.0 from.1)))
+      length-le_from_is_member int_eq_equiv vs (values n) values_apart
+      (λ v there.
+      let from = from_map (λ (l : Label). l.v) ls v ((is_member-Decides Decides-int_eq vs v).0 there) in
+      (is_member-Decides Decides-int_eq (values n) v).1 (subst (Contains (values n)) from.2 (value_in from.0 from.1)))
       in
       omega (arith, here, all, few)
 
 -- ---- all frontiers
 
 -- the labels of the first segments
-pub labels_few : (n k : ℕ) → k ≤ 40 → labels_before (demo_task n) (frontier (demo_task n)) k ≤ k * 1936
+labels_few : (n k : ℕ) → k ≤ 40 → labels_before (demo_task n) (frontier (demo_task n)) k ≤ k * 1936
 unfolding labels_before
 labels_few n zero most = omega arith
 labels_few n (suc k) most =
@@ -133,8 +132,8 @@ demo_is_small n most =
     (let few = labels_few n 40 (omega arith) in omega (arith, few))
 
 -- so the budget isn't spent
-pub demo_is_within : DemoFitsBudget
-demo_is_within n segment most spent =
+pub budget_unspent : DemoFitsBudget
+budget_unspent n segment most spent =
     let inside = spent.inside in
     let count = demo_segments n in
     let few = labels_few n (suc segment) (omega (arith, inside, count)) in

@@ -1,18 +1,19 @@
 -- A made case lies within the limits: film, network, weights, and so the task.
-use Rattle.std.proofs.Common.{◌≡◌, ◌∙◌, ℕ, zero, suc, ◌+◌, ◌*◌, ◌/◌, ◌%◌, ◌<◌, ◌≤◌, inl, List, [], ◌∷◌, ◌++◌, length, map, slice_index, refl, sym, ap, subst, arith, add-one, length-append}
-use Rattle.std.specs.List.{All, sum_by}
+use Rattle.std.proofs.Common.{◌≡◌, ◌∙◌, ℕ, zero, suc, ◌+◌, ◌*◌, ◌<◌, ◌≤◌, inl, [], ◌∷◌, slice_index, refl, sym, ap, subst, arith, add-one}
+use Rattle.std.specs.List.{All}
 use Rattle.std.proofs.lemmas.List.Elements.{All-append, All-cons, All-nil, All-push}
 use Rattle.std.proofs.lemmas.List.Sums.{sum_by-append}
+use Rattle.lab_model.specs.declared.setup.Setup.{Setup}
 use Rattle.lab_model.specs.declared.trace.Period.{Period}
 use Rattle.lab_model.specs.Cycle.{IsPeriod, IsTrace, cycle_bits, cycle_ms}
-use Rattle.lab_model.specs.Film.{IsFilm, IsWithin, rungs_of, segments_of}
+use Rattle.lab_model.specs.Film.{Film, IsFilm, IsWithin, segments_of}
 use Rattle.lab_model.specs.Fit.{SetupFits}
 use Rattle.lab_model.specs.Row.{IsRow}
 use Rattle.lab_model.specs.Weighing.{IsWeighing}
 use Rattle.lab_model.proofs.Rows.{weighing_within}
 use Rattle.frontier_planner.specs.Labels.{IsTask}
 use Rattle.demo_case.specs.Draws.{draw, state_after}
-use Rattle.demo_case.specs.Case.{demo_bitrates, demo_film, demo_periods, demo_setup, demo_task, period_drawn, periods_from, size_drawn, sizes_drawn, sizes_from}
+use Rattle.demo_case.specs.Case.{demo_bitrates, demo_film, demo_setup, demo_task, period_drawn, periods_from, size_drawn, sizes_drawn, sizes_from}
 use Rattle.demo_case.proofs.Drawn.{periods_first, periods_length, periods_more, sizes_first, sizes_length, sizes_more}
 
 -- a list of four within limits
@@ -115,6 +116,10 @@ demo_setup_fits n = record {
   buffer = (omega arith, omega arith);
   utilities = record { rungs = refl; rows = inl refl };
 }
+
+-- so it does where film and setup are those
+pub parts_fit : (n : ℕ) (f : Film) (s : Setup) → f ≡ demo_film n → s ≡ demo_setup → SetupFits s f
+parts_fit n f s film setup = subst (λ t. SetupFits t f) (sym setup) (subst (SetupFits demo_setup) (sym film) (demo_setup_fits n))
 
 -- all of it is a task
 pub demo_is_task : (n : ℕ) → IsTask (demo_task n)

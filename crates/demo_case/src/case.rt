@@ -24,6 +24,9 @@ pub struct DemoCase {
 /// The duration of a segment in ms.
 const SEGMENT_MS: u32 = 2000;
 
+/// A hundredth of it.
+const HUNDREDTH_MS: u32 = 20;
+
 /// The bitrates in kbps.
 const BITRATES: [u32; 4] = [500, 1000, 2000, 4000];
 
@@ -42,18 +45,28 @@ const BUFFER_MS: u32 = 4000;
 /// The utilities by rung.
 const UTILITIES: [u32; 4] = [0, 1, 2, 3];
 
-/// Adds the sizes of a segment, rung by rung, by its drawn number.
+/// What a change of utility weighs.
+const SWITCH: u32 = 0;
+
+/// What a millisecond of stall weighs.
+const STALL: u32 = 100;
+
+/// What a millisecond of startup weighs.
+const STARTUP: u32 = 1;
+
+/// Adds the sizes of a segment in bits, rung by rung, by its drawn number: 75 to 125 hundredths of what the bitrate
+/// gives in the segment's duration.
 fn add_sizes(sizes: &mut Vec<u32>, drawn: u32) -> Result<(), AllocError>
     ensures { IfOk result (λ _. sizes.new.items ≡ sizes.old.items ++ sizes_drawn drawn) }
 {
     for bitrate in &BITRATES {
-        sizes.push(*bitrate * 20 * (75 + drawn % 51))?;
+        sizes.push(*bitrate * HUNDREDTH_MS * (75 + drawn % 51))?;
     }
     Ok(())
 }
 
 /// The sizes in bits of the film, segment by segment, with one draw a segment.
-#[tactic(auto, using(crate::proofs::Drawn::sizes_first, crate::proofs::Drawn::sizes_more, crate::proofs::Drawn::state_first, crate::proofs::Drawn::state_more, crate::proofs::Drawn::draw_more))]
+#[tactic(auto, using(crate::proofs::Drawn::draws))]
 fn draw_sizes(alloc: Global, draws: &mut Draws) -> Result<Vec<u32>, AllocError>
     ensures sizes { IfOk result (λ v. v.items ≡ sizes_from draws.old 40) }
     ensures state { IfOk result (λ _. draws.new ≡ state_after draws.old 40) }
@@ -71,17 +84,17 @@ fn draw_period(draws: &mut Draws) -> Period
     ensures period { result ≡ period_drawn (draw draws.old 0) (draw draws.old 1) }
     ensures state { draws.new ≡ state_after draws.old 2 }
 {
-    let bandwidth = 500 + 100 * (draws.next() as u64 % 36);
+    let kbps = 500 + 100 * (draws.next() % 36);
     let latency = 20 + draws.next() % 81;
     Period {
         duration_ms: PERIOD_MS,
-        bandwidth: 1000 * bandwidth,
+        bandwidth: 1000 * kbps as u64,
         latency,
     }
 }
 
 /// The periods of the network, with two draws a period.
-#[tactic(auto, using(crate::proofs::Drawn::periods_first, crate::proofs::Drawn::periods_more, crate::proofs::Drawn::state_first, crate::proofs::Drawn::period_next, crate::proofs::Drawn::state_next))]
+#[tactic(auto, using(crate::proofs::Drawn::draws))]
 fn draw_periods(alloc: Global, draws: &mut Draws) -> Result<Vec<Period>, AllocError>
     ensures { IfOk result (λ v. v.items ≡ periods_from draws.old 20) }
 {
@@ -100,7 +113,7 @@ fn demo_setup(alloc: Global) -> Result<Setup, AllocError>
     let utilities = UTILITIES.to_vec(alloc)?;
     Ok(Setup {
         buffer_ms: BUFFER_MS,
-        weights: Weights::from_parts(utilities, 0, 100, 1).unwrap(),
+        weights: Weights::from_parts(utilities, SWITCH, STALL, STARTUP).unwrap(),
         abandon: false,
     })
 }
@@ -126,11 +139,13 @@ fn draw_trace(alloc: Global, draws: &mut Draws) -> Result<Trace, AllocError>
 }
 
 /// The parts of the made case: first the film is drawn, then the network.
+#[tactic(auto, using(crate::proofs::Within::parts_fit))]
 fn draw_case(alloc: Global, n: u32) -> Result<DemoCase, AllocError>
     requires { n ≤ 2147483647 }
     ensures manifest { IfOk result (λ c. c.manifest ≡ demo_film n) }
     ensures trace { IfOk result (λ c. c.trace ≡ demo_periods n) }
     ensures setup { IfOk result (λ c. c.setup ≡ demo_setup) }
+    ensures fits { IfOk result (λ c. SetupFits c.setup c.manifest) }
 {
     let mut draws = Draws::new(n);
     let manifest = draw_film(alloc, &mut draws)?;
@@ -148,7 +163,7 @@ pub fn demo_case(alloc: Global, n: u32) -> Result<DemoCase, NoMemory>
     ensures manifest { IfOk result (λ c. c.manifest ≡ demo_film n) }
     ensures trace { IfOk result (λ c. c.trace ≡ demo_periods n) }
     ensures setup { IfOk result (λ c. c.setup ≡ demo_setup) }
-    ensures fits { SetupFits demo_setup (demo_film n) }
+    ensures fits { IfOk result (λ c. SetupFits c.setup c.manifest) }
     ensures task { IsTask (demo_task n) }
 {
     draw_case(alloc, n).map_err(|_| NoMemory)
