@@ -1,5 +1,5 @@
 -- What `demo` answers: five rules on the made case of a number, its plan, and the verdict on the plan's certificate.
-use Rattle.std.specs.Prelude.{ℕ, List, [], ◌∷◌, ◌++◌, codes}
+use Rattle.std.specs.Prelude.{ℕ, ℤ, List, [], ◌∷◌, ◌++◌, codes}
 use Rattle.std.specs.List.{flat_map}
 use Rattle.std.specs.Fmt.{decimal, signed_decimal}
 use Rattle.lab_io.specs.Piece.{fields_line}
@@ -24,19 +24,17 @@ demo_rules = (codes "fixed:0", fixed 0)
 abbrev pub demo_bench : ℕ → BenchValue
 demo_bench n = record { film = demo_film n; periods = demo_periods n; setup = demo_setup; seeks = [] }
 
--- the line of the plan
-abbrev pub demo_plan : ℕ → Text
-demo_plan n = fields_line (
-  codes "plan" ∷ codes "score" ∷ signed_decimal (certificate_on (demo_task n)).score
-      ∷ codes "labels" ∷ decimal (labels_on (demo_task n)) ∷ []
-)
+-- the line of a plan with this score and so many labels
+abbrev pub demo_plan : ℤ → ℕ → Text
+demo_plan score labels =
+    fields_line (codes "plan" ∷ codes "score" ∷ signed_decimal score ∷ codes "labels" ∷ decimal labels ∷ [])
 
 -- the text of the demo of a number
 unfoldable pub demo_text : ℕ → Text
 demo_text n =
     fields_line (codes "demo" ∷ decimal n ∷ [])
     ++ (flat_map (row_of (demo_bench n)) demo_rules
-    ++ (demo_plan n ++ fields_line (codes "check" ∷ codes "yes" ∷ [])))
+    ++ (demo_plan (certificate_on (demo_task n)).score (labels_on (demo_task n)) ++ fields_line (codes "check" ∷ codes "yes" ∷ [])))
 
 -- what `demo` answers, by its words
 abbrev pub demo : CommandWords → Answer

@@ -45,7 +45,7 @@ fn bad_line(fault: InputFault) -> Halt
 }
 
 /// The verdict of lines that have just begun, on the one trace.
-fn judgement_of(
+fn judge_lines(
     alloc: Global,
     inputs: &Inputs,
     setup: &Setup,
@@ -75,7 +75,7 @@ fn misfit_behind(lines: Lines<'_>, setting: Setting) -> Halt
 }
 
 /// What the files and settings of a command come to.
-fn judgement(alloc: Global, command: &Command, inputs: &Inputs) -> Result<Judgement, Halt>
+fn judge_inputs(alloc: Global, command: &Command, inputs: &Inputs) -> Result<Judgement, Halt>
     requires limits { IsWithinLimits (view command.now) }
     requires verb { (view command.now).verb ≡ Check }
     requires sound { IsSound inputs.now }
@@ -89,12 +89,12 @@ fn judgement(alloc: Global, command: &Command, inputs: &Inputs) -> Result<Judgem
     };
     match misfit {
         Some(setting) => Err(misfit_behind(lines, setting)),
-        None => judgement_of(alloc, inputs, &setup, lines),
+        None => judge_lines(alloc, inputs, &setup, lines),
     }
 }
 
 /// The verdict on the certificate that the files of a command hold.
-fn read_judgement<F: Shelf>(
+fn judge_files<F: Shelf>(
     alloc: Global,
     command: &Command,
     shelf: &mut F,
@@ -105,7 +105,7 @@ fn read_judgement<F: Shelf>(
         (F.shelved shelf.old) result (F.shelved shelf.new) }
 {
     let inputs = read_inputs(alloc, shelf, command)?;
-    judgement(alloc, command, &inputs)
+    judge_inputs(alloc, command, &inputs)
 }
 
 /// Says a clause by its number, and a place where it fails.
@@ -173,7 +173,7 @@ pub(crate) fn check<F: Shelf, O: Sink>(
     ensures { Ends (view command.now) (F.shelved shelf.old) (O.seen out.old) result
         (F.shelved shelf.new) (O.seen out.new) }
 {
-    match read_judgement(alloc, command, shelf) {
+    match judge_files(alloc, command, shelf) {
         Ok(said) => ending_of(verdict_ending(said.verdict), put_judgement(out, said)),
         Err(Halt::Stopped(stop)) => Ending::Stopped(stop),
         Err(Halt::NoMemory) => Ending::NoMemory,

@@ -8,7 +8,7 @@ ghost use Rattle.lab_io.specs.Sink.{Puts};
 ghost use Rattle.lab_words.specs.declared.Verb.TheVariants.{Demo};
 ghost use Rattle.lab_words.specs.Command.{named, view};
 ghost use Rattle.lab_words.specs.Limits.{IsWithinLimits};
-ghost use Rattle.abrlab_top.specs.Demo.{demo_plan_line, demo_rules, demo_text};
+ghost use Rattle.abrlab_top.specs.Demo.{demo_plan, demo_rules, demo_text};
 ghost use Rattle.abrlab_top.specs.Stages.{Ends, WritesRows};
 
 use crate::ending::ending_of;
@@ -63,6 +63,29 @@ fn certificate_of(case: &DemoCase, plan: Plan) -> Certificate {
     }
 }
 
+/// Writes the line of the plan.
+fn put_plan<O: Sink>(out: &mut O, score: i128, labels: u32) -> Result<(), PutErr>
+    ensures { Puts (O.seen out.old) (demo_plan score labels) (O.seen out.new) result }
+{
+    put_fields(
+        out,
+        &[
+            Word("plan"),
+            Word("score"),
+            Number(score),
+            Word("labels"),
+            Number(labels as i128),
+        ],
+    )
+}
+
+/// Writes the line of the number.
+fn put_demo<O: Sink>(out: &mut O, number: u32) -> Result<(), PutErr>
+    ensures { Puts (O.seen out.old) (fields_line (codes "demo" ∷ decimal number ∷ [])) (O.seen out.new) result }
+{
+    put_fields(out, &[Word("demo"), Number(number as i128)])
+}
+
 /// Plans the made case, checks the plan's certificate and writes the two lines of both.
 fn write_plan<O: Sink>(
     alloc: Global,
@@ -84,21 +107,6 @@ fn write_plan<O: Sink>(
     }
 }
 
-/// Writes the line of the plan.
-fn put_plan<O: Sink>(out: &mut O, score: i128, labels: u32) -> Result<(), PutErr>
-{
-    put_fields(
-        out,
-        &[
-            Word("plan"),
-            Word("score"),
-            Number(score),
-            Word("labels"),
-            Number(labels as i128),
-        ],
-    )
-}
-
 /// Plays, plans and checks the made case of a number, and writes its summary.
 fn write_demo<O: Sink>(alloc: Global, number: u32, out: &mut O) -> Result<(), PutErr>
     requires { number ≤ 2147483647 }
@@ -110,7 +118,7 @@ fn write_demo<O: Sink>(alloc: Global, number: u32, out: &mut O) -> Result<(), Pu
     let Ok(clock) = Clock::new(alloc, &case.trace) else {
         return Err(PutErr::Memory);
     };
-    put_fields(out, &[Word("demo"), Number(number as i128)])?;
+    put_demo(out, number)?;
     let bench = Bench::new(&case.manifest, &clock, &case.setup, &[]);
     bench.write_rows(alloc, &rules, out)?;
     write_plan(alloc, &case, &clock, out)

@@ -4,7 +4,7 @@ ghost use Rattle.std.specs.Prelude.{◌≡◌, ◌∷◌, [], codes};
 ghost use Rattle.std.specs.Fmt.{decimal, signed_decimal};
 ghost use Rattle.lab_io.specs.Piece.{fields_line};
 ghost use Rattle.lab_io.specs.Sink.{Puts};
-ghost use Rattle.lab_words.specs.declared.Verb.TheVariants.{Plan};
+ghost use Rattle.lab_words.specs.declared.Verb.TheVariants as verb;
 ghost use Rattle.lab_words.specs.Command.{view};
 ghost use Rattle.lab_words.specs.Limits.{IsWithinLimits};
 ghost use Rattle.frontier_planner.specs.Parts.{plan_parts};
@@ -69,7 +69,7 @@ fn put_answer<O: Sink>(
 /// The plan on the one trace.
 fn plan_of(alloc: Global, command: &Command, ready: &Ready) -> Result<Plan, PlanErr>
     requires limits { IsWithinLimits (view command.now) }
-    requires verb { (view command.now).verb ≡ Plan }
+    requires verb { (view command.now).verb ≡ verb.Plan }
     requires ready { IsReady (view command.now) ready.now }
     ensures { Plans (view command.now) (values_of ready.now.inputs) result }
 {
@@ -91,7 +91,7 @@ pub(crate) fn plan<F: Shelf, O: Sink>(
     out: &mut O,
 ) -> Ending
     requires limits { IsWithinLimits (view command.now) }
-    requires verb { (view command.now).verb ≡ Plan }
+    requires verb { (view command.now).verb ≡ verb.Plan }
     ensures { Ends (view command.now) (F.shelved shelf.old) (O.seen out.old) result
         (F.shelved shelf.new) (O.seen out.new) }
 {

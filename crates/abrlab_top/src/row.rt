@@ -1,6 +1,6 @@
 //! The row of a session in a comparison, which is played right before it is written.
 
-ghost use Rattle.std.specs.Prelude.{map};
+ghost use Rattle.std.specs.Prelude.{◌≡◌, map};
 ghost use Rattle.std.specs.List.{All, flat_map};
 ghost use Rattle.lab_model.specs.Fit.{SetupFits};
 ghost use Rattle.lab_model.specs.Film.{segments_of};
