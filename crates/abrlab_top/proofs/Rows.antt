@@ -29,7 +29,7 @@ use Rattle.abrlab_top.specs.Outcome.{AreTaken, IsWritten, Outcome, answer_by, an
 use Rattle.abrlab_top.specs.Check.{check}
 use Rattle.abrlab_top.specs.Simulate.{simulate}
 use Rattle.abrlab_top.specs.Stages.{OutFails, Ran, ending_status}
-use Rattle.abrlab_top.proofs.Whole.{session_printed}
+use Rattle.abrlab_top.proofs.Whole.{nothing_written, session_printed}
 use Rattle.abrlab_top.proofs.Words.{begins}
 
 -- what is known of a run at its end: why it ended so, what `err` was told, and the status
@@ -248,13 +248,6 @@ is_spent words old new (ending.Stopped why) r h s = stopped_spent words old new 
 is_spent words old new ending.OutputFailed r h s = let k = h.status in absurd (omega arith)
 is_spent words old new ending.NoMemory r h s = let k = h.status in absurd (omega arith)
 
-same_written : (w : Option Text) → Grew w [] w
-same_written None = refl
-same_written (Some w) = ap Some (sym (append-nil w))
-
-grew_none : (old new : Option Text) (said : Text) → new ≡ old → GrewPart old said new
-grew_none old new said e = ([], said, refl, e ∙ same_written old)
-
 out_at_end : (words : List Text) (c : CommandWords) (out out2 : Seen) → command_of words ≡ Some c → (AtTheEnd (Some c) → (out2 ≡ out) ⊎ Rose out.wants out2.wants) → AtTheEnd (command_of words) → (out2 ≡ out) ⊎ Rose out.wants out2.wants
 out_at_end words c out out2 e f x = f (rw e at x)
 
@@ -265,7 +258,7 @@ is_no_memory words old new ending.Usage r h s = let k = h.status in absurd (omeg
 is_no_memory words old new (ending.Stopped why) r h s = never_stopped why r 9 h.status s refl
 is_no_memory words old new ending.OutputFailed r h s = let k = h.status in absurd (omega arith)
 is_no_memory words old new ending.NoMemory r h s = elim (h.ran.1) as (λ x. IsNoMemory words old new) [
-  | inl same ↦ record { command = h.ran.0; out = λ x. inl same.1; err = h.told; text = λ files t. grew_none old.out.written new.out.written (text words files) (ap (λ (s : Seen). s.written) same.1) }
+  | inl same ↦ record { command = h.ran.0; out = λ x. inl same.1; err = h.told; text = λ files t. nothing_written old.out.written new.out.written (text words files) (ap (λ (s : Seen). s.written) same.1) }
   | inr x ↦ record {
     command = h.ran.0;
     out = out_at_end words x.command old.out new.out x.asked x.ends.1;

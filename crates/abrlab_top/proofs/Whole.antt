@@ -1,9 +1,9 @@
 -- The stages of a run, put together.
-use Rattle.std.proofs.Common.{◌≡◌, List, [], ◌∷◌, map, length, get_or, arith, subst, Some, Result, Ok, Err, inl, inr, ap, sym, ◌∙◌, refl}
+use Rattle.std.proofs.Common.{◌≡◌, List, [], ◌∷◌, map, length, get_or, arith, subst, append-nil, Option, Some, None, Result, Ok, Err, inl, inr, ap, sym, ◌∙◌, refl}
 use Rattle.lab_io.specs.declared.PutErr.{PutErr}
 use Rattle.lab_io.specs.declared.PutErr.TheVariants as put
 use Rattle.lab_io.specs.Shelf.{Shelved}
-use Rattle.lab_io.specs.Sink.{Text, Seen, Puts}
+use Rattle.lab_io.specs.Sink.{Text, Seen, Grew, GrewPart, Puts}
 use Rattle.std.specs.List.{All}
 use Rattle.std.proofs.lemmas.List.{length-map}
 use Rattle.lab_model.specs.declared.context.Seek.{Seek}
@@ -31,7 +31,7 @@ use Rattle.lab_inputs.specs.Settings.{ready_of, setup_of}
 use Rattle.lab_inputs.specs.Stages.{Asks, Means}
 use Rattle.lab_inputs.proofs.Files.{asks_all}
 use Rattle.abrlab_top.specs.Answer.{Answer, printed}
-use Rattle.abrlab_top.specs.Outcome.{answer_of, writes_between}
+use Rattle.abrlab_top.specs.Outcome.{answer_of, outcome_text, writes_between}
 use Rattle.abrlab_top.specs.Simulate.{case_on, simulate}
 use Rattle.abrlab_top.specs.Stages.{Ends, Ran, Writes, ending_of}
 use Rattle.abrlab_top.proofs.Words.{begins}
@@ -55,6 +55,19 @@ pub ends_written : (c : CommandWords) (after : InputValues → Result Answer Sto
 ends_written c after i said shelf shelf2 out out2 (Ok done) first then asks ready w = (asks, λ files t. (printed said, answered_by c after i said files (first files) (ready files t) then, refl, w))
 ends_written c after i said shelf shelf2 out out2 (Err put.Failed) first then asks ready w = (asks, w.1, λ files t. (printed said, answered_by c after i said files (first files) (ready files t) then, inl refl, w.0))
 ends_written c after i said shelf shelf2 out out2 (Err put.Memory) first then asks ready w = (asks_all (files_of c) shelf shelf2 asks, w.1, λ files t. rw (answered_by c after i said files (first files) (ready files t) then) w.0)
+
+same_written : (w : Option Text) → Grew w [] w
+same_written None = refl
+same_written (Some w) = ap Some (sym (append-nil w))
+
+-- where nothing was written, nothing of a text went out
+pub nothing_written : (old new : Option Text) (said : Text) → new ≡ old → GrewPart old said new
+nothing_written old new said e = ([], said, refl, e ∙ same_written old)
+
+-- a command whose files were asked for, and which then wanted memory before it wrote
+pub ends_wanting : (c : CommandWords) (shelf shelf2 : Shelved) (out : Seen) → Asks (files_of c) shelf shelf2 → Ends c shelf out ending.NoMemory shelf2 out
+ends_wanting c shelf shelf2 out asks =
+    (asks_all (files_of c) shelf shelf2 asks, λ h. inl refl, λ files t. nothing_written out.written out.written (outcome_text (Some (answer_of c files))) refl)
 
 -- `simulate` prints what it prints
 pub simulate_printed : (c : CommandWords) (i : InputValues) → simulate c i ≡ printed (simulate c i).text

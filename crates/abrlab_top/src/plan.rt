@@ -7,7 +7,12 @@ ghost use Rattle.lab_io.specs.Sink.{Puts};
 ghost use Rattle.lab_words.specs.declared.Verb.TheVariants as verb;
 ghost use Rattle.lab_words.specs.Command.{view};
 ghost use Rattle.lab_words.specs.Limits.{IsWithinLimits};
+ghost use Rattle.lab_model.specs.Film.{IsWithin};
+ghost use Rattle.lab_model.specs.Fit.{SetupFits};
+ghost use Rattle.player_core.specs.Available.{all_ahead};
+ghost use Rattle.frontier_planner.specs.Labels.{IsTask, task_of};
 ghost use Rattle.frontier_planner.specs.Parts.{plan_parts};
+ghost use Rattle.frontier_planner.specs.Planned.{PlanAnswer};
 ghost use Rattle.certificate_text.specs.Form.{IsCertificate};
 ghost use Rattle.lab_inputs.specs.Stages.{IsReady, values_of};
 ghost use Rattle.abrlab_top.specs.Plan.{parts_text, plan_lines};
@@ -19,21 +24,23 @@ use frontier_planner::{Plan, PlanErr};
 use lab_inputs::{Ending, Halt, Ready, Stop, prepare};
 use lab_io::Piece::{Number, Word};
 use lab_io::{PutErr, Shelf, Sink, put_fields};
-use lab_model::Manifest;
+use lab_model::{Manifest, Setup};
 use lab_words::Command;
 use network_clock::Clock;
 use std::alloc::Global;
 
 /// Writes the line of the score.
-fn put_score<O: Sink>(out: &mut O, score: i128) -> Result<(), PutErr>
-    ensures { Puts (O.seen out.old) (fields_line (codes "score" ∷ signed_decimal score ∷ [])) (O.seen out.new) result }
+fn put_score<O: Sink>(out: &mut O, plan: &Plan) -> Result<(), PutErr>
+    ensures { Puts (O.seen out.old) (fields_line (codes "score" ∷ signed_decimal plan.now.score ∷ []))
+        (O.seen out.new) result }
 {
-    put_fields(out, &[Word("score"), Number(score)])
+    put_fields(out, &[Word("score"), Number(plan.score)])
 }
 
 /// Writes the line of the number of labels.
 fn put_labels<O: Sink>(out: &mut O, labels: u32) -> Result<(), PutErr>
-    ensures { Puts (O.seen out.old) (fields_line (codes "labels" ∷ decimal labels ∷ [])) (O.seen out.new) result }
+    ensures { Puts (O.seen out.old) (fields_line (codes "labels" ∷ decimal labels ∷ []))
+        (O.seen out.new) result }
 {
     put_fields(out, &[Word("labels"), Number(labels as i128)])
 }
@@ -43,7 +50,7 @@ fn put_lines<O: Sink>(out: &mut O, plan: &Plan) -> Result<(), PutErr>
     ensures { Puts (O.seen out.old) (plan_lines plan.now.score plan.now.labels plan.now.rungs.items)
         (O.seen out.new) result }
 {
-    put_score(out, plan.score)?;
+    put_score(out, plan)?;
     put_labels(out, plan.labels)?;
     put_plan(out, &plan.rungs)
 }
@@ -66,6 +73,23 @@ fn put_answer<O: Sink>(
     }
 }
 
+/// The plan of a film on demand.
+fn plan_on(
+    alloc: Global,
+    m: &Manifest,
+    clock: &Clock,
+    set: &Setup,
+    budget: u32,
+) -> Result<Plan, PlanErr>
+    requires setup { SetupFits set.now m.now }
+    requires budget { IsWithin 1 1000000 budget }
+    ensures answer { PlanAnswer (task_of m.now clock.now set.now all_ahead) budget result }
+    ensures task { IsTask (task_of m.now clock.now set.now all_ahead) }
+{
+    prove!(m.segments() > 0 && set.weights.count() > 0 && !clock.periods().is_empty());
+    frontier_planner::plan(alloc, m, clock, set, budget)
+}
+
 /// The plan on the one trace.
 fn plan_of(alloc: Global, command: &Command, ready: &Ready) -> Result<Plan, PlanErr>
     requires limits { IsWithinLimits (view command.now) }
@@ -80,7 +104,7 @@ fn plan_of(alloc: Global, command: &Command, ready: &Ready) -> Result<Plan, Plan
         return Err(PlanErr::Memory);
     };
     let Ready { inputs, setup } = ready;
-    frontier_planner::plan(alloc, &inputs.manifest, &clock, setup, command.budget)
+    plan_on(alloc, &inputs.manifest, &clock, setup, command.budget)
 }
 
 /// Reads the files, plans and writes the plan.

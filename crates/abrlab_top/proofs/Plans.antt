@@ -1,0 +1,98 @@
+-- What `plan` answers, from what the planner gave.
+use Rattle.std.proofs.Common.{◌≡◌, ◌∙◌, ◌+◌, ◌≤◌, ◌<◌, ◌⊎◌, ⊎_elim, ℕ, zero, suc, Bool, true, false, List, [], ◌∷◌, length, Some, None, Ok, Err, Option, Result, ap, sym, refl, subst, arith, if◌then◌else◌}
+use Rattle.std.specs.Prelude.{nat_lt}
+use Rattle.std.specs.List.{find, range_with_len}
+use Rattle.std.proofs.lemmas.Bool.{cases_lt, cond-true, cond-false, le-ltb, lt-ltb}
+use Rattle.lab_model.specs.declared.setup.Setup.{Setup}
+use Rattle.lab_model.specs.declared.trace.Period.{Period}
+use Rattle.lab_model.specs.Film.{segments_of}
+use Rattle.lab_words.specs.Command.{CommandWords}
+use Rattle.lab_inputs.specs.Inputs.{InputValues}
+use Rattle.lab_inputs.specs.Settings.{setup_of}
+use Rattle.player_core.specs.Available.{all_ahead}
+use Rattle.frontier_planner.specs.declared.plans.Plan.{Plan}
+use Rattle.frontier_planner.specs.declared.plans.PlanErr.{PlanErr}
+use Rattle.frontier_planner.specs.declared.plans.PlanErr.TheVariants as planned
+use Rattle.frontier_planner.specs.Frontier.{frontier}
+use Rattle.frontier_planner.specs.Grid.{exact}
+use Rattle.frontier_planner.specs.Labels.{IsTask, Task, task_of}
+use Rattle.frontier_planner.specs.Parts.{CertificateParts, plan_parts}
+use Rattle.frontier_planner.specs.Planned.{IsPlanOf, PlanAnswer}
+use Rattle.frontier_planner.specs.Read.{SpentAt, labels_before, labels_in, labels_of}
+use Rattle.frontier_planner.proofs.Layers.{before_next}
+use Rattle.certificate_text.proofs.PlanText.{plan_has_text}
+use Rattle.abrlab_top.specs.Answer.{Answer, printed}
+use Rattle.abrlab_top.specs.Plan.{labels_on, parts_text, plan, plan_text, plan_traces, spent_on, task_on, unless_spent}
+use Rattle.abrlab_top.specs.Stages.{Plans}
+
+-- ---- the first of a range that passes
+
+found_from : (p : ℕ → Bool) (start count s : ℕ) → start ≤ s → s < start + count → ((j : ℕ) → start ≤ j → j < s → p j ≡ false) → p s ≡ true → find p (range_with_len start count) ≡ Some s
+found_from p start zero s low high fails passes = absurd (omega (arith, low, high))
+found_from p start (suc count) s low high fails passes =
+    ⊎_elim
+    (λ (later : start < s). cond-false (p start) _ _ (fails start (omega arith) later) ∙ found_from p (start + 1) count s (omega (arith, later)) (omega (arith, high)) (λ j l h. fails j (omega (arith, l)) h) passes)
+    (λ (here : s ≤ start).
+    let same : s ≡ start = omega (arith, low, here) in
+    cond-true (p start) _ _ (ap p (sym same) ∙ passes) ∙ ap Some (sym same))
+    (cases_lt start s)
+
+none_from : (p : ℕ → Bool) (start count : ℕ) → ((j : ℕ) → j < start + count → p j ≡ false) → find p (range_with_len start count) ≡ None
+none_from p start zero fails = refl
+none_from p start (suc count) fails =
+    cond-false (p start) _ _ (fails start (omega arith)) ∙ none_from p (start + 1) count (λ j h. fails j (omega (arith, h)))
+
+-- ---- the budget
+
+before_itself : (g : Task) (j s : ℕ) → j ≡ s → labels_before g (frontier g) j ≤ labels_before g (frontier g) s
+before_itself g j s e = let same = ap (labels_before g (frontier g)) e in omega (arith, same)
+
+before_within : (g : Task) (j s : ℕ) → j ≤ s → labels_before g (frontier g) j ≤ labels_before g (frontier g) s
+before_within g j zero low = before_itself g j zero (omega (arith, low))
+before_within g j (suc s) low =
+    ⊎_elim
+    (λ (before : j < suc s). let rest = before_within g j s (omega (arith, before)) in let next = before_next g (frontier g) s in omega (arith, rest, next))
+    (λ (here : suc s ≤ j). before_itself g j (suc s) (omega (arith, low, here)))
+    (cases_lt j (suc s))
+
+spent_at : (g : Task) (budget s : ℕ) → SpentAt g (frontier g) budget s → spent_on g budget ≡ Some s
+unfolding spent_on
+spent_at g budget s h =
+    found_from (λ i. nat_lt budget (labels_before g (frontier g) (suc i))) 0 (segments_of g.film) s (omega arith) (let inside = h.inside in omega (arith, inside))
+    (λ j low before. let up = before_within g (suc j) s (omega (arith, before)) in let most = h.before in le-ltb budget (labels_before g (frontier g) (suc j)) (omega (arith, up, most))) (lt-ltb budget (labels_before g (frontier g) (suc s)) h.above)
+
+never_spent : (g : Task) (budget : ℕ) → labels_in g (frontier g) ≤ budget → spent_on g budget ≡ None
+unfolding spent_on
+never_spent g budget h =
+    none_from (λ i. nat_lt budget (labels_before g (frontier g) (suc i))) 0 (segments_of g.film)
+    (λ j low. let up = before_within g (suc j) (segments_of g.film) (omega (arith, low)) in le-ltb budget (labels_before g (frontier g) (suc j)) (omega (arith, up, h)))
+
+-- ---- the answer
+
+one_planned : (c : CommandWords) (i : InputValues) (periods : List Period) → i.traces ≡ periods ∷ [] → plan c i ≡ unless_spent c.as_certificate (task_on c i periods) (spent_on (task_on c i periods) c.budget)
+unfolding plan
+one_planned c i periods e = rw e refl
+
+planned_whole : (c : CommandWords) (i : InputValues) (periods : List Period) (p : Plan) → i.traces ≡ periods ∷ [] → IsTask (task_on c i periods) → IsPlanOf exact (task_on c i periods) (frontier (task_on c i periods)) c.budget p p.score → Plans c i (Ok p)
+planned_whole c i periods p e is h =
+    let few = never_spent (task_on c i periods) c.budget (let most = h.within in let same = h.labels in omega (arith, most, same)) in
+    let text = ap (λ (q : CertificateParts). parts_text c.as_certificate q (labels_on (task_on c i periods))) (sym h.parts) ∙ ap (parts_text c.as_certificate (plan_parts i.film p)) (sym h.labels) in
+    (
+      plan_has_text exact (task_on c i periods) (frontier (task_on c i periods)) c.budget p p.score is h,
+      one_planned c i periods e ∙ ap (unless_spent c.as_certificate (task_on c i periods)) few ∙ ap (λ said. Ok (printed said)) text,
+    )
+
+planned_spent : (c : CommandWords) (i : InputValues) (periods : List Period) (s : ℕ) → i.traces ≡ periods ∷ [] → SpentAt (task_on c i periods) (frontier (task_on c i periods)) c.budget s → Plans c i (Err (planned.BudgetSpent s))
+planned_spent c i periods s e h = one_planned c i periods e ∙ ap (unless_spent c.as_certificate (task_on c i periods)) (spent_at (task_on c i periods) c.budget s h)
+
+by_answer : (c : CommandWords) (i : InputValues) (periods : List Period) (r : Result Plan PlanErr) → i.traces ≡ periods ∷ [] → IsTask (task_on c i periods) → PlanAnswer (task_on c i periods) c.budget r → Plans c i r
+by_answer c i periods (Ok p) e is h = planned_whole c i periods p e is h
+by_answer c i periods (Err (planned.BudgetSpent s)) e is h = planned_spent c i periods s e h
+by_answer c i periods (Err planned.Memory) e is h = tt
+
+-- what the planner gave on the one trace is what the command is to answer
+pub plans : (c : CommandWords) (i : InputValues) (periods clock : List Period) (setup : Setup) (r : Result Plan PlanErr) → i.traces ≡ periods ∷ [] → clock ≡ periods → setup ≡ setup_of c → IsTask (task_of i.film clock setup all_ahead)
+    → PlanAnswer (task_of i.film clock setup all_ahead) c.budget r → Plans c i r
+plans c i periods clock setup r e p q is h =
+    let same : task_of i.film clock setup all_ahead ≡ task_on c i periods = ap (λ (x : List Period). task_of i.film x setup all_ahead) p ∙ ap (λ (x : Setup). task_of i.film periods x all_ahead) q in
+    by_answer c i periods r e (subst IsTask same is) (subst (λ (g : Task). PlanAnswer g c.budget r) same h)
