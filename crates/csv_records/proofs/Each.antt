@@ -1,5 +1,6 @@
 -- A loop over the records of a table, and what `each_after` makes of them.
-use Rattle.std.proofs.Common.{◌≡◌, ◌∙◌, ◌+◌, ◌<◌, ◌≤◌, ℕ, Bool, true, false, cond, List, [], ◌∷◌, Option, Some, None, Result, Ok, Err, All, drop, get_or, length, map, refl, sym, ap, subst, add-one, drop-cons, arith}
+use Rattle.std.proofs.Common.{◌≡◌, ◌∙◌, ◌+◌, ◌<◌, ◌≤◌, ⊎_elim, ℕ, zero, suc, take, Bool, true, false, cond, List, [], ◌∷◌, Option, Some, None, Result, Ok, Err, All, drop, get_or, length, map, refl, sym, ap, subst, add-one, drop-cons, arith}
+use Rattle.std.proofs.lemmas.Bool.{cases_lt}
 use Rattle.std.proofs.lemmas.List.{drop_all}
 use Rattle.std.proofs.lemmas.List.Elements.{All-cons, All-nil}
 use Rattle.csv.specs.Records.{fields_of}
@@ -98,3 +99,34 @@ each_most f most before row (d ∷ ds) xs good h few =
     let here : row ≤ most = good before row d one.0 one.1 in
     let more : length rest.0 + (row + 1) ≤ most + 1 = each_most f most (Some one.0) (row + 1) ds rest.0 good rest.1 (omega arith) in
     omega (arith, ap length e, more)
+
+-- no record behind this row is read
+abbrev pub EndsAt : {A E : Type 0} → ℕ → (Option A → ℕ → Fields → Result A E) → Type 0
+EndsAt {A = A} {E = E} most f = (b : Option A) (p : ℕ) (d : List (List ℕ)) → most < p → (y : E) × (f b p d ≡ Err y)
+
+-- what is refused alike over some records and over the first of them alone
+abbrev pub FailsAlike : {A E : Type 0} → Result (List A) E → Result (List A) E → Type 0
+FailsAlike {A = A} {E = E} cut all = (y : E) × (cut ≡ Err y) × (all ≡ Err y)
+
+past_one : {A E : Type 0} (f : Option A → ℕ → Fields → Result A E) (n : ℕ) (before : Option A) (row : ℕ) (d : List (List ℕ)) (ds : List Fields) (r : Result A E) → f before row d ≡ r
+    → ((x : A) → f before row d ≡ Ok x → FailsAlike (each_after f (Some x) (row + 1) (take n ds)) (each_after f (Some x) (row + 1) ds))
+    → FailsAlike (each_after f before row (d ∷ take n ds)) (each_after f before row (d ∷ ds))
+unfolding each_after
+past_one f n before row d ds (Err y) is later = (y, rw is refl, rw is refl)
+past_one f n before row d ds (Ok x) is later = let (y, cut, all) = later x is in (y, rw (is, cut) refl, rw (is, all) refl)
+
+read_within : {A E : Type 0} (f : Option A → ℕ → Fields → Result A E) (most : ℕ) → EndsAt most f → (before : Option A) (row : ℕ) (d : List (List ℕ)) (x : A) → f before row d ≡ Ok x → row ≤ most
+read_within f most past before row d x is =
+    ⊎_elim (λ (late : most < row). let (y, bad) = past before row d late in absurd (differ (sym is ∙ bad))) (λ (early : row ≤ most). early) (cases_lt most row)
+  where
+    differ : {A E : Type 0} {x : A} {y : E} → Ok x ≡ Err y → ⊥
+    differ e = absurd cc
+
+-- where no record behind a row is read, those up to the one behind it are refused as all are, if there are so many
+pub each_past : {A E : Type 0} (f : Option A → ℕ → Fields → Result A E) (most : ℕ) → EndsAt most f → (n : ℕ) (before : Option A) (row : ℕ) (ds : List Fields)
+    → row + n ≡ most + 2 → row ≤ most + 1 → n ≤ length ds → FailsAlike (each_after f before row (take n ds)) (each_after f before row ds)
+each_past f most past zero before row ds e few le = absurd (omega arith)
+each_past f most past (suc n) before row [] e few le = absurd (omega arith)
+each_past f most past (suc n) before row (d ∷ ds) e few le =
+    past_one f n before row d ds (f before row d) refl
+    (λ x is. let here = read_within f most past before row d x is in each_past f most past n (Some x) (row + 1) ds (omega (arith, e)) (omega (arith, here)) (omega (arith, le)))

@@ -1,5 +1,7 @@
 -- The records of a text, one after the other, and how many fields they have.
-use Rattle.std.proofs.Common.{◌≡◌, ◌≢◌, ◌⊎◌, ◌∙◌, ◌+◌, ◌-◌, ◌<◌, ◌≤◌, ◌==◌, ◌&&◌, ◌++◌, ℕ, zero, suc, List, [], ◌∷◌, length, Bool, true, false, Option, Some, None, IfSome, refl, sym, ap, inl, inr, arith, cond, append_assoc, append-nil, length-append, eq-eqb, nat_lt}
+use Rattle.std.proofs.Common.{◌≡◌, ◌≢◌, ◌⊎◌, ◌∙◌, ◌+◌, ◌-◌, ◌<◌, ◌≤◌, ◌==◌, ◌&&◌, ◌++◌, ℕ, zero, suc, List, [], ◌∷◌, length, Bool, true, false, Option, Some, None, IfSome, refl, sym, ap, inl, inr, arith, cond, append_assoc, append-nil, length-append, eq-eqb, nat_lt, take}
+use Rattle.std.proofs.Math.Seq.{take-append-add, take-append_seam}
+use Rattle.std.proofs.lemmas.List.{take_all}
 use Rattle.std.specs.List.{take_while}
 use Rattle.std.proofs.lemmas.Bool.Decides.{nat_tests}
 use Rattle.std.proofs.lemmas.List.Sums.{take_while-cons}
@@ -15,7 +17,7 @@ use Rattle.csv.specs.declared.parser.State.{State}
 use Rattle.csv.specs.declared.parser.State.TheVariants as st
 use Rattle.csv.specs.declared.parser.Terminator.{Terminator}
 use Rattle.csv.specs.declared.parser.Terminator.TheVariants as term
-use Rattle.csv_records.specs.Table.{Fields, Table, even_rows, has_width, is_uneven, table_from, table_of}
+use Rattle.csv_records.specs.Table.{Fields, Table, even_rows, has_width, is_uneven, table_from, table_within}
 
 -- ---- a record ends where the next can start, and takes a byte
 
@@ -241,33 +243,51 @@ break_from : (xs : List ℕ) (rows : List Fields) (s : State) (y : List ℕ) (p 
 break_from xs rows s y p zero lt r e = absurd (omega arith)
 break_from xs rows s y p (suc n) lt r e = (records_from default_config n p.1 p.2, r ∙ ap (λ (t : List Fields). rows ++ t) (next_of n s y p e))
 
+-- the first of some rows and what follows them, where the rows are fewer than are taken
+take_past : (most : ℕ) (rows : List Fields) (r : List (List ℕ)) (after : List Fields) → length rows < most
+    → take most (rows ++ r ∷ after) ≡ rows ++ r ∷ take (most - length rows - 1) after
+take_past most rows r after lt =
+    let e : most ≡ length rows + suc (most - length rows - 1) = omega arith in
+    ap (λ (n : ℕ). take n (rows ++ r ∷ after)) e ∙ take-append-add rows (r ∷ after) (suc (most - length rows - 1))
+
 -- the next record has another length
-breaks : (xs : List ℕ) (rows : List Fields) (s : State) (y : List ℕ) (p : Read) → Stands xs rows s y → Fit rows → next_record default_config s [] [] y ≡ Some p → fits (width_of rows) p.0 ≡ false
-    → table_from (records default_config xs) ≡ tabled rows (Some (length rows + 1))
-breaks xs rows s y p h fit e f =
+breaks : (most : ℕ) (xs : List ℕ) (rows : List Fields) (s : State) (y : List ℕ) (p : Read) → length rows < most → Stands xs rows s y → Fit rows → next_record default_config s [] [] y ≡ Some p
+    → fits (width_of rows) p.0 ≡ false → table_from (take most (records default_config xs)) ≡ tabled rows (Some (length rows + 1))
+breaks most xs rows s y p lt h fit e f =
     let (after, is) = break_from xs rows s y p h.fuel h.enough h.rest e in
-    one_uneven (records default_config xs) rows p.0 after is (fit_break rows p.0 after fit f)
+    let rest : List Fields = take (most - length rows - 1) after in
+    one_uneven (take most (records default_config xs)) rows p.0 rest (ap (take most) is ∙ take_past most rows p.0 after lt) (fit_break rows p.0 rest fit f)
 
 -- every record was read
-pub whole : (bytes : List ℕ) (rows : List Fields) (s : State) (y : List ℕ) → Stands (strip_bom bytes) rows s y → Fit rows → next_record default_config s [] [] y ≡ None → table_of bytes ≡ tabled rows None
-unfolding table_of
-whole bytes rows s y h fit e = all_even (records default_config (strip_bom bytes)) rows (stands_end (strip_bom bytes) rows s y h e) (fit_end rows fit)
+pub whole : (most : ℕ) (bytes : List ℕ) (rows : List Fields) (s : State) (y : List ℕ) → length rows ≤ most → Stands (strip_bom bytes) rows s y → Fit rows
+    → next_record default_config s [] [] y ≡ None → table_within most bytes ≡ tabled rows None
+unfolding table_within
+whole most bytes rows s y few h fit e =
+    all_even (take most (records default_config (strip_bom bytes))) rows (ap (take most) (stands_end (strip_bom bytes) rows s y h e) ∙ take_all most rows few) (fit_end rows fit)
+
+-- as many records were read as were asked for
+pub filled : (most : ℕ) (bytes : List ℕ) (rows : List Fields) (s : State) (y : List ℕ) → length rows ≡ most → Stands (strip_bom bytes) rows s y → Fit rows
+    → table_within most bytes ≡ tabled rows None
+unfolding table_within
+filled most bytes rows s y full h fit =
+    all_even (take most (records default_config (strip_bom bytes))) rows
+    (ap (take most) h.rest ∙ ap (λ (n : ℕ). take n (rows ++ records_from default_config h.fuel s y)) (sym full) ∙ take-append_seam rows (records_from default_config h.fuel s y)) (fit_end rows fit)
 
 -- what a refusal for the number of fields says of the table
-pub refused : {R : Type 0} (rem : R → Option (List ℕ)) (a b : Reader R) (bytes y : List ℕ) (rows : List Fields) (k : ErrorKind)
-    → a.config ≡ default_config → a.expected ≡ width_of rows → Fit rows → source_of rem a ≡ Some y → Stands (strip_bom bytes) rows a.state y
-    → ExplainsRead rem a b false k → is_uneven k ≡ true → table_of bytes ≡ tabled rows (Some (length rows + 1))
-unfolding table_of
-refused rem a b bytes y rows (kind.UnequalLengths pos expected len) ec ew fit ex st why is =
+pub refused : {R : Type 0} (rem : R → Option (List ℕ)) (a b : Reader R) (most : ℕ) (bytes y : List ℕ) (rows : List Fields) (k : ErrorKind)
+    → length rows < most → a.config ≡ default_config → a.expected ≡ width_of rows → Fit rows → source_of rem a ≡ Some y → Stands (strip_bom bytes) rows a.state y
+    → ExplainsRead rem a b false k → is_uneven k ≡ true → table_within most bytes ≡ tabled rows (Some (length rows + 1))
+unfolding table_within
+refused rem a b most bytes y rows (kind.UnequalLengths pos expected len) lt ec ew fit ex st why is =
     let (flexible, is, differs, fields, took, size) = why in
     let (p, next, same, state, rest) = took_is default_config a.state b.state y (pending_of (rem b.rdr) b) fields (rw (ec, ex) at took) in
     let other : fits (width_of rows) p.0 ≡ false = other_width (width_of rows) p.0 expected (sym ew ∙ is) (λ q. differs (q ∙ ap (λ (t : List (List ℕ)). length t) (sym same) ∙ size)) in
-    breaks (strip_bom bytes) rows a.state y p st fit next other
-refused rem a b bytes y rows (kind.Io e) ec ew fit ex st why is = absurd cc
-refused rem a b bytes y rows (kind.Utf8 pos e) ec ew fit ex st why is = absurd cc
-refused rem a b bytes y rows kind.OutOfMemory ec ew fit ex st why is = absurd cc
-refused rem a b bytes y rows (kind.Serialize e) ec ew fit ex st why is = absurd cc
-refused rem a b bytes y rows (kind.Deserialize pos e) ec ew fit ex st why is = absurd cc
+    breaks most (strip_bom bytes) rows a.state y p lt st fit next other
+refused rem a b most bytes y rows (kind.Io e) lt ec ew fit ex st why is = absurd cc
+refused rem a b most bytes y rows (kind.Utf8 pos e) lt ec ew fit ex st why is = absurd cc
+refused rem a b most bytes y rows kind.OutOfMemory lt ec ew fit ex st why is = absurd cc
+refused rem a b most bytes y rows (kind.Serialize e) lt ec ew fit ex st why is = absurd cc
+refused rem a b most bytes y rows (kind.Deserialize pos e) lt ec ew fit ex st why is = absurd cc
 
 -- one more row
 pub record Went {R : Type 0} (rem : R → Option (List ℕ)) (b : Reader R) (xs : List ℕ) (rows : List Fields) : Type 0 where

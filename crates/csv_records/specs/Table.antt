@@ -1,5 +1,5 @@
 -- The records of a text of CSV, up to the first that is uneven.
-use Rattle.std.specs.Prelude.{ℕ, ◌+◌, ◌==◌, Bool, true, false, List, [], ◌∷◌, length, map, Option, Some, None, if◌then◌else◌, nat_lt}
+use Rattle.std.specs.Prelude.{ℕ, ◌+◌, ◌==◌, Bool, true, false, List, [], ◌∷◌, length, map, take, Option, Some, None, if◌then◌else◌, nat_lt}
 use Rattle.std.specs.List.{take_while}
 use Rattle.csv.specs.Reading.{default_config, records, strip_bom}
 use Rattle.csv.specs.Records.{fields_of}
@@ -40,6 +40,10 @@ table_from rs = record { rows = even_rows rs; uneven = uneven_row rs }
 -- the table that the bytes are
 unfoldable pub table_of : List ℕ → Table
 table_of bytes = table_from (all_records bytes)
+
+-- the table that the first records of the bytes are, at most so many
+unfoldable pub table_within : ℕ → List ℕ → Table
+table_within most bytes = table_from (take most (all_records bytes))
 
 -- the table that a value holds
 abbrev pub table_in : Records → Table

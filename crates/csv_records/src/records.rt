@@ -3,18 +3,18 @@
 ghost use Rattle.std.specs.Prelude.{◌≡◌, ◌+◌, IfOk, IfSome, length};
 ghost use Rattle.csv.specs.Records.{fields_of};
 ghost use Rattle.csv_records.specs.Field.{field_in, is_blank, is_named, trimmed, unindented, unpadded};
-ghost use Rattle.csv_records.specs.Table.{is_uneven, table_in, table_of};
+ghost use Rattle.csv_records.specs.Table.{is_uneven, table_in, table_within};
 
 use csv::{ByteRecord, Error, ErrorKind, ReaderBuilder};
 use std::alloc::{AllocError, Global};
 
-/// The records of a text that come before the first uneven one.
+/// The first records of a text, as far as they come before the first uneven one.
 #[derive(Drop)]
 pub struct Records {
     /// The records, each with as many fields as the first.
     pub rows: Vec<ByteRecord>,
-    /// The number of the record behind them, counted from 1, that has another number of fields, if there
-    /// is one.
+    /// The number of the record behind them, counted from 1, that was read and has another number of
+    /// fields, if there is one.
     pub uneven: Option<u64>,
 }
 
@@ -24,17 +24,18 @@ fn is_uneven(error: &Error) -> bool
     matches!(error.kind(), ErrorKind::UnequalLengths { .. })
 }
 
-/// The records of the bytes, up to the first whose number of fields isn't the first record's. Any other
-/// refusal of `csv` is answered as want of memory.
-pub fn records_of(alloc: Global, bytes: &[u8]) -> Result<Records, AllocError>
-    ensures records { IfOk result (λ t. table_in t ≡ table_of bytes.now) }
+/// The records of the bytes, at most `most` of them, up to the first whose number of fields isn't the
+/// first record's. What stands behind those `most` isn't read. Any other refusal of `csv` is answered as
+/// want of memory.
+pub fn records_of(alloc: Global, bytes: &[u8], most: usize) -> Result<Records, AllocError>
+    ensures records { IfOk result (λ t. table_in t ≡ table_within most bytes.now) }
     ensures place { IfOk result (λ t. IfSome t.uneven (λ k. k ≡ length t.rows.items + 1)) }
 {
     let rdr = ReaderBuilder::new()
         .has_headers(false)
         .from_reader(alloc, bytes);
     let mut rows = Vec::new(alloc);
-    for row in rdr.into_byte_records() {
+    for row in rdr.into_byte_records().take(most) {
         match row {
             Ok(fields) => rows.push(fields)?,
             Err(error) => {

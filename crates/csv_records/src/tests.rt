@@ -1,22 +1,26 @@
 use super::{Fault, field_in, is_named, records_of, thousandths, whole_number};
 use std::test::Fail;
 
-/// Texts, how many records come before the uneven one, and that one's number.
-const TEXTS: [(&str, usize, Option<u64>); 8] = [
-    ("", 0, None),
-    ("\n\r\n", 0, None),
-    ("a,b", 1, None),
-    ("\u{feff}a,b\n\nc,d\r\n", 2, None),
-    ("a,b\nc\nd,e\n", 1, Some(2)),
-    ("a\nb\nc,d\ne,f,g\n", 2, Some(3)),
-    ("\"a,b\"\n\"c\nd\"\n", 2, None),
-    ("a,b\nc,d\n,\n,,", 3, Some(4)),
+/// Texts, how many records are asked for, how many come before the uneven one, and that one's number.
+const TEXTS: [(&str, usize, usize, Option<u64>); 12] = [
+    ("", 9, 0, None),
+    ("\n\r\n", 9, 0, None),
+    ("a,b", 9, 1, None),
+    ("\u{feff}a,b\n\nc,d\r\n", 2, 2, None),
+    ("a,b\nc\nd,e\n", 9, 1, Some(2)),
+    ("a\nb\nc,d\ne,f,g\n", 3, 2, Some(3)),
+    ("a\nb\nc,d\ne,f,g\n", 2, 2, None),
+    ("\"a,b\"\n\"c\nd\"\n", 9, 2, None),
+    ("a,b\nc,d\n,\n,,", 9, 3, Some(4)),
+    ("a,b\nc,d\n,\n,,", 3, 3, None),
+    ("a,b\nc,d\n", 1, 1, None),
+    ("a,b\nc\n", 0, 0, None),
 ];
 
 #[test]
 fn records(rt: HostRuntime) -> Result<(), Fail> {
-    for (text, rows, uneven) in TEXTS {
-        let records = records_of(rt.alloc(), text.as_bytes()).expect(&rt, "records");
+    for (text, most, rows, uneven) in TEXTS {
+        let records = records_of(rt.alloc(), text.as_bytes(), most).expect(&rt, "records");
         assert_eq!(rt; records.rows.len(), rows, "{text}");
         assert_eq!(rt; records.uneven, uneven, "{text}");
     }
@@ -27,7 +31,7 @@ fn records(rt: HostRuntime) -> Result<(), Fail> {
 #[test]
 fn fields(rt: HostRuntime) -> Result<(), Fail> {
     let text = " \ta b\t,\" \",,\"\"\"x\",y\"z,\n";
-    let records = records_of(rt.alloc(), text.as_bytes()).expect(&rt, "records");
+    let records = records_of(rt.alloc(), text.as_bytes(), 1).expect(&rt, "records");
     let row = records.rows.first().expect(&rt, "a record");
     for (column, field) in ["a b", "", "", "\"x", "y\"z", "", ""].iter().enumerate() {
         assert!(rt; is_named(row, column, field), "{field}");

@@ -3,9 +3,9 @@ pub mod Sums
 pub mod Periods
 pub mod Turns
 pub mod Meters
-pub mod Defaults
 pub mod Laws
 pub mod Downloads
 pub mod Pace
 pub mod Openings
 pub mod Order
+pub mod Places

@@ -1,5 +1,5 @@
 -- The sums of a meter say what is carried up to any instant of the first cycle.
-use Rattle.std.proofs.Common.{◌≡◌, ℕ, zero, suc, ◌+◌, ◌-◌, ◌*◌, ◌/◌, ◌%◌, ◌<◌, ◌≤◌, List, [], ◌∷◌, ◌++◌, length, get_or, take, refl, sym, ◌∙◌, ap, sum_by, add-one, ⊎_elim, mul-le-mul_left, lt_of_mul-lt-mul_right, div-mul-le_self, le-mul_of_pos_right, arith}
+use Rattle.std.proofs.Common.{◌≡◌, ℕ, zero, suc, ◌+◌, ◌-◌, ◌*◌, ◌<◌, ◌≤◌, List, [], ◌∷◌, ◌++◌, length, get_or, take, refl, sym, ◌∙◌, ap, sum_by, add-one, ⊎_elim, mul-le-mul_left, lt_of_mul-lt-mul_right, arith}
 use Rattle.std.specs.List.{All}
 use Rattle.std.specs.Int.{div_ceil}
 use Rattle.std.proofs.lemmas.Bool.{cases_lt}
@@ -7,15 +7,14 @@ use Rattle.std.proofs.lemmas.Grind.{div_ceil_times, get_or_default_zero}
 use Rattle.std.proofs.lemmas.List.{get_or_append_left, length_push}
 use Rattle.std.proofs.lemmas.List.Elements.{All-head, All-tail}
 use Rattle.std.proofs.lemmas.List.Sums.{sum_by-cons, sum_by-take-le, sum_by_more}
-use Rattle.std.proofs.lemmas.Nat.{mod_below}
 use Rattle.std.proofs.Math.Seq.{get_or-append_seam, take-length}
 use Rattle.lab_model.specs.declared.trace.Period.{Period}
 use Rattle.lab_model.specs.Cycle.{IsPeriod, IsTrace, cycle_bits, cycle_ms}
 use Rattle.network_clock.specs.Network.{period_in}
-use Rattle.network_clock.specs.Flow.{AreSums, IsMeter, carried_in, flow, flow_in}
+use Rattle.network_clock.specs.Flow.{AreSums, IsMeter, carried_in, flow_in}
 use Rattle.network_clock.proofs.Periods.{cycle_positive, period_here, period_later}
 use Rattle.network_clock.proofs.Sums.{sum_below_grows}
-use Rattle.network_clock.proofs.Turns.{cycle_flow, flow_in_cycle, flow_in_first, flow_in_rest, turns_few}
+use Rattle.network_clock.proofs.Turns.{cycle_flow, flow_in_cycle, flow_in_first, flow_in_rest}
 
 -- ---- the sums as they are made
 
@@ -135,14 +134,17 @@ enough_at amount (suc less) most some few =
     let less_than : e - 1 < most = lt_of_mul-lt-mul_right rate (omega (arith, below, few)) in
     (first, omega (arith, less_than), enough, below)
 
-pub record ReachesIn (ps : List Period) (target instant : ℕ) : Type 0 where
+-- an instant of the first cycle, in the period at a place or at its end, is the first before which so much is carried
+pub record ReachesIn (ps : List Period) (k target instant : ℕ) : Type 0 where
+  pub begins : cycle_ms (take k ps) < instant
+  pub ends : instant ≤ cycle_ms (take (suc k) ps)
   pub some : 1 ≤ instant
   pub all : instant ≤ cycle_ms ps
   pub before : flow_in carried_in ps (instant - 1) < target
   pub there : target ≤ flow_in carried_in ps instant
 
 pub reached_at : (ps : List Period) (starts sums : List ℕ) (k start sum : ℕ) (p : Period) (target : ℕ) → Stands ps starts sums k start sum p → get_or sums k 0 < target → target ≤ get_or sums (k + 1) 0
-    → ReachesIn ps target (start + div_ceil (target - sum) p.bandwidth)
+    → ReachesIn ps k target (start + div_ceil (target - sum) p.bandwidth)
 reached_at ps starts sums k start sum p target s low high =
     let e = div_ceil (target - sum) p.bandwidth in
     let amount : target - sum ≤ p.duration_ms * p.bandwidth = omega (arith, high, s.next_sum, s.sum_step, s.sum_is) in
@@ -161,26 +163,13 @@ reached_at ps starts sums k start sum p target s low high =
     let product_before = ap (λ n. n * p.bandwidth) ms_before in
     let whole = sum_by-take-le (λ (q : Period). q.duration_ms) ps (suc k) in
     record {
+      begins = omega (arith, some, s.start_is);
+      ends = omega (arith, inside, s.next_start);
       some = omega (arith, some);
       all = omega (arith, inside, s.next_start, whole);
       before = omega (arith, before, product_before, short);
       there = omega (arith, there, product, enough);
     }
 
-pub period_there : (ps : List Period) (starts sums : List ℕ) (k start sum : ℕ) (p : Period) (t : ℕ) → Stands ps starts sums k start sum p → get_or starts k 0 < t + 1 → t + 1 ≤ get_or starts (k + 1) 0 → p ≡ period_in ps t
-period_there ps starts sums k start sum p t s low high = s.here ∙ period_in_at ps k t p s.place (omega (arith, low, s.start_is, s.start_here)) (omega (arith, high, s.next_start))
-
 pub total_positive : (ps : List Period) → IsTrace ps → 1 ≤ cycle_bits ps
 total_positive ps h = let some = cycle_positive ps h in omega (arith, h.carries, some)
-
--- what is carried soon takes few cycles
-pub turns_soon : (ps : List Period) (target t : ℕ) → IsTrace ps → 1 ≤ target → target ≤ flow carried_in ps t → (((target - 1) / cycle_bits ps) * cycle_ms ps ≤ t) × ((target - 1) / cycle_bits ps ≤ t)
-turns_soon ps target t h some soon =
-    let q = (target - 1) / cycle_bits ps in
-    let cycle = cycle_positive ps h in
-    let whole = div-mul-le_self (target - 1) (cycle_bits ps) in
-    let below = mod_below t (cycle_ms ps) cycle in
-    let part = flow_in_fits ps (t % cycle_ms ps) h (omega arith) in
-    let few = turns_few ps q t cycle part (omega (arith, whole, soon)) in
-    let one = le-mul_of_pos_right {m = cycle_ms ps} q cycle in
-    (few, omega (arith, few, one))

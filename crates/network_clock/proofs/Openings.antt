@@ -33,7 +33,8 @@ pub used_most : (p : Period) → used_in p ≤ 100000000
 used_most p = ⊎_elim (λ (none : p.latency ≡ 0). rw (eq-eqb p.latency 0 none) (omega arith))
     (λ (some : p.latency ≡ 0 → ⊥). rw (ne_eqb p.latency 0 some) (ceil_most 100000000 p.latency (omega arith))) (cases_eq p.latency 0)
 
-delay_ms : (ps : List Period) → cycle_ms (delay_of ps) ≡ cycle_ms ps
+-- the delay's trace has the same cycle
+pub delay_ms : (ps : List Period) → cycle_ms (delay_of ps) ≡ cycle_ms ps
 delay_ms [] = refl
 delay_ms (p ∷ ps) = sum_by-cons (λ (q : Period). q.duration_ms) (delay_in p) (delay_of ps) ∙ ap (λ n. p.duration_ms + n) (delay_ms ps) ∙ sym (sum_by-cons (λ (q : Period). q.duration_ms) p ps)
 

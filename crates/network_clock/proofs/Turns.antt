@@ -66,13 +66,6 @@ flow_divided rate ps t some =
     let rest = flow_start rate ps (t % cycle_ms ps) (omega arith) in
     ap (flow rate ps) (sym parts) ∙ omega (arith, turns, rest)
 
--- so many cycles by division of what is to be carried, and the rest of it
-pub reach_turns : (target total : ℕ) → 1 ≤ target → 1 ≤ total → (((target - 1) / total) * total + ((target - 1) % total + 1) ≡ target) × ((target - 1) % total + 1 ≤ total)
-reach_turns target total some all =
-    let parts = div-add-mod' (target - 1) total in
-    let below = mod_below (target - 1) total all in
-    (omega (arith, parts), omega (arith, below))
-
 -- before an instant there are only so many cycles
 pub turns_few : (ps : List Period) (turns t : ℕ) → 1 ≤ cycle_ms ps → flow_in carried_in ps (t % cycle_ms ps) ≤ cycle_bits ps → turns * cycle_bits ps < flow carried_in ps t → turns * cycle_ms ps ≤ t
 turns_few ps turns t some part below =

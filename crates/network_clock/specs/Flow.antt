@@ -4,7 +4,8 @@ use Rattle.std.specs.Prelude.{◌≡◌, ℕ, zero, suc, ◌+◌, ◌-◌, ◌*�
 use Rattle.std.specs.List.{sum_by}
 use Rattle.std.specs.Int.{div_ceil}
 use Rattle.lab_model.specs.declared.trace.Period.{Period}
-use Rattle.lab_model.specs.Cycle.{IsTrace}
+use Rattle.lab_model.specs.Cycle.{IsTrace, cycle_ms}
+use Rattle.network_clock.specs.declared.meter.Place.{Place}
 use Rattle.network_clock.specs.Network.{is_spent, job_after, period_at, period_in}
 
 -- the sum of what a function gives at the numbers below one
@@ -46,6 +47,12 @@ pub record IsMeter (ps : List Period) (start_sums carried_sums : List ℕ) : Typ
   pub trace : IsTrace ps
   pub starts : AreSums (λ p. p.duration_ms) ps (length ps) start_sums
   pub sums : AreSums (λ p. p.duration_ms * p.bandwidth) ps (length ps) carried_sums
+
+-- an instant lies in the period of a place, or at its end
+pub record Touches (ps : List Period) (place : Place) (t : ℕ) : Type 0 where
+  pub inside : place.period < length ps
+  pub begins : place.cycles * cycle_ms ps + cycle_ms (take place.period ps) ≤ t
+  pub ends : t ≤ place.cycles * cycle_ms ps + cycle_ms (take (suc place.period) ps)
 
 -- an instant is the first before which so much is carried
 pub record Reaches (ps : List Period) (target instant : ℕ) : Type 0 where

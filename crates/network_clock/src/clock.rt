@@ -2,11 +2,11 @@
 
 ghost use Rattle.std.specs.Prelude.{◌≡◌, ℕ, ◌+◌, ◌-◌, ◌*◌, ◌<◌, ◌≤◌, IfOk};
 ghost use Rattle.lab_model.specs.Cycle.{IsTrace};
-ghost use Rattle.network_clock.specs.Flow.{Opens, delay_in, delay_of, used_in};
+ghost use Rattle.network_clock.specs.Flow.{Opens, Touches, delay_in, delay_of, used_in};
 ghost use Rattle.network_clock.specs.Network.{done_at, first_at, job_after};
 
 use crate::job::{Job, Landing};
-use crate::meter::Meter;
+use crate::meter::{Meter, Moment};
 use lab_model::{NoMemory, Period, Trace};
 use std::alloc::{AllocError, Global};
 use std::marker::Model;
@@ -78,20 +78,29 @@ impl Clock {
     }
 
     /// The least instant from `from` on whose millisecond is spent on the bits of a job with this credit.
-    fn first_from(&self, from: u64, credit: u32) -> u64
+    fn first_from(&self, from: u64, credit: u32) -> Moment
         requires from { from ≤ 2000000000000000 }
         requires credit { credit ≤ 100000000 }
-        ensures { Opens self.now from credit result }
+        ensures opens { Opens self.now from credit result.instant }
+        ensures place { Touches self.now result.place result.instant }
     {
+        let begin = self.delay.place_at(from);
         if credit == 0 {
-            return from;
+            return Moment {
+                place: begin,
+                instant: from,
+            };
         }
-        let used = self.delay.carried_before(from) + credit as u128;
-        let end = self.delay.reach(used);
-        let last = end - 1;
-        let latency = self.bits.period_at(last).latency;
+        let used = self.delay.carried_since(begin, from) + credit as u64;
+        let end = self.delay.reach_from(begin, used);
+        let last = end.instant - 1;
+        let latency = self.bits.period_of(end.place).latency;
         // a millisecond without latency uses up the credit, and is spent on bits itself
-        if latency == 0 { last } else { end }
+        let first = if latency == 0 { last } else { end.instant };
+        Moment {
+            place: end.place,
+            instant: first,
+        }
     }
 
     /// When a download of `bits`, 1 to 200000000, begins to take bits, and when it is done, if it is asked
@@ -113,9 +122,12 @@ impl Clock {
         ensures trace { IsTrace self.now }
     {
         let first = self.first_from(start, 100_000_000);
-        let carried = self.bits.carried_before(first) + 1000 * bits as u128;
-        let done = self.bits.reach(carried);
-        Landing { first, done }
+        let carried = self.bits.carried_since(first.place, first.instant) + 1000 * bits as u64;
+        let done = self.bits.reach_from(first.place, carried);
+        Landing {
+            first: first.instant,
+            done: done.instant,
+        }
     }
 
     /// The periods of the trace that the clock stands for.
@@ -136,14 +148,15 @@ impl Clock {
         ensures trace { IsTrace self.now }
     {
         let first = self.first_from(from, job.credit);
-        if to <= first {
+        if to <= first.instant {
             let used = self.delay.carried_before(to) - self.delay.carried_before(from);
             return Job {
                 credit: (job.credit as u128).saturating_sub(used) as u32,
                 left: job.left,
             };
         }
-        let carried = self.bits.carried_before(to) - self.bits.carried_before(first);
+        let before = self.bits.carried_at(first.place, first.instant);
+        let carried = self.bits.carried_before(to) - before;
         Job {
             credit: 0,
             left: (job.left as u128).saturating_sub(carried) as u64,

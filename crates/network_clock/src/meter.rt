@@ -1,11 +1,11 @@
 //! What a trace carries up to any instant, and when so much has been carried, by sums that are kept for
 //! the beginning of each period.
 
-ghost use Rattle.std.specs.Prelude.{◌≡◌, ℕ, ◌+◌, ◌-◌, ◌*◌, ◌<◌, ◌≤◌, IfOk, length, slice_index};
+ghost use Rattle.std.specs.Prelude.{◌≡◌, ℕ, ◌+◌, ◌-◌, ◌*◌, ◌<◌, ◌≤◌, IfOk, length, slice_index, take};
 ghost use Rattle.lab_model.specs.Cycle.{IsPeriod, IsTrace, cycle_bits, cycle_ms};
 ghost use Rattle.std.specs.List.{All};
-ghost use Rattle.network_clock.specs.Flow.{AreSums, Reaches, carried_in, flow, flow_in};
-ghost use Rattle.network_clock.specs.Network.{period_at, period_in};
+ghost use Rattle.network_clock.specs.Flow.{AreSums, Reaches, Touches, carried_in, flow};
+ghost use Rattle.network_clock.specs.Network.{period_at};
 
 use lab_model::Period;
 use std::alloc::{AllocError, Global};
@@ -41,17 +41,16 @@ fn sums_of(alloc: Global, periods: &[Period]) -> Result<Vec<u64>, AllocError>
     Ok(sums)
 }
 
-/// The place between whose sum and the next one the target lies, by bisection.
-fn place_of(sums: &[u64], target: u64) -> usize
-    requires some { 2 ≤ length sums.now }
-    requires above { slice_index sums.now 0 < target }
-    requires below { target ≤ slice_index sums.now (length sums.now - 1) }
+/// The place from `low` to `high` between whose sum and the next one the target lies, by bisection.
+fn place_between(sums: &[u64], mut low: usize, mut high: usize, target: u64) -> usize
+    requires order { low < high }
+    requires inside { high < length sums.now }
+    requires above { slice_index sums.now low < target }
+    requires below { target ≤ slice_index sums.now high }
     ensures place { result + 1 < length sums.now }
     ensures above { slice_index sums.now result < target }
     ensures below { target ≤ slice_index sums.now (result + 1) }
 {
-    let mut low = 0;
-    let mut high = sums.len() - 1;
     while high - low > 1 {
         let middle = low + (high - low) / 2;
         if sums[middle] < target {
@@ -61,6 +60,56 @@ fn place_of(sums: &[u64], target: u64) -> usize
         }
     }
     low
+}
+
+/// The place between whose sum and the next one the target lies.
+fn place_of(sums: &[u64], target: u64) -> usize
+    requires some { 2 ≤ length sums.now }
+    requires above { slice_index sums.now 0 < target }
+    requires below { target ≤ slice_index sums.now (length sums.now - 1) }
+    ensures place { result + 1 < length sums.now }
+    ensures above { slice_index sums.now result < target }
+    ensures below { target ≤ slice_index sums.now (result + 1) }
+{
+    place_between(sums, 0, sums.len() - 1, target)
+}
+
+/// The same from a place on whose sum is below the target: by steps that double, then by bisection.
+fn place_from(sums: &[u64], from: usize, target: u64) -> usize
+    requires some { from + 1 < length sums.now }
+    requires above { slice_index sums.now from < target }
+    requires below { target ≤ slice_index sums.now (length sums.now - 1) }
+    ensures place { result + 1 < length sums.now }
+    ensures above { slice_index sums.now result < target }
+    ensures below { target ≤ slice_index sums.now (result + 1) }
+{
+    let last = sums.len() - 1;
+    let mut low = from;
+    let mut step = 1;
+    while step < last - low && sums[low + step] < target {
+        low += step;
+        step *= 2;
+    }
+    let high = low + step.min(last - low);
+    place_between(sums, low, high, target)
+}
+
+/// A place in a trace: so many whole cycles, and a period of the cycle behind them.
+#[derive(Clone, Copy)]
+pub struct Place {
+    /// The whole cycles.
+    pub cycles: u64,
+    /// The period, counted from 0.
+    pub period: usize,
+}
+
+/// An instant, and a place whose period it lies in or ends.
+#[derive(Clone, Copy)]
+pub struct Moment {
+    /// The place.
+    pub place: Place,
+    /// The instant.
+    pub instant: u64,
 }
 
 /// A trace with its running sums.
@@ -123,62 +172,102 @@ impl Meter {
         self.sums[self.periods.len()]
     }
 
-    /// The period that holds an instant of the first cycle.
-    fn period_in(&self, instant: u64) -> Period
-        requires { instant < cycle_ms self.now }
-        ensures { result ≡ period_in self.now instant }
+    /// The place of an instant.
+    pub fn place_at(&self, instant: u64) -> Place
+        ensures here { Touches self.now result instant }
+        ensures next { Touches self.now result (instant + 1) }
     {
-        let place = place_of(&self.starts, instant + 1);
-        self.periods[place]
+        let cycle = self.cycle();
+        let period = place_of(&self.starts, instant % cycle + 1);
+        Place {
+            cycles: instant / cycle,
+            period,
+        }
     }
 
-    /// What is carried before an instant of the first cycle.
-    fn carried_in(&self, instant: u64) -> u64
-        requires { instant < cycle_ms self.now }
-        ensures { result ≡ flow_in carried_in self.now instant }
+    /// The period of a place.
+    pub fn period_of(&self, place: Place) -> Period
+        requires { place.period < length self.now }
+        ensures { (t : ℕ) → Touches self.now place t → Touches self.now place (t + 1)
+            → result ≡ period_at self.now t }
     {
-        let place = place_of(&self.starts, instant + 1);
-        self.sums[place] + (instant - self.starts[place]) * self.periods[place].bandwidth
+        self.periods[place.period]
     }
 
-    /// The first instant of the first cycle before which so much is carried.
-    fn reach_in(&self, target: u64) -> u64
-        requires some { 1 ≤ target }
-        requires all { target ≤ cycle_bits self.now }
-        ensures within { (1 ≤ result) × (result ≤ cycle_ms self.now) }
-        ensures before { flow_in carried_in self.now (result - 1) < target }
-        ensures there { target ≤ flow_in carried_in self.now result }
+    /// What is carried from the beginning of a place's cycle up to an instant in the place's period, in
+    /// thousandths of a bit.
+    pub fn carried_since(&self, place: Place, instant: u64) -> u64
+        requires { Touches self.now place instant }
+        ensures value { place.cycles * cycle_bits self.now + result ≡ flow carried_in self.now instant }
+        ensures least { cycle_bits (take place.period self.now) ≤ result }
+        ensures most { result ≤ 1000000000000000000 }
     {
-        let place = place_of(&self.sums, target);
-        self.starts[place] + (target - self.sums[place]).div_ceil(self.periods[place].bandwidth)
+        let begin = place.cycles * self.cycle() + self.starts[place.period];
+        self.sums[place.period] + (instant - begin) * self.periods[place.period].bandwidth
     }
 
-    /// The period that holds an instant.
-    pub fn period_at(&self, instant: u64) -> Period
-        ensures { result ≡ period_at self.now instant }
+    /// What is carried before an instant in a place's period, in thousandths of a bit.
+    pub fn carried_at(&self, place: Place, instant: u64) -> u128
+        requires { Touches self.now place instant }
+        ensures { result ≡ flow carried_in self.now instant }
     {
-        self.period_in(instant % self.cycle())
+        place.cycles as u128 * self.total() as u128 + self.carried_since(place, instant) as u128
     }
 
     /// What is carried before an instant, in thousandths of a bit.
     pub fn carried_before(&self, instant: u64) -> u128
-        ensures value { result ≡ flow carried_in self.now instant }
-        ensures fits { result ≤ 10000000000 * instant }
+        ensures { result ≡ flow carried_in self.now instant }
     {
-        let cycle = self.cycle();
-        let whole = (instant / cycle) as u128 * self.total() as u128;
-        whole + self.carried_in(instant % cycle) as u128
+        self.carried_at(self.place_at(instant), instant)
     }
 
-    /// The first instant before which so much is carried, in thousandths of a bit.
-    pub fn reach(&self, target: u128) -> u64
-        requires some { 1 ≤ target }
-        requires soon { target ≤ flow carried_in self.now 3000000000000000 }
-        ensures { Reaches self.now target result }
+    /// The same amount, told from the beginning of the cycle in which the last of it is carried, and a place
+    /// of that cycle before which not all of it is.
+    fn within_cycle(&self, from: Place, wanted: u64) -> (Place, u64)
+        requires inside { from.period < length self.now }
+        requires more { cycle_bits (take from.period self.now) < wanted }
+        requires soon { from.cycles * cycle_bits self.now + wanted
+            ≤ flow carried_in self.now 3000000000000000 }
+        ensures inside { result.0.period < length self.now }
+        ensures more { cycle_bits (take result.0.period self.now) < result.1 }
+        ensures most { result.1 ≤ cycle_bits self.now }
+        ensures same { result.0.cycles * cycle_bits self.now + result.1
+            ≡ from.cycles * cycle_bits self.now + wanted }
     {
-        let total = self.total() as u128;
-        let turns = ((target - 1) / total) as u64;
-        let rest = ((target - 1) % total) as u64 + 1;
-        turns * self.cycle() + self.reach_in(rest)
+        let total = self.total();
+        if wanted <= total {
+            return (from, wanted);
+        }
+        let turns = (wanted - 1) / total;
+        let place = Place {
+            cycles: from.cycles + turns,
+            period: 0,
+        };
+        (place, wanted - turns * total)
+    }
+
+    /// The first instant before which so much is carried from the beginning of a place's cycle on, in
+    /// thousandths of a bit, with the place of the millisecond before it.
+    pub fn reach_from(&self, from: Place, wanted: u64) -> Moment
+        requires inside { from.period < length self.now }
+        requires more { cycle_bits (take from.period self.now) < wanted }
+        requires soon { from.cycles * cycle_bits self.now + wanted
+            ≤ flow carried_in self.now 3000000000000000 }
+        ensures reaches { Reaches self.now (from.cycles * cycle_bits self.now + wanted) result.instant }
+        ensures some { 1 ≤ result.instant }
+        ensures last { Touches self.now result.place (result.instant - 1) }
+        ensures end { Touches self.now result.place result.instant }
+    {
+        let (from, rest) = self.within_cycle(from, wanted);
+        let period = place_from(&self.sums, from.period, rest);
+        let amount = rest - self.sums[period];
+        let within = self.starts[period] + amount.div_ceil(self.periods[period].bandwidth);
+        Moment {
+            place: Place {
+                cycles: from.cycles,
+                period,
+            },
+            instant: from.cycles * self.cycle() + within,
+        }
     }
 }

@@ -17,6 +17,9 @@ use std::alloc::Global;
 /// The row of the last record of the longest script: the header and 16 seeks.
 const LAST_ROW: u32 = 17;
 
+/// How many records are read: those of the longest script, and the one behind them.
+const MOST_RECORDS: usize = LAST_ROW as usize + 1;
+
 /// The last instant of a seek, in milliseconds.
 const LAST_INSTANT: u32 = 1_000_000_000;
 
@@ -152,14 +155,15 @@ fn seeks_in(alloc: Global, records: &Records, segments: u16) -> Result<Vec<Seek>
 
 /// Reads the seeks of a script for a film of so many segments. The answer is `Refused` exactly where the
 /// bytes are no script, with the first test that they fail: rows count the records from 1, the header
-/// being the first, and columns count the fields from 1. A script with the header alone has no seeks.
+/// being the first, and columns count the fields from 1. What stands behind the record that is one too
+/// many isn't read. A script with the header alone has no seeks.
 /// Seeks that are read keep their limits: at most 16, at strictly rising instants from 0 to 1000000000
 /// ms, each to one of the film's segments.
 pub fn read_seeks(alloc: Global, bytes: &[u8], segments: u16) -> Result<Vec<Seek>, InputFault>
     ensures seeks { Gives (λ v. v.items) result (seeks_of bytes.now segments) }
     ensures within { IfOk result (λ v. SeeksFit v.items segments) }
 {
-    let Ok(records) = records_of(alloc, bytes) else {
+    let Ok(records) = records_of(alloc, bytes, MOST_RECORDS) else {
         return Err(InputFault::Memory);
     };
     seeks_in(alloc, &records, segments)

@@ -18,7 +18,7 @@ const BAD_HEADERS: [(&str, Kind, Key, u32, u32); 7] = [
 ];
 
 /// What stands behind the header of bad scripts for three segments.
-const BAD_SEEKS: [(&str, Kind, Key, u32, u32); 25] = [
+const BAD_SEEKS: [(&str, Kind, Key, u32, u32); 26] = [
     ("1\n", Kind::NotCsv, Key::SeekRow, 2, 0),
     ("1,2,0\n", Kind::NotCsv, Key::SeekRow, 2, 0),
     ("1,3\n", Kind::OutOfRange, Key::SeekTo, 2, 2),
@@ -65,6 +65,13 @@ const BAD_SEEKS: [(&str, Kind, Key, u32, u32); 25] = [
         "0,0\n1,0\n2,0\n3,0\n4,0\n5,0\n6,0\n7,0\n8,0\n9,0\n10,0\n11,0\n12,0\n13,0\n14,0\n15,0\n16\n",
         Kind::NotCsv,
         Key::SeekRow,
+        18,
+        0,
+    ),
+    (
+        "0,0\n1,0\n2,0\n3,0\n4,0\n5,0\n6,0\n7,0\n8,0\n9,0\n10,0\n11,0\n12,0\n13,0\n14,0\n15,0\n16,0\n17\n",
+        Kind::OutOfRange,
+        Key::Whole,
         18,
         0,
     ),

@@ -22,6 +22,9 @@ use std::alloc::Global;
 /// The row of the last record of the longest trace: the header and 100000 periods.
 const LAST_ROW: u32 = 100_001;
 
+/// How many records are read: those of the longest trace, and the one behind them.
+const MOST_RECORDS: usize = LAST_ROW as usize + 1;
+
 /// The longest period, in milliseconds.
 const MOST_DURATION_MS: u32 = 10_000_000;
 
@@ -172,11 +175,11 @@ fn table_trace(alloc: Global, records: &Records) -> Result<Trace, InputFault>
 /// Reads a CSV trace. A bandwidth is a number of kbps with up to three digits behind a point, and is kept
 /// in thousandths. The answer is `Refused` exactly where the bytes are no trace, with the first test that
 /// they fail: rows count the records from 1, the header being the first, and columns count the fields
-/// from 1.
+/// from 1. What stands behind the record that is one too many isn't read.
 pub fn read_trace_csv(alloc: Global, bytes: &[u8]) -> Result<Trace, InputFault>
     ensures { Gives (λ t. t) result (trace_csv_of bytes.now) }
 {
-    let Ok(records) = records_of(alloc, bytes) else {
+    let Ok(records) = records_of(alloc, bytes, MOST_RECORDS) else {
         return Err(InputFault::Memory);
     };
     table_trace(alloc, &records)

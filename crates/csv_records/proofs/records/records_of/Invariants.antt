@@ -1,4 +1,4 @@
-use Rattle.std.proofs.Common.{◌≡◌, ◌<◌, ℕ, List, Some, map, false}
+use Rattle.std.proofs.Common.{◌≡◌, ◌+◌, ◌<◌, ℕ, List, Some, length, map, false}
 use Rattle.csv.specs.Reading.{Ready, default_config, source_of, strip_bom}
 use Rattle.csv.specs.Records.{fields_of}
 use Rattle.csv.specs.declared.reader.Trim.TheVariants as trim
@@ -7,14 +7,15 @@ use Rattle.csv_records.proofs.records.records_of.Given as goal
 
 abbrev pub invariant-loop-row : goal.invariant-loop-row
 invariant-loop-row l = record {
-  trim : l.row-iterator.rdr.trim ≡ trim.None;
-  ready : Ready l.row-iterator.rdr;
-  left : 0 < l.row-iterator.left;
-  config : l.row-iterator.rdr.config ≡ default_config;
-  flexible : l.row-iterator.rdr.flexible ≡ false;
-  expected : l.row-iterator.rdr.expected ≡ width_of (map fields_of l.rows.items);
+  count : length l.rows.items + l.row-iterator.n ≡ l.most;
+  trim : l.row-iterator.iter.rdr.trim ≡ trim.None;
+  ready : Ready l.row-iterator.iter.rdr;
+  left : 0 < l.row-iterator.iter.left;
+  config : l.row-iterator.iter.rdr.config ≡ default_config;
+  flexible : l.row-iterator.iter.rdr.flexible ≡ false;
+  expected : l.row-iterator.iter.rdr.expected ≡ width_of (map fields_of l.rows.items);
   fit : Fit (map fields_of l.rows.items);
   unread : List ℕ;
-  source : source_of (λ s. Some s.now) l.row-iterator.rdr ≡ Some unread;
-  stands : Stands (strip_bom l.fn.bytes) (map fields_of l.rows.items) l.row-iterator.rdr.state unread;
+  source : source_of (λ s. Some s.now) l.row-iterator.iter.rdr ≡ Some unread;
+  stands : Stands (strip_bom l.fn.bytes) (map fields_of l.rows.items) l.row-iterator.iter.rdr.state unread;
 }

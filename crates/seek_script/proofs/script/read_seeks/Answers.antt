@@ -1,17 +1,18 @@
-use Rattle.std.proofs.Common.{ℕ, List, Result, Ok, Err, Vec, Global, subst}
+use Rattle.std.proofs.Common.{ℕ, List, Result, Ok, Err, Vec, Global, ◌∙◌, ap, subst}
 use Rattle.std.specs.Result.{IfOk}
 use Rattle.lab_model.specs.declared.context.Seek.{Seek}
 use Rattle.lab_model.specs.declared.fault.InputFault.{InputFault}
-use Rattle.csv_records.specs.Table.{Table}
 use Rattle.seek_script.specs.Faults.{Gives}
 use Rattle.seek_script.specs.Script.{seeks_in, seeks_of}
 use Rattle.lab_model.specs.Seeks.{SeeksFit}
 use Rattle.seek_script.proofs.Limits.{within}
+use Rattle.seek_script.proofs.Within.{seeks_within}
 use Rattle.seek_script.proofs.script.read_seeks.Goals as goal
 
 gives : (c : goal.After-drop-records) → Gives {X = Vec Seek Global} {Y = List Seek} (λ v. v.items) c.seeks_in.result (seeks_of c.args.bytes.now c.args.segments)
-unfolding seeks_of
-gives c = subst (λ (t : Table). Gives {X = Vec Seek Global} {Y = List Seek} (λ v. v.items) c.seeks_in.result (seeks_in c.args.segments t)) c.in-Ok.ensures.records c.seeks_in.ensures
+gives c =
+    subst (Gives {X = Vec Seek Global} {Y = List Seek} (λ v. v.items) c.seeks_in.result)
+    (ap (seeks_in c.args.segments) c.in-Ok.ensures.records ∙ seeks_within c.args.bytes.now c.args.segments) c.seeks_in.ensures
 
 limits : (bytes : List ℕ) (segments : ℕ) (r : Result (Vec Seek Global) InputFault) → Gives (λ v. v.items) r (seeks_of bytes segments) → IfOk r (λ v. SeeksFit v.items segments)
 limits bytes segments (Ok v) h = within bytes segments v.items h

@@ -1,9 +1,8 @@
-use Rattle.std.proofs.Common.{subst}
-use Rattle.csv_records.specs.Table.{Table}
-use Rattle.trace_reader.specs.Faults.{Gives}
-use Rattle.trace_reader.specs.TraceCsv.{table_trace, trace_csv_of}
+use Rattle.std.proofs.Common.{◌∙◌, ap, subst}
+use Rattle.lab_model.specs.Reading.{Gives}
+use Rattle.trace_reader.specs.TraceCsv.{table_trace}
+use Rattle.trace_reader.proofs.Within.{trace_within}
 use Rattle.trace_reader.proofs.csv_trace.read_trace_csv.Goals as goal
 
 pub returns : goal.returns
-unfolding trace_csv_of
-returns c = subst (λ (t : Table). Gives (λ t. t) c.table_trace.result (table_trace t)) c.in-Ok.ensures.records c.table_trace.ensures
+returns c = subst (λ whole. Gives (λ t. t) c.table_trace.result whole) (ap table_trace c.in-Ok.ensures.records ∙ trace_within c.args.bytes.now) c.table_trace.ensures

@@ -9,31 +9,31 @@ use Rattle.network_clock.proofs.clock.Clock.advance.Goals as goal
 pub overflow_sub-used : goal.overflow_sub-used
 overflow_sub-used c =
     let grows = sum_below_grows (λ i. carried_in (period_at c.self.inside.delay i)) c.args.from c.args.to c.requires.order in
-    omega (arith, grows, c.carried_before.ensures.value, c.carried_before-then-to-first.ensures.value)
+    omega (arith, grows, c.carried_before.ensures, c.carried_before-then-to-first.ensures)
 
 pub overflow_sub-carried : goal.overflow_sub-carried
 overflow_sub-carried c =
-    let grows = sum_below_grows (λ i. carried_in (period_at c.self.inside.bits i)) c.first_from-first.result c.args.to (omega arith) in
-    omega (arith, grows, c.carried_before-2.ensures.value, c.carried_before-3.ensures.value)
+    let grows = sum_below_grows (λ i. carried_in (period_at c.self.inside.bits i)) c.first_from-first.result.instant c.args.to (omega arith) in
+    omega (arith, grows, c.carried_before-2.ensures, c.carried_at-before.ensures)
 
 pub returns-then-to-first-clause-after : goal.returns-then-to-first-clause-after
 returns-then-to-first-clause-after c =
     let ps = c.self.inside.bits in
     let delay = c.self.inside.delay in
     let j = c.args.job in
-    let o : Opens ps c.args.from j.credit c.first_from-first.result = rw c.self.view_is c.first_from-first.ensures in
+    let o : Opens ps c.args.from j.credit c.first_from-first.result.instant = rw c.self.view_is c.first_from-first.ensures.opens in
     let to = delay_flow_of delay ps c.self.invariant.0 c.self.invariant.1 c.args.to in
     let from = delay_flow_of delay ps c.self.invariant.0 c.self.invariant.1 c.args.from in
-    let credit : c.saturating_sub.result ≡ j.credit - (flow used_in ps c.args.to - flow used_in ps c.args.from) = omega (arith, to, from, c.saturating_sub.ensures, c.carried_before.ensures.value, c.carried_before-then-to-first.ensures.value) in
-    let after = job_until ps c.args.from c.first_from-first.result c.args.to j c.requires.credit o c.requires.order c.if-to-first.true in
+    let credit : c.saturating_sub.result ≡ j.credit - (flow used_in ps c.args.to - flow used_in ps c.args.from) = omega (arith, to, from, c.saturating_sub.ensures, c.carried_before.ensures, c.carried_before-then-to-first.ensures) in
+    let after = job_until ps c.args.from c.first_from-first.result.instant c.args.to j c.requires.credit o c.requires.order c.if-to-first.true in
     ap {B = Job} (λ n. record { credit = n; left = j.left }) credit ∙ sym after ∙ ap (λ qs. job_after qs c.args.from (c.args.to - c.args.from) j) c.self.view_is
 
 pub returns-clause-after : goal.returns-clause-after
 returns-clause-after c =
     let ps = c.self.inside.bits in
     let j = c.args.job in
-    let first = c.first_from-first.result in
-    let o : Opens ps c.args.from j.credit first = rw c.self.view_is c.first_from-first.ensures in
-    let left : c.saturating_sub-2.result ≡ j.left - (flow carried_in ps c.args.to - flow carried_in ps first) = omega (arith, c.saturating_sub-2.ensures, c.carried_before-2.ensures.value, c.carried_before-3.ensures.value) in
+    let first = c.first_from-first.result.instant in
+    let o : Opens ps c.args.from j.credit first = rw c.self.view_is c.first_from-first.ensures.opens in
+    let left : c.saturating_sub-2.result ≡ j.left - (flow carried_in ps c.args.to - flow carried_in ps first) = omega (arith, c.saturating_sub-2.ensures, c.carried_before-2.ensures, c.carried_at-before.ensures) in
     let after = job_from ps c.args.from first c.args.to j c.requires.credit o c.if-to-first.false in
     ap {B = Job} (λ n. record { credit = 0; left = n }) left ∙ sym after ∙ ap (λ qs. job_after qs c.args.from (c.args.to - c.args.from) j) c.self.view_is

@@ -1,5 +1,5 @@
 use Rattle.std.proofs.Common.{◌≡◌, ◌+◌, ◌*◌, arith}
-use Rattle.lab_model.specs.Cycle.{IsTrace}
+use Rattle.lab_model.specs.Cycle.{IsTrace, cycle_bits}
 use Rattle.network_clock.specs.Flow.{Reaches, carried_in, flow}
 use Rattle.network_clock.specs.Network.{done_at, first_at, period_at}
 use Rattle.network_clock.proofs.Downloads.{done_found, first_before_done}
@@ -8,27 +8,30 @@ use Rattle.network_clock.proofs.Openings.{done_reached, first_opens}
 use Rattle.network_clock.proofs.Order.{first_in_first_out}
 use Rattle.network_clock.proofs.Sums.{sum_below_grows}
 use Rattle.network_clock.proofs.clock.Clock.finish.Goals as goal
-use Rattle.network_clock.proofs.clock.Clock.finish.Goals.{After-reach-done}
+use Rattle.network_clock.proofs.clock.Clock.finish.Goals.{After-reach_from-done}
 
-pub reach-done-requires-clause-soon : goal.reach-done-requires-clause-soon
-reach-done-requires-clause-soon c =
+pub reach_from-done-requires-clause-soon : goal.reach_from-done-requires-clause-soon
+reach_from-done-requires-clause-soon c =
     let ps = c.self.inside.bits in
-    let first = c.first_from-first.result in
-    let soon = c.first_from-first.ensures.soon in
+    let first = c.first_from-first.result.instant in
+    let soon = c.first_from-first.ensures.opens.soon in
     let enough = carries_enough ps c.self.invariant.0 first 300000000 (omega arith) in
     let grows = sum_below_grows (λ i. carried_in (period_at ps i)) (first + 300000000) 3000000000000000 (omega (arith, soon)) in
-    omega (arith, enough, grows, c.carried_before.ensures.value)
+    omega (arith, enough, grows, c.carried_since.ensures.value)
 
-trace : (c : After-reach-done) → IsTrace c.args.self.now
+trace : (c : After-reach_from-done) → IsTrace c.args.self.now
 trace c = rw (← c.self.view_is) c.self.invariant.0
 
-first : (c : After-reach-done) → c.first_from-first.result ≡ first_at c.args.self.now c.args.start c.args.bits
-first c = first_opens c.args.self.now c.args.start c.args.bits c.first_from-first.result c.first_from-first.ensures
+first : (c : After-reach_from-done) → c.first_from-first.result.instant ≡ first_at c.args.self.now c.args.start c.args.bits
+first c = first_opens c.args.self.now c.args.start c.args.bits c.first_from-first.result.instant c.first_from-first.ensures.opens
 
-done : (c : After-reach-done) → c.reach-done.result ≡ done_at c.args.self.now c.args.start c.args.bits
+done : (c : After-reach_from-done) → c.reach_from-done.result.instant ≡ done_at c.args.self.now c.args.start c.args.bits
 done c =
-    let r : Reaches c.args.self.now (flow carried_in c.args.self.now c.first_from-first.result + 1000 * c.args.bits) c.reach-done.result = rw (← c.self.view_is, ← c.carried_before.ensures.value) c.reach-done.ensures in
-    done_reached c.args.self.now (trace c) c.args.start c.args.bits c.first_from-first.result c.reach-done.result c.requires.bits.0 c.requires.bits.1 c.first_from-first.ensures r
+    let first = c.first_from-first.result.instant in
+    let before = c.first_from-first.result.place.cycles * cycle_bits c.self.inside.bits in
+    let wanted : before + (c.carried_since.result + 1000 * c.args.bits) ≡ flow carried_in c.self.inside.bits first + 1000 * c.args.bits = omega (arith, c.carried_since.ensures.value) in
+    let r : Reaches c.args.self.now (flow carried_in c.args.self.now first + 1000 * c.args.bits) c.reach_from-done.result.instant = rw (← c.self.view_is, ← wanted) c.reach_from-done.ensures.reaches in
+    done_reached c.args.self.now (trace c) c.args.start c.args.bits first c.reach_from-done.result.instant c.requires.bits.0 c.requires.bits.1 c.first_from-first.ensures.opens r
 
 pub returns-clause-first : goal.returns-clause-first
 returns-clause-first c = first c

@@ -1,5 +1,5 @@
 use Rattle.std.proofs.Common.{◌-◌, ◌<◌, ◌≤◌, get_or, length}
-use Rattle.network_clock.proofs.meter.place_of.Given as goal
+use Rattle.network_clock.proofs.meter.place_between.Given as goal
 
 abbrev pub invariant-loop-high : goal.invariant-loop-high
 invariant-loop-high l = record {
