@@ -1,7 +1,12 @@
 //! Certificates and the verdicts on them, with answers from outside.
 
-use crate::{Verdict, check, check_lines};
+mod certificates;
+
+use crate::{Verdict, check, check_bound, check_from, check_lines};
 use certificate_text::{Lines, read_certificate};
+use certificates::{
+    CHANGED, EQUAL_UTILITIES, LIVE_EDGE, MUTATED, SMALLEST_INPUT, STEADY_PLAN, UTILITY_TABLE,
+};
 use lab_model::{InputFault, Manifest, Period, Setup, Trace, Weights};
 use network_clock::Clock;
 use std::alloc::Global;
@@ -18,7 +23,9 @@ struct Case {
     /// The only period: milliseconds and thousandths of a kbps.
     period: (u32, u64),
     buffer_ms: u32,
+    /// One for each rung, or row by row.
     utilities: &'static [u32],
+    table: bool,
 }
 
 /// Three segments of a second on two rungs.
@@ -30,38 +37,22 @@ const M1: Case = Case {
     period: (60_000, 2_000_000),
     buffer_ms: 10_000,
     utilities: &[0, 10],
+    table: false,
 };
 
-/// The lines of its certificate.
-const STEADY_PLAN: [&str; 25] = [
-    "abrlab certificate 1\n",
-    "segments 3\n",
-    "rungs 2\n",
-    "score 29000\n",
-    "plan 1 1 1\n",
-    "start 0 0\n",
-    "layer 0 0 1\n",
-    "500 500 49500 0 0\n",
-    "layer 0 1 1\n",
-    "1000 1000 109000 1 1\n",
-    "layer 1 0 2\n",
-    "1000 500 49500 0 0\n",
-    "1500 1000 109000 2 2\n",
-    "layer 1 1 2\n",
-    "1500 500 59500 1 1\n",
-    "2000 1000 119000 3 3\n",
-    "layer 2 0 4\n",
-    "1500 500 49500\n",
-    "2000 500 59500\n",
-    "2000 1000 109000\n",
-    "2500 1000 119000\n",
-    "layer 2 1 4\n",
-    "2000 500 59500\n2500 500 69500\n2500 1000 119000\n",
-    "3000 1000 129000\n",
-    "end\n",
-];
+/// One segment of one bit.
+const SMALLEST: Case = Case {
+    seg_ms: 1,
+    segments: 1,
+    bitrates: &[1],
+    sizes: &[1],
+    period: (1, 1000),
+    buffer_ms: 1,
+    utilities: &[0],
+    table: false,
+};
 
-/// What a certificate is checked against.
+/// What certificates are checked against.
 #[derive(Drop)]
 struct Inputs {
     m: Manifest,
@@ -86,54 +77,181 @@ impl Inputs {
         let trace = Trace::from_parts(periods).ok_or("not a trace")?;
         let clock = Clock::new(alloc, &trace)?;
         let utilities = case.utilities.to_vec(alloc)?;
+        let weights = if case.table {
+            Weights::from_table(utilities, m.rungs(), 0, 100, 1)
+        } else {
+            Weights::from_parts(utilities, 0, 100, 1)
+        };
         let set = Setup {
             buffer_ms: case.buffer_ms,
-            weights: Weights::from_parts(utilities, 0, 100, 1).ok_or("no weights")?,
+            weights: weights.ok_or("no weights")?,
             abandon: false,
         };
         Ok(Inputs { m, clock, set })
     }
 
     /// The verdict on a text that is read whole.
-    fn whole(
-        &self,
-        rt: &impl Abort,
-        alloc: Global,
-        bytes: &[u8],
-    ) -> Result<Verdict, InputFault> {
+    fn whole(&self, rt: &impl Abort, alloc: Global, text: &str) -> Result<Verdict, InputFault> {
         assert!(rt; self.set.fits(&self.m));
-        let certificate = read_certificate(alloc, bytes)?;
+        let certificate = read_certificate(alloc, text.as_bytes())?;
         Ok(check(&self.m, &self.clock, &self.set, &certificate))
     }
 
     /// The verdict on a text that is read layer by layer.
-    fn by_layer(
-        &self,
-        rt: &impl Abort,
-        alloc: Global,
-        bytes: &[u8],
-    ) -> Result<Verdict, InputFault> {
+    fn by_layer(&self, rt: &impl Abort, alloc: Global, text: &str) -> Result<Verdict, InputFault> {
         assert!(rt; self.set.fits(&self.m));
-        let lines = Lines::begin(alloc, bytes)?;
+        let lines = Lines::begin(alloc, text.as_bytes())?;
         check_lines(&self.m, &self.clock, &self.set, lines)
     }
 }
 
-/// The text of steady-plan's certificate with another line at a row, the first being 1.
-fn with_line(alloc: Global, row: u32, line: &str) -> Result<String, Fail> {
+/// The text of steady-plan's certificate with this text in the place of so many lines, from this one on. The first is 1.
+fn with_lines(alloc: Global, row: u32, count: u32, other: &str) -> Result<String, Fail> {
+    let (row, count) = (row as usize, count as usize);
     let mut text = String::new(alloc);
     for (i, own) in STEADY_PLAN.iter().enumerate() {
-        text.push_str(if i + 1 == row as usize { line } else { own })?;
+        if i + 1 == row {
+            text.push_str(other)?;
+        }
+        if i + 1 < row || i + 1 >= row + count {
+            text.push_str(own)?;
+        }
     }
     Ok(text)
 }
 
+/// What is said.
+fn told(alloc: Global, answer: &Result<Verdict, InputFault>) -> Result<String, Fail> {
+    Ok(match answer {
+        Ok(Verdict::Yes) => format!(in alloc; "yes")?,
+        Ok(Verdict::No {
+            clause,
+            segment,
+            rung,
+            label,
+        }) => format!(in alloc; "no V{clause} segment {segment} rung {rung} label {label}")?,
+        Err(InputFault::Refused(refusal)) => {
+            let (row, column) = (refusal.row, refusal.column);
+            format!(in alloc; "bad-line at line row {row} column {column}")?
+        }
+        Err(InputFault::Memory) => format!(in alloc; "no memory")?,
+    })
+}
+
+/// Both checks of a text say this.
+fn says(
+    rt: &impl Abort,
+    alloc: Global,
+    inputs: &Inputs,
+    text: &str,
+    wanted: &str,
+) -> Result<(), Fail> {
+    let whole = told(alloc, &inputs.whole(rt, alloc, text))?;
+    assert_eq!(rt; whole.as_str(), wanted, "{text}");
+    let by_layer = told(alloc, &inputs.by_layer(rt, alloc, text))?;
+    assert_eq!(rt; by_layer.as_str(), wanted, "{text}");
+    Ok(())
+}
+
 #[test]
-fn steady_plan(rt: HostRuntime) -> Result<(), Fail> {
+fn valid_certificates(rt: HostRuntime) -> Result<(), Fail> {
     let alloc = rt.alloc();
-    let inputs = Inputs::of(alloc, &M1)?;
-    let text = with_line(alloc, 0, "")?;
-    assert_eq!(rt; inputs.whole(&rt, alloc, text.as_bytes()), Ok(Verdict::Yes));
-    assert_eq!(rt; inputs.by_layer(&rt, alloc, text.as_bytes()), Ok(Verdict::Yes));
+    let m1 = Inputs::of(alloc, &M1)?;
+    says(&rt, alloc, &m1, &with_lines(alloc, 0, 0, "")?, "yes")?;
+    let equal = Case {
+        utilities: &[0, 0],
+        ..M1
+    };
+    let equal = Inputs::of(alloc, &equal)?;
+    says(&rt, alloc, &equal, EQUAL_UTILITIES, "yes")?;
+    let smallest = Inputs::of(alloc, &SMALLEST)?;
+    says(&rt, alloc, &smallest, SMALLEST_INPUT, "yes")
+}
+
+#[test]
+fn utility_tables(rt: HostRuntime) -> Result<(), Fail> {
+    let alloc = rt.alloc();
+    let table = Case {
+        utilities: &[0, 0, 0, 50, 0, 10],
+        table: true,
+        ..M1
+    };
+    let table = Inputs::of(alloc, &table)?;
+    let m1 = Inputs::of(alloc, &M1)?;
+    let other = "no V1 segment 0 rung 0 label 0";
+    says(&rt, alloc, &table, UTILITY_TABLE, "yes")?;
+    says(&rt, alloc, &table, &with_lines(alloc, 0, 0, "")?, other)?;
+    says(&rt, alloc, &m1, UTILITY_TABLE, other)?;
+    says(&rt, alloc, &m1, SMALLEST_INPUT, other)
+}
+
+#[test]
+fn changed_certificates(rt: HostRuntime) -> Result<(), Fail> {
+    let alloc = rt.alloc();
+    let m1 = Inputs::of(alloc, &M1)?;
+    for (row, count, other, wanted) in CHANGED {
+        says(&rt, alloc, &m1, &with_lines(alloc, row, count, other)?, wanted)?;
+    }
+    Ok(())
+}
+
+#[test]
+fn mutated_certificates(rt: HostRuntime) -> Result<(), Fail> {
+    let alloc = rt.alloc();
+    let m1 = Inputs::of(alloc, &M1)?;
+    for (row, count, other, wanted) in MUTATED {
+        says(&rt, alloc, &m1, &with_lines(alloc, row, count, other)?, wanted)?;
+    }
+    Ok(())
+}
+
+#[test]
+fn each_prefix(rt: HostRuntime) -> Result<(), Fail> {
+    let alloc = rt.alloc();
+    let m1 = Inputs::of(alloc, &M1)?;
+    let text = with_lines(alloc, 0, 0, "")?;
+    let mut row = 1u32;
+    for (k, byte) in text.as_bytes().iter().enumerate() {
+        let wanted = format!(in alloc; "bad-line at line row {row} column 0")?;
+        says(&rt, alloc, &m1, text.get(..k).ok_or("not ASCII")?, &wanted)?;
+        if *byte == b'\n' {
+            row = row.saturating_add(1);
+        }
+    }
+    Ok(())
+}
+
+/// What the general check of a text says, with so much media ahead.
+fn with_ahead(
+    rt: &impl Abort,
+    alloc: Global,
+    ahead: u32,
+    text: &str,
+    bound: i128,
+) -> Result<String, Fail> {
+    let m1 = Inputs::of(alloc, &M1)?;
+    assert!(rt; m1.set.fits(&m1.m));
+    assert!(rt; ahead <= 120_000_000);
+    let certificate = read_certificate(alloc, text.as_bytes())?;
+    let verdict = check_from(&m1.m, &m1.clock, &m1.set, ahead, &certificate, bound);
+    told(alloc, &Ok(verdict))
+}
+
+#[test]
+fn other_bounds(rt: HostRuntime) -> Result<(), Fail> {
+    let alloc = rt.alloc();
+    let m1 = Inputs::of(alloc, &M1)?;
+    assert!(rt; m1.set.fits(&m1.m));
+    let steady = with_lines(alloc, 0, 0, "")?;
+    let certificate = read_certificate(alloc, steady.as_bytes())?;
+    let low = check_bound(&m1.m, &m1.clock, &m1.set, &certificate, 28_999);
+    let end = "no V5 segment 2 rung 1 label 3";
+    assert_eq!(rt; told(alloc, &Ok(low))?.as_str(), end);
+    let high = check_bound(&m1.m, &m1.clock, &m1.set, &certificate, 29_001);
+    assert_eq!(rt; high, Verdict::Yes);
+    let live = with_ahead(&rt, alloc, 0, LIVE_EDGE, 28_000)?;
+    assert_eq!(rt; live.as_str(), "yes");
+    let early = with_ahead(&rt, alloc, 0, &steady, 29_000)?;
+    assert_eq!(rt; early.as_str(), "no V3 segment 0 rung 0 label 0");
     Ok(())
 }

@@ -126,6 +126,11 @@ fn walk(alloc: Global, bytes: &[u8]) -> Result<(), InputFault> {
     Ok(())
 }
 
+/// The same, without keeping what is read.
+fn rest(alloc: Global, bytes: &[u8]) -> Result<(), InputFault> {
+    Lines::begin(alloc, bytes)?.read_rest()
+}
+
 /// The text of the smallest input with another line.
 fn with_line(alloc: Global, row: u32, line: &str) -> Result<String, Fail> {
     let mut text = String::new(alloc);
@@ -142,6 +147,7 @@ fn bad_lines(rt: HostRuntime) -> Result<(), Fail> {
         let text = with_line(alloc, row, line)?;
         assert_eq!(rt; refusal_of(alloc, text.as_bytes()), bad_line(bad));
         assert_eq!(rt; walk(alloc, text.as_bytes()), bad_line(bad));
+        assert_eq!(rt; rest(alloc, text.as_bytes()), bad_line(bad));
     }
     Ok(())
 }
@@ -154,12 +160,14 @@ fn each_prefix_of_steady_plan(rt: HostRuntime) -> Result<(), Fail> {
     for (k, byte) in bytes.iter().enumerate() {
         assert_eq!(rt; refusal_of(alloc, &bytes[..k]), bad_line(row));
         assert_eq!(rt; walk(alloc, &bytes[..k]), bad_line(row));
+        assert_eq!(rt; rest(alloc, &bytes[..k]), bad_line(row));
         if *byte == b'\n' {
             row = row.saturating_add(1);
         }
     }
     assert_eq!(rt; refusal_of(alloc, bytes), Ok(()));
     assert_eq!(rt; walk(alloc, bytes), Ok(()));
+    assert_eq!(rt; rest(alloc, bytes), Ok(()));
     Ok(())
 }
 
