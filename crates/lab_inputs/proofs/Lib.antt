@@ -1,3 +1,4 @@
 pub mod Files
 pub mod Fits
 pub mod Steps
+pub mod Within

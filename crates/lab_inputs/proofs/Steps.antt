@@ -299,8 +299,9 @@ stops_some named meant old new (stop.File role (fault.Refused why)) x = up_to_so
 stops_some named meant old new (stop.Settings setting) x = asks_all named old new x.0
 stops_some named meant old new (stop.Budget segment) x = asks_all named old new x.0
 
-map_ok : {A B E : Type 0} (f : A → B) (o : Result A E) (y : B) → result_map f o ≡ Ok y → (x : A) × (y ≡ f x)
-map_ok f (Ok x) y e = (x, ok_same _ y (f x) e refl)
+-- what a value adds comes of a value
+pub map_ok : {A B E : Type 0} (f : A → B) (o : Result A E) (y : B) → result_map f o ≡ Ok y → (x : A) × (y ≡ f x) × (o ≡ Ok x)
+map_ok f (Ok x) y e = (x, ok_same _ y (f x) e refl, refl)
 map_ok f (Err why) y e = cc
 
 length_kept : (old new : InputValues) (n : ℕ) → new.traces ≡ old.traces → n ≡ 0 → length new.traces ≡ length old.traces + n
@@ -319,7 +320,8 @@ bytes_traces (role.TraceAt place, name) i j bytes e =
 bytes_traces (role.Certificate, name) i j bytes e = length_kept i j 0 (sym (ap (λ (v : InputValues). v.traces) (ok_same _ (with_certificate i bytes) j refl e))) refl
 bytes_traces (role.Seeks, name) i j bytes e = let x = map_ok (with_seeks i) (seeks_of bytes (segments_of i.film)) j e in length_kept i j 0 (ap (λ (v : InputValues). v.traces) x.1) refl
 
-read_ok : {A : Type 0} (o : Result A Refusal) (x : A) → read_as o ≡ Ok x → o ≡ Ok x
+-- what a reader accepts, it makes
+pub read_ok : {A : Type 0} (o : Result A Refusal) (x : A) → read_as o ≡ Ok x → o ≡ Ok x
 read_ok (Ok y) x e = let k : y ≡ x = ok_same _ y x refl e in ap Ok k
 read_ok (Err why) x e = cc
 
@@ -328,7 +330,8 @@ pub bind_ok : {A B E : Type 0} (o : Result A E) (f : A → Result B E) (y : B) �
 bind_ok (Ok x) f y e = (x, refl, e)
 bind_ok (Err why) f y e = cc
 
-role_ok : {A : Type 0} (role : Role) (o : Result A FileFault) (x : A) → at_role role o ≡ Ok x → o ≡ Ok x
+-- what no fault stops went well
+pub role_ok : {A : Type 0} (role : Role) (o : Result A FileFault) (x : A) → at_role role o ≡ Ok x → o ≡ Ok x
 role_ok role (Ok y) x e = let k : y ≡ x = ok_same _ y x refl e in ap Ok k
 role_ok role (Err why) x e = cc
 
@@ -352,7 +355,8 @@ from_traces manifest later j files e =
     let k = files_traces later (film_alone x.0) j files x.2 in
     omega (arith, k)
 
-misfit_ok : (i j : InputValues) (o : Option Setting) → unless_misfit i o ≡ Ok j → i ≡ j
+-- where no setting stops, what was read stays
+pub misfit_ok : (i j : InputValues) (o : Option Setting) → unless_misfit i o ≡ Ok j → i ≡ j
 misfit_ok i j None e = ok_same _ i j refl e
 misfit_ok i j (Some setting) e = cc
 

@@ -2,3 +2,4 @@ pub mod Refusals
 pub mod Rising
 pub mod Sizes
 pub mod Limits
+pub mod Accepted

@@ -2,3 +2,4 @@ pub mod Refusals
 pub mod Limits
 pub mod CsvLimits
 pub mod Within
+pub mod Accepted

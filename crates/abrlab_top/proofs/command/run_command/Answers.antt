@@ -7,4 +7,4 @@ use Rattle.abrlab_top.proofs.command.run_command.Goals as goal
 pub returns-in-Ok : goal.returns-in-Ok
 returns-in-Ok g c =
     ran (map string_bytes c.args.words.now) (view c.in-Ok.command) (g.F.Shelf.shelved c.args.shelf.now) (g.F.Shelf.shelved c.answer_command.new.shelf) (g.O.Sink.seen c.args.out.now) (g.O.Sink.seen c.answer_command.new.out) c.answer_command.result
-    ? ? c.answer_command.ensures
+    c.in-Ok.ensures.read c.in-Ok.ensures.limits c.answer_command.ensures
