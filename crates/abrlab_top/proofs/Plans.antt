@@ -69,7 +69,8 @@ never_spent g budget h =
 
 -- ---- the answer
 
-one_planned : (c : CommandWords) (i : InputValues) (periods : List Period) → i.traces ≡ periods ∷ [] → plan c i ≡ unless_spent c.as_certificate (task_on c i periods) (spent_on (task_on c i periods) c.budget)
+-- what `plan` answers on the one trace
+pub one_planned : (c : CommandWords) (i : InputValues) (periods : List Period) → i.traces ≡ periods ∷ [] → plan c i ≡ unless_spent c.as_certificate (task_on c i periods) (spent_on (task_on c i periods) c.budget)
 unfolding plan
 one_planned c i periods e = rw e refl
 

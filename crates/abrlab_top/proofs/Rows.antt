@@ -24,7 +24,6 @@ use Rattle.lab_inputs.proofs.Files.{asks_all, asks_none}
 use Rattle.lab_inputs.proofs.Steps.{bind_ok, lacking, named_film, ok_same, on_film, ready_traces, stops_some}
 use Rattle.abrlab_top.specs.Answer.{Answer}
 use Rattle.abrlab_top.specs.Causes.{AtTheEnd, HasCause, IsAmong, IsComplete, IsDone, IsInvalid, IsNoMemory, IsNotRead, IsOutputFailed, IsRefused, IsSpent, IsStatus, IsUsage, LeavesShelf, World, answers_to}
-use Rattle.abrlab_top.specs.Headline.{PrintsTheSession, Simulates}
 use Rattle.abrlab_top.specs.Outcome.{AreTaken, IsWritten, Outcome, answer_by, answer_of, named_files, outcome, status, stop_status, text}
 use Rattle.abrlab_top.specs.Check.{check}
 use Rattle.abrlab_top.specs.Simulate.{simulate}
@@ -80,7 +79,7 @@ stop_among : (why : Stop) (r n : ℕ) → r ≡ stop_status why → r ≡ n → 
 stop_among why r n e h = subst (λ m. IsAmong m (3 ∷ 4 ∷ 6 ∷ [])) (sym e ∙ h) (stop_is why)
 
 -- a stop has none of the other statuses
-never_stopped : {A : Type 0} (why : Stop) (r n : ℕ) → r ≡ stop_status why → r ≡ n → list_any (λ m. m == n) (3 ∷ 4 ∷ 6 ∷ []) ≡ false → A
+pub never_stopped : {A : Type 0} (why : Stop) (r n : ℕ) → r ≡ stop_status why → r ≡ n → list_any (λ m. m == n) (3 ∷ 4 ∷ 6 ∷ []) ≡ false → A
 never_stopped why r n e h k = let x = stop_among why r n e h in cc
 
 known_stop : (why : Stop) → IsAmong (stop_status why) (0 ∷ 1 ∷ 2 ∷ 3 ∷ 4 ∷ 5 ∷ 6 ∷ 9 ∷ [])
@@ -322,51 +321,6 @@ leaves_shelf words old new ending.NoMemory r h = record {
   asks = elim (h.ran.1) as (λ x. AsksSome (named_files words) old.shelf new.shelf) [ inl same ↦ asked_none words old.shelf new.shelf same.0 | inr x ↦ asked_named words x.command old.shelf new.shelf x.asked x.ends.0 ];
   whole = λ s. never_whole r 9 h.status s refl;
 }
-
--- ---- the headline
-
-simulated : (v : Verb) (c : CommandWords) (files : Files) (a : Answer) → v ≡ verb.Simulate → answer_by v c files ≡ Ok a → (i : InputValues) × (ready_of c files ≡ Ok i) × (simulate c i ≡ a)
-simulated v c files a e h =
-    let x = bind_ok (ready_of c files) (λ i. Ok (simulate c i)) a (subst (λ w. answer_by w c files ≡ Ok a) e h) in
-    (x.0, x.1, ok_same _ (simulate c x.0) a refl x.2)
-
-one_of : {A : Type 0} (xs : List A) → length xs ≡ 1 → (x : A) × (xs ≡ x ∷ [])
-one_of [] e = absurd (omega arith)
-one_of (x ∷ []) e = (x, refl)
-one_of (x ∷ y ∷ xs) e = absurd (omega arith)
-
-some_same : (o : Option CommandWords) (c d : CommandWords) → o ≡ Some c → o ≡ Some d → c ≡ d
-some_same o c d e h = cc
-
--- of a command that ended with its text whole
-prints : (c : CommandWords) (files : Files) (old new : World) (a : Answer) → IsWithinLimits c → c.verb ≡ verb.Simulate → answer_of c files ≡ Ok a → Grew old.out.written a.text new.out.written → new.err ≡ old.err → PrintsTheSession c files old new
-prints c files old new a taken v e grew same =
-    let x = simulated c.verb c files a v e in
-    let counts = subst (λ w. AreCounted w (length c.traces) (length c.rules)) v taken.counts in
-    let traces = one_of x.0.traces (ready_traces c files x.0 x.1 ∙ counts.0) in
-    let rules = one_of c.rules counts.1 in
-    record {
-      inputs = x.0;
-      read = x.1;
-      periods = traces.0;
-      one_trace = traces.1;
-      rule = rules.0;
-      one_rule = rules.1;
-      out = rw (← session_printed c x.0 traces.0 rules.0 traces.1 rules.1, x.2) grew;
-      err = same;
-    }
-
--- the headline of `simulate`
-pub simulates : (words : List Text) (old new : World) (e : Ending) (r : ℕ) → Known words old new e r → Simulates words old r new
-simulates words old new ending.Done r h c files asked v t s =
-    let a = h.ran.ends.1 files t in
-    let same : h.ran.command ≡ c = some_same _ _ _ h.ran.asked asked in
-    subst (λ d. PrintsTheSession d files old new) same (prints h.ran.command files old new a.0 h.ran.limits (ap (λ (d : CommandWords). d.verb) same ∙ v) a.1 a.3 h.told)
-simulates words old new ending.Invalid r h c files asked v t s = let k = h.status in absurd (omega arith)
-simulates words old new ending.Usage r h c files asked v t s = let k = h.status in absurd (omega arith)
-simulates words old new (ending.Stopped why) r h c files asked v t s = never_stopped why r 0 h.status s refl
-simulates words old new ending.OutputFailed r h c files asked v t s = let k = h.status in absurd (omega arith)
-simulates words old new ending.NoMemory r h c files asked v t s = let k = h.status in absurd (omega arith)
 
 -- ---- completeness
 

@@ -1,6 +1,6 @@
 //! `demo`: everything on one made case.
 
-ghost use Rattle.std.specs.Prelude.{◌≡◌, ◌∷◌, [], IfOk, codes, map};
+ghost use Rattle.std.specs.Prelude.{◌≡◌, ◌≤◌, ◌∷◌, [], IfOk, codes, map};
 ghost use Rattle.std.specs.Fmt.{decimal, signed_decimal};
 ghost use Rattle.lab_io.specs.Piece.{fields_line};
 ghost use Rattle.lab_io.specs.Shelf.{Shelved};

@@ -14,7 +14,7 @@ mod simulate;
 
 ghost use Rattle.std.specs.Prelude.{map, string_bytes};
 ghost use Rattle.abrlab_top.specs.Causes.{HasCause, IsComplete, LeavesShelf, world};
-ghost use Rattle.abrlab_top.specs.Headline.{Simulates};
+ghost use Rattle.abrlab_top.specs.Headline.{PlansTheBest, SaysYesSoundly, Simulates};
 
 use crate::command::run_command;
 use crate::ending::ending_status;
@@ -43,6 +43,14 @@ pub fn run<F: Shelf, O: Sink, E: Sink>(
     err: &mut E,
 ) -> u8
     ensures simulates { Simulates (map string_bytes words.now)
+        (world (F.shelved shelf.old) (O.seen out.old) (E.seen err.old))
+        result
+        (world (F.shelved shelf.new) (O.seen out.new) (E.seen err.new)) }
+    ensures plans { PlansTheBest (map string_bytes words.now)
+        (world (F.shelved shelf.old) (O.seen out.old) (E.seen err.old))
+        result
+        (world (F.shelved shelf.new) (O.seen out.new) (E.seen err.new)) }
+    ensures checks { SaysYesSoundly (map string_bytes words.now)
         (world (F.shelved shelf.old) (O.seen out.old) (E.seen err.old))
         result
         (world (F.shelved shelf.new) (O.seen out.new) (E.seen err.new)) }
