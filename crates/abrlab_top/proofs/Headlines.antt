@@ -193,7 +193,7 @@ yes_said c files old new v d =
       ap (check_traces c k.inputs k.certificate) (sym traces.1) ∙ k.answer in
     let yes = is_yes (verdict_of g k.certificate k.certificate.score) (ap (λ (a : Answer). a.status) said ∙ d.status) in
     let is = is_task c files k.inputs traces.0 d.limits (subst HasFilm (sym v) tt) k.read traces.1 in
-    let sure = yes_certifies g k.certificate k.certificate.score is (certificate_takes k.inputs.certificate k.certificate k.spelled).form yes in
+    let sure = yes_certifies g k.certificate k.certificate.score is (certificate_takes k.inputs.certificate k.certificate k.spelled).0 yes in
     let text : verdict_text k.certificate.score Yes ≡ d.answer.text = ap (verdict_text k.certificate.score) (sym yes) ∙ ap (λ (a : Answer). a.text) said in
     record {
       inputs = k.inputs;
