@@ -1,13 +1,17 @@
 //! `check`: the verdict on anybody's certificate.
 
-ghost use Rattle.std.specs.Prelude.{◌≡◌, length, vec_len};
+ghost use Rattle.std.specs.Prelude.{◌≡◌, None, Some, Ok, Err, length, vec_len};
 ghost use Rattle.lab_io.specs.Piece.{fields_line};
 ghost use Rattle.lab_io.specs.Sink.{Puts};
 ghost use Rattle.lab_words.specs.declared.Verb.TheVariants.{Check};
-ghost use Rattle.lab_words.specs.Command.{view};
+ghost use Rattle.lab_words.specs.Command.{CommandWords, view};
 ghost use Rattle.lab_words.specs.Limits.{IsWithinLimits};
 ghost use Rattle.lab_inputs.specs.Files.{files_of};
+ghost use Rattle.lab_inputs.specs.Inputs.{InputValues};
+ghost use Rattle.lab_inputs.specs.Settings.{misfit_of, setup_of};
 ghost use Rattle.lab_inputs.specs.Stages.{Comes, IsSound, values_of};
+ghost use Rattle.lab_model.specs.Fit.{SetupFits};
+ghost use Rattle.certificate_text.specs.Walk.{IsBegun, begun};
 ghost use Rattle.abrlab_top.specs.Check.{check, place_fields, verdict_text};
 ghost use Rattle.abrlab_top.specs.Stages.{Ends, Judges, bad_line, judged, verdict_ending};
 
@@ -51,6 +55,12 @@ fn judge_lines(
     setup: &Setup,
     lines: Lines<'_>,
 ) -> Result<Judgement, Halt>
+    requires traces { vec_len inputs.now.traces ≡ 1 }
+    requires setup { SetupFits setup.now inputs.now.manifest }
+    requires lines { IsBegun lines }
+    // It is what a command with this setup judges whose settings fit.
+    ensures { (c : CommandWords) → setup.now ≡ setup_of c → misfit_of c inputs.now.manifest ≡ None
+        → begun inputs.now.certificate.items ≡ Ok lines.entry → Judges c (values_of inputs.now) result }
 {
     let [trace] = inputs.traces.as_slice() else {
         unreachable!()
@@ -67,6 +77,8 @@ fn judge_lines(
 
 /// Why a setting that does not fit ends the command: a bad line of the certificate comes first.
 fn misfit_behind(lines: Lines<'_>, setting: Setting) -> Halt
+    ensures { (c : CommandWords) → (i : InputValues) → misfit_of c i.film ≡ Some setting
+        → begun i.certificate ≡ Ok lines.entry → Judges c i (Err result) }
 {
     match lines.read_rest() {
         Ok(()) => Halt::Stopped(Stop::Settings(setting)),

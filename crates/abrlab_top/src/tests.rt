@@ -168,5 +168,6 @@ fn start(text: &str, count: usize) -> &str {
     text.get(..count).unwrap_or(text)
 }
 
+mod check;
 mod rules;
 mod simulate;
