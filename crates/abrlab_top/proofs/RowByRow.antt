@@ -1,5 +1,5 @@
 -- What rows come to that are written one after the other, where memory may be wanting at any of them.
-use Rattle.std.proofs.Common.{◌≡◌, ℕ, ◌+◌, ◌-◌, ◌^◌, ◌<◌, ◌≤◌, ◌++◌, [], List, length, get_or, map, drop, Result, Ok, Err, refl, arith, inr, add-one, drop-cons}
+use Rattle.std.proofs.Common.{◌≡◌, ℕ, ◌+◌, ◌-◌, ◌^◌, ◌<◌, ◌≤◌, ◌++◌, [], List, length, get_or, map, drop, false, true, Result, Ok, Err, refl, arith, inr, add-one, drop-cons}
 use Rattle.std.specs.List.{flat_map}
 use Rattle.std.specs.Result.{IsErrAnd}
 use Rattle.std.proofs.lemmas.List.{drop_all}
@@ -8,9 +8,11 @@ use Rattle.lab_io.specs.declared.PutErr.TheVariants as put
 use Rattle.lab_io.specs.Sink.{Text, Seen, Puts}
 use Rattle.lab_io.proofs.Puts.{puts_failed, puts_more, puts_none}
 use Rattle.lab_words.specs.declared.NamedRule.{NamedRule}
+use Rattle.lab_words.specs.declared.Verb.{Verb}
 use Rattle.lab_words.specs.Command.{named}
 use Rattle.lab_model.specs.Rules.{RuleKind}
-use Rattle.abrlab_top.specs.Stages.{WritesRows}
+use Rattle.abrlab_top.specs.Outcome.{writes_between}
+use Rattle.abrlab_top.specs.Stages.{Writes, WritesRows}
 
 -- the sink with its count of wants at its last value, from which each value has risen
 blind : Seen → Seen
@@ -65,3 +67,9 @@ rows_from f rules i rule lt e = rw (add-one, drop-cons rules i rule, ← e) refl
 -- behind the last rule there is no row
 pub rows_end : (f : Text × RuleKind → Text) (rules : List NamedRule) (i : ℕ) → length rules ≤ i → flat_map f (map named (drop i rules)) ≡ []
 rows_end f rules i h = rw (drop_all i rules h) refl
+
+-- a command that writes row by row writes its text so
+pub writes_rows : (v : Verb) (old new : Seen) (said : Text) (r : Result (Unit {0}) PutErr) → writes_between v ≡ true → WritesRows old said r new → Writes v said old r new
+writes_rows v old new said (Ok done) b h = h.written
+writes_rows v old new said (Err put.Failed) b h = (h.written.0, record { rose = h.written.1; steady = h.steady })
+writes_rows v old new said (Err put.Memory) b h = (h.written, λ n. cc)

@@ -18,7 +18,8 @@ use Rattle.lab_words.specs.Limits.{IsRuleWithin}
 use Rattle.lab_words.specs.Rules.{spoken}
 use Rattle.lab_inputs.specs.Inputs.{InputValues}
 use Rattle.lab_inputs.specs.Settings.{setup_of}
-use Rattle.abrlab_top.specs.Compare.{bench_on, rows_of_traces, trace_rows}
+use Rattle.abrlab_top.specs.Answer.{printed}
+use Rattle.abrlab_top.specs.Compare.{bench_on, compare, rows_of_traces, trace_rows}
 use Rattle.abrlab_top.specs.Rows.{BenchValue, row_of}
 use Rattle.abrlab_top.specs.Stages.{WritesRows}
 use Rattle.abrlab_top.proofs.RowByRow.{rows_as, rows_failed, rows_more, rows_put}
@@ -53,17 +54,29 @@ trace_written c i name periods clock setup seeks b rules seen old mid new r q u 
     (rows_put old mid (fields_line (codes "trace" ∷ name ∷ [])) r line) (rows_as mid new _ _ q all rows)
 
 -- the trace at a place with its rows, and those behind it
-pub traces_from : {Z : Type 0} (c : CommandWords) (i : InputValues) (names : List (String Z)) (traces : List (List Period)) (k : ℕ) (name : String Z) (periods : List Period)
-    → k < length traces → length traces ≡ length (map string_bytes names) → name ≡ get_or names k name → periods ≡ get_or traces k periods
-    → rows_of_traces c i (map string_bytes (drop k names)) (drop k traces) ≡ trace_rows c i (string_bytes name) periods ++ rows_of_traces c i (map string_bytes (drop (k + 1) names)) (drop (k + 1) traces)
-traces_from c i names traces k name periods lt count e h =
-    let long : k < length names = let same = length-map names string_bytes in omega (arith, same, count) in
-    rw (add-one, drop-cons names k name, drop-cons traces k periods, ← e, ← h) refl
+pub traces_from : {Z : Type 0} (c : CommandWords) (i : InputValues) (names : List (String Z)) (traces seen : List (List Period)) (k : ℕ) (name : String Z) (text : Text) (periods : List Period)
+    → seen ≡ traces → k < length seen → length seen ≡ length (map string_bytes names) → name ≡ get_or names k name → text ≡ string_bytes name → periods ≡ get_or seen k periods
+    → rows_of_traces c i (map string_bytes (drop k names)) (drop k traces) ≡ trace_rows c i text periods ++ rows_of_traces c i (map string_bytes (drop (k + 1) names)) (drop (k + 1) traces)
+traces_from c i names traces seen k name text periods same lt count e spelled h =
+    let low : k < length traces = subst (λ x. k < length x) same lt in
+    let long : k < length names = let mapped = length-map names string_bytes in omega (arith, mapped, count, lt) in
+    let here : periods ≡ get_or traces k periods = subst (λ x. periods ≡ get_or x k periods) same h in
+    rw (add-one, drop-cons names k name, drop-cons traces k periods, ← e, ← here, spelled) refl
 
 -- behind the last trace there is no row
-pub traces_end : (c : CommandWords) (i : InputValues) (names : List Text) (traces : List (List Period)) (k : ℕ) → length traces ≤ k → rows_of_traces c i names (drop k traces) ≡ []
-traces_end c i names traces k h = rw (drop_all k traces h) (none names)
+pub traces_end : (c : CommandWords) (i : InputValues) (names : List Text) (traces seen : List (List Period)) (k : ℕ) → seen ≡ traces → length seen ≤ k → rows_of_traces c i names (drop k traces) ≡ []
+traces_end c i names traces seen k same h = let high : length traces ≤ k = subst (λ x. length x ≤ k) same h in rw (drop_all k traces high) (none names)
   where
     none : (names : List Text) → rows_of_traces c i names [] ≡ []
     none [] = refl
     none (name ∷ names) = refl
+
+-- `compare` prints these rows
+pub compared : (c : CommandWords) (i : InputValues) → (compare c i).text ≡ rows_of_traces c i c.traces i.traces
+unfolding compare
+compared c i = refl
+
+-- and answers with them
+pub compare_printed : (c : CommandWords) (i : InputValues) → compare c i ≡ printed (compare c i).text
+unfolding compare
+compare_printed c i = refl
