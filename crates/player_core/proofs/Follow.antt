@@ -202,7 +202,7 @@ take_of c is t (Some r) runs timed =
     record {
       credit = omega (arith, credit, credit_is);
       left = omega (arith, left, left_is, size);
-      begins = λ none. spent_when c is t d runs none ∙ ap (λ (m : ℕ). eqb t m) (sym timed);
+      begins = λ none. spent_when c is t d runs none ∙ ap (λ (m : ℕ). eqb t m) (sym timed.0);
     }
 
 pub take_ready : (c : Case) → IsCase c → (n from : ℕ) (p : Player) (b : Body) → Now c n from p b → IfSome b.download (CanTake c.periods b.t)

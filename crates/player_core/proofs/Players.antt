@@ -13,6 +13,7 @@ use Rattle.player_core.specs.Session.{ends_at, player_after}
 use Rattle.player_core.specs.Sound.{IsCase, IsOf, Sound}
 use Rattle.player_core.proofs.Counts.{seeks_most, turns_now}
 use Rattle.player_core.proofs.Soundness.{IsOpen, abandon_open, abandon_sound, arrival_open, arrival_sound, finish_open, finish_sound, pass_sound, request_open, request_sound, seek_open, seek_sound}
+pub use Rattle.player_core.specs.Parts.{gone_on, stopped}
 
 -- ---- the start
 
@@ -90,14 +91,6 @@ module _ (c : Case) where
   pass_t p = ap (λ n. n + 1) (passes_t (record p { download = option_map (takes c p.t) p.download }) p.mode)
 
 -- ---- the parts of an instant, one after the other
-
--- the player after the arrival and the end
-abbrev pub stopped : Case → Player → Player
-stopped c p = finish c (arrival c p)
-
--- the player after the other parts
-abbrev pub gone_on : Case → Player → Player
-gone_on c r = request c (seek c (abandon c r))
 
 pub stopped_t : (c : Case) (p : Player) → (stopped c p).t ≡ p.t
 stopped_t c p = finish_t c (arrival c p) ∙ arrives_t c p p.download

@@ -1,14 +1,17 @@
 -- Not part of the model: what the proofs keep.
 -- What the values of the player's code stand for.
-use Rattle.std.specs.Prelude.{◌≡◌, ℕ, List, [], ◌≤◌, ◌==◌, Option, None, IfSome, option_map}
+use Rattle.std.specs.Prelude.{◌≡◌, ℕ, ◌+◌, ◌-◌, ◌*◌, ◌<◌, ◌≤◌, ◌==◌, ◌⊎◌, List, [], true, Option, None, IfSome, option_map}
 use Rattle.lab_model.specs.declared.trace.Period.{Period}
-use Rattle.lab_model.specs.Film.{Film, size_of}
-use Rattle.network_clock.specs.Network.{first_at, is_spent}
+use Rattle.lab_model.specs.declared.setup.Setup.{Setup}
+use Rattle.lab_model.specs.Film.{Film, segments_of, size_of}
+use Rattle.network_clock.specs.Network.{done_at, first_at, is_spent}
 use Rattle.player_core.specs.declared.body.Running.{Running}
 use Rattle.player_core.specs.declared.body.Body.{Body}
 use Rattle.player_core.specs.declared.body.Phase.{Phase}
 use Rattle.player_core.specs.declared.body.Phase.TheVariants as phase
 use Rattle.player_core.specs.State.{Case, Download, Mode, Player, starting, playing, seeking, ended}
+use Rattle.player_core.specs.Available.{available_at}
+use Rattle.player_core.specs.Parts.{gone_on, is_playing}
 use Rattle.player_core.specs.Sound.{Sound}
 
 -- the download that a running one stands for
@@ -49,16 +52,37 @@ seen b history = record {
 abbrev pub Follows : (Player → Player) → Body → Body → Type 0
 Follows part old new = (history : List ℕ) → seen new (part (seen old history)).history ≡ part (seen old history)
 
+-- the body before and after stand for players of which the second is the first after those parts, with this history
+abbrev pub GoesOn : Case → List ℕ → Body → Body → Type 0
+GoesOn c history old new = seen new (gone_on c (seen old history)).history ≡ gone_on c (seen old history)
+
 -- the body stands for a sound player
 abbrev pub IsSound : Case → ℕ → Body → Type 0
 IsSound c from b = Sound c from (seen b [])
 
--- a running download of some film and network knows when its bits begin
+-- a running download of some film and network knows when its bits begin and when it is done
 abbrev pub IsTimed : Film → List Period → Option Running → Type 0
-IsTimed f periods download = IfSome download (λ r. r.begins ≡ first_at periods r.asked (size_of f r.segment r.rung))
+IsTimed f periods download = IfSome download (λ r.
+    (r.begins ≡ first_at periods r.asked (size_of f r.segment r.rung)) × (r.done ≡ done_at periods r.asked (size_of f r.segment r.rung)))
 
 -- a running download can take its network millisecond
 pub record CanTake (periods : List Period) (t : ℕ) (r : Running) : Type 0 where
   pub credit : r.job.credit ≤ 100000000
   pub left : r.job.left ≤ 200000000000
   pub begins : r.first ≡ None → is_spent periods t r.job ≡ (t == r.begins)
+
+-- the milliseconds can be counted in which nothing happens to a body
+pub record CanRest (f : Film) (set : Setup) (ahead : ℕ) (b : Body) : Type 0 where
+  pub position : b.x ≤ b.y
+  pub end : b.y ≤ 120000000
+  pub instant : b.t < 1000000000000000
+  pub runs : IfSome b.download (λ r. (r.asked ≤ b.t) × (b.t < r.done) × (r.done ≤ r.asked + 300010000))
+  pub waits : b.download ≡ None → b.k < segments_of f → (set.buffer_ms < b.y - b.x + f.seg_ms) ⊎ (b.t < available_at f ahead b.k)
+
+-- so many milliseconds can pass at once
+pub record CanGlide (b : Body) (ms : ℕ) : Type 0 where
+  pub end : b.y ≤ 120000000
+  pub instant : b.t + ms ≤ 2000000000000000
+  pub times : b.startup_ms + b.stall_ms + b.seek_ms ≤ b.t
+  pub moves : is_playing (mode_of b.phase) ≡ true → b.x < b.y → b.x + ms ≤ b.y
+  pub jobs : IfSome b.download (λ r. (r.job.credit ≤ 100000000) × (r.job.left ≤ 200000000000))

@@ -16,13 +16,15 @@ use network_clock::{Clock, Job};
 use std::alloc::Global;
 use std::collections::VecDeque;
 
-/// A running download: what was asked for and when, when its bits begin, what is left of it, and the first instant spent on bits, if any.
+/// A running download: what was asked for and when, when its bits begin and when it is done, what is left of it, and the first instant
+/// spent on bits, if any.
 #[derive(Clone, Copy)]
 pub struct Running {
     pub segment: u16,
     pub rung: u8,
     pub asked: u64,
     pub begins: u64,
+    pub done: u64,
     pub job: Job,
     pub first: Option<u64>,
 }
@@ -104,7 +106,7 @@ impl Phase {
         }
     }
 
-    fn is_playing(self) -> bool
+    pub fn is_playing(self) -> bool
         ensures { result ≡ is_playing (mode_of self) }
     {
         matches!(self, Phase::Playing)
@@ -175,8 +177,44 @@ impl Body {
         Ok(())
     }
 
+    /// What an instant begins with: the arrival, and then the end.
+    pub fn stop<T: Rule>(&mut self, m: &Manifest, rule: &mut T) -> Result<(), NoMemory>
+        requires ready { IfSome self.old.download (λ d. d.job.left ≡ 0 → CanLoad m.now (seen self.old []) (download_of d)) }
+        ensures kind { T.kind rule.new ≡ T.kind rule.old }
+        ensures stops { IfOk result (λ _. (c : Case) → c.film ≡ m.now → Follows (stopped c) self.old self.new) }
+        ensures told { IfOk result (λ _. (c : Case) → c.film ≡ m.now → (history : List ℕ) → T.stands_for rule.old history → T.stands_for rule.new (stopped c (seen self.old history)).history) }
+        ensures timed { IfOk result (λ _. (f : Film) (ps : List Period) → IsTimed f ps self.old.download → IsTimed f ps self.new.download) }
+    {
+        self.arrive(m, rule)?;
+        self.finish(m)
+    }
+
+    /// What an instant does where the session goes on: abandonment, seek and request.
+    pub fn go_on<T: Rule>(
+        &mut self,
+        m: &Manifest,
+        clock: &Clock,
+        set: &Setup,
+        seeks: &[Seek],
+        ahead: u32,
+        rule: &mut T,
+    ) -> Result<(), NoMemory>
+        requires case { IsCase (case_of m.now clock.now set.now seeks.now ahead (T.kind rule.old)) }
+        requires sound { Sound (case_of m.now clock.now set.now seeks.now ahead (T.kind rule.old)) self.old.t (seen self.old []) }
+        requires instant { self.old.t < 1000000000000000 }
+        requires timed { IsTimed m.now clock.now self.old.download }
+        ensures kind { T.kind rule.new ≡ T.kind rule.old }
+        ensures goes { IfOk result (λ _. (history : List ℕ) → T.stands_for rule.old history → GoesOn (case_of m.now clock.now set.now seeks.now ahead (T.kind rule.old)) history self.old self.new) }
+        ensures told { IfOk result (λ _. (history : List ℕ) → T.stands_for rule.old history → T.stands_for rule.new (gone_on (case_of m.now clock.now set.now seeks.now ahead (T.kind rule.old)) (seen self.old history)).history) }
+        ensures timed { IfOk result (λ _. IsTimed m.now clock.now self.new.download) }
+    {
+        self.abandon(m, set, rule)?;
+        self.seek(m, seeks)?;
+        self.request(m, clock, set, ahead, rule)
+    }
+
     /// 1. Arrival: a download of which nothing is left.
-    pub fn arrive<T: Rule>(&mut self, m: &Manifest, rule: &mut T) -> Result<(), NoMemory>
+    fn arrive<T: Rule>(&mut self, m: &Manifest, rule: &mut T) -> Result<(), NoMemory>
         requires ready { IfSome self.old.download (λ d. d.job.left ≡ 0 → CanLoad m.now (seen self.old []) (download_of d)) }
         ensures kind { T.kind rule.new ≡ T.kind rule.old }
         ensures arrives { IfOk result (λ _. (c : Case) → c.film ≡ m.now → Follows (arrival c) self.old self.new) }
@@ -190,7 +228,7 @@ impl Body {
     }
 
     /// 2. End: all is played.
-    pub fn finish(&mut self, m: &Manifest) -> Result<(), NoMemory>
+    fn finish(&mut self, m: &Manifest) -> Result<(), NoMemory>
         ensures follows { IfOk result (λ _. (c : Case) → c.film ≡ m.now → Follows (finish c) self.old self.new) }
         ensures timed { IfOk result (λ _. (f : Film) (ps : List Period) → IsTimed f ps self.old.download → IsTimed f ps self.new.download) }
     {
@@ -248,12 +286,7 @@ impl Body {
     }
 
     /// 3. Abandonment: where the setup allows it, by the abandonment test.
-    pub fn abandon<T: Rule>(
-        &mut self,
-        m: &Manifest,
-        set: &Setup,
-        rule: &mut T,
-    ) -> Result<(), NoMemory>
+    fn abandon<T: Rule>(&mut self, m: &Manifest, set: &Setup, rule: &mut T) -> Result<(), NoMemory>
         requires judge { IfSome self.old.download (λ d. CanJudge m.now (seen self.old []) (download_of d)) }
         requires wasted { self.old.wasted ≤ 1000000000000000 }
         ensures kind { T.kind rule.new ≡ T.kind rule.old }
@@ -289,7 +322,7 @@ impl Body {
     }
 
     /// 4. Seek.
-    pub fn seek(&mut self, m: &Manifest, seeks: &[Seek]) -> Result<(), NoMemory>
+    fn seek(&mut self, m: &Manifest, seeks: &[Seek]) -> Result<(), NoMemory>
         requires running { IfSome self.old.download (λ d. (d.segment < segments_of m.now) × (d.rung < rungs_of m.now)) }
         requires loaded { All (IsOf m.now) self.old.loaded.items }
         requires room { length self.old.loaded.items ≤ 2000 }
@@ -371,15 +404,14 @@ impl Body {
             segment: self.k,
             rung,
         })?;
+        let landing = clock.finish(self.t, bits);
         self.download = Some(Running {
             segment: self.k,
             rung,
             asked: self.t,
-            begins: clock.finish(self.t, bits).first,
-            job: Job {
-                credit: 100_000_000,
-                left: 1000 * bits as u64,
-            },
+            begins: landing.first,
+            done: landing.done,
+            job: Job::start(bits),
             first: None,
         });
         self.forced = None;
@@ -406,7 +438,7 @@ impl Body {
     }
 
     /// 5. Request.
-    pub fn request<T: Rule>(
+    fn request<T: Rule>(
         &mut self,
         m: &Manifest,
         clock: &Clock,
@@ -544,15 +576,12 @@ fn take_ms(clock: &Clock, t: u64, d: &Running) -> Running
     requires left { d.now.job.left ≤ 200000000000 }
     requires begins { d.now.first ≡ None → is_spent clock.now t d.now.job ≡ (t == d.now.begins) }
     ensures takes { (c : Case) → c.periods ≡ clock.now → download_of result ≡ takes c t (download_of d.now) }
-    ensures same { (result.begins ≡ d.now.begins) × (result.asked ≡ d.now.asked) × (result.segment ≡ d.now.segment) × (result.rung ≡ d.now.rung) }
+    ensures same { (result.begins ≡ d.now.begins) × (result.done ≡ d.now.done) × (result.asked ≡ d.now.asked) × (result.segment ≡ d.now.segment) × (result.rung ≡ d.now.rung) }
 {
     Running {
         job: clock.advance(d.job, t, t + 1),
         first: first_after(t, d),
-        segment: d.segment,
-        rung: d.rung,
-        asked: d.asked,
-        begins: d.begins,
+        ..*d
     }
 }
 
@@ -614,3 +643,7 @@ ghost use Rattle.abandonment.specs.Test.{abandonment};
 ghost use Rattle.player_core.specs.State.{first_player};
 ghost use Rattle.player_core.specs.Parts.{abandon, gives_up, is_playing, progress_of};
 ghost use Rattle.player_core.specs.Ready.{CanJudge, CanLoad};
+ghost use Rattle.player_core.specs.State.{case_of};
+ghost use Rattle.player_core.specs.Sound.{Sound};
+ghost use Rattle.player_core.specs.Parts.{gone_on, stopped};
+ghost use Rattle.player_core.specs.Seen.{GoesOn};

@@ -3,6 +3,7 @@
 
 mod body;
 mod player;
+mod quiet;
 mod rules;
 mod session;
 

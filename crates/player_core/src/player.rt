@@ -47,7 +47,7 @@ pub fn seeks_fit(seeks: &[Seek], m: &Manifest) -> bool
 }
 
 /// An instant, in milliseconds, before which every session within the limits ends.
-const LATEST_MS: u64 = 1_000_000_000_000_000;
+pub const LATEST_MS: u64 = 1_000_000_000_000_000;
 
 /// The session of a film of which `ahead` milliseconds of media are there at instant 0.
 pub fn play_from<T: Rule + Drop>(
@@ -74,16 +74,15 @@ pub fn play_from<T: Rule + Drop>(
     prove!(!clock.periods().is_empty());
     let mut body = Body::new(alloc);
     let mut rule = rule;
-    for _t in 0..LATEST_MS {
-        body.arrive(m, &mut rule)?;
-        body.finish(m)?;
+    for _turn in 0..LATEST_MS {
+        body.stop(m, &mut rule)?;
         if body.phase.is_ended() {
             return Ok(body.into_session());
         }
-        body.abandon(m, set, &mut rule)?;
-        body.seek(m, seeks)?;
-        body.request(m, clock, set, ahead, &rule)?;
+        body.go_on(m, clock, set, seeks, ahead, &mut rule)?;
+        let quiet = body.quiet_ms(m, set, seeks, ahead);
         body.pass(m, clock)?;
+        body.glide(clock, quiet - 1);
     }
     unreachable!()
 }
