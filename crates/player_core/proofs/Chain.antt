@@ -1,52 +1,164 @@
 -- The parts of a turn, one after the other, with what is true after each.
-use Rattle.std.proofs.Common.{◌≡◌, ◌∙◌, ℕ, ◌+◌, ◌<◌, ◌≤◌, List, length, true, false, sym, ap, subst, arith}
+use Rattle.std.proofs.Common.{◌≡◌, ◌∙◌, ℕ, ◌+◌, ◌-◌, ◌<◌, ◌≤◌, List, [], length, true, false, refl, sym, ap, subst, ⊎_elim, arith}
+use Rattle.std.proofs.lemmas.Bool.{cases_lt, true≢false}
 use Rattle.std.specs.List.{All}
 use Rattle.lab_model.specs.Film.{rungs_of, segments_of}
 use Rattle.player_core.specs.declared.body.Body.{Body}
 use Rattle.player_core.specs.declared.session.Session.{Session}
 use Rattle.player_core.specs.State.{Case, Player}
-use Rattle.player_core.specs.Parts.{abandon, arrival, finish, is_ended, request, seek}
+use Rattle.player_core.specs.Parts.{abandon, gone_on, instant, is_ended, is_playing, pass_ms, request, seek, seek_at, stopped}
 use Rattle.player_core.specs.Session.{Shown, end_of, ends_at, latest_ms, player_after, session_of, shown, shown_by}
-use Rattle.player_core.specs.Sound.{IsCase}
-use Rattle.player_core.specs.Seen.{IsTimed, seen}
+use Rattle.player_core.specs.Sound.{IsCase, Sound}
+use Rattle.player_core.specs.Quiet.{IsQuiet, glides}
+use Rattle.player_core.specs.Seen.{CanGlide, CanRest, Follows, GoesOn, IsTimed, Step, mode_of, seen}
 use Rattle.player_core.proofs.Bounds.{last_count, last_rungs, last_times}
-use Rattle.player_core.proofs.Ends.{end_early, last_t}
-use Rattle.player_core.proofs.Follow.{Now, Step, now_step}
-use Rattle.player_core.proofs.Players.{abandon_t, arrives_t, finish_t, player_sound, request_t, seeks_t, sought_sound, stopped}
-use Rattle.player_core.proofs.Soundness.{abandon_sound, arrival_sound, finish_sound, request_sound}
-use Rattle.player_core.specs.Parts.{seek_at}
-use Rattle.player_core.proofs.Turned.{last_is}
+use Rattle.player_core.proofs.Ends.{end_early, last_t, sessions_end}
+use Rattle.player_core.proofs.Follow.{Now, any_history, body_instant, body_sound, glide_ready, now_step, rest_ready}
+use Rattle.player_core.proofs.Players.{abandon_t, gone_on_open, gone_on_sound, gone_on_t, instant_goes, pass_t, player_sound, seeks_t, sought_sound, stopped_open, stopped_sound, stopped_t}
+use Rattle.player_core.proofs.Soundness.{IsOpen, abandon_sound, pass_sound}
+use Rattle.player_core.proofs.Stretch.{next_ahead, pass_next, stretch}
+use Rattle.player_core.proofs.Turned.{gone_goes, last_is, pass_told, request_told, seek_told, turn_goes}
+use Rattle.player_core.proofs.Waits.{IsStill, instant_still}
 
-module _ (c : Case) (is : IsCase c) (n : ℕ) where
-  pub now_top : (b : Body) → ((k : ℕ) → k < n → ends_at c k ≡ false) → seen b (player_after c n).history ≡ player_after c n → IsTimed c.film c.periods b.download
-      → Now c n n (player_after c n) b
-  now_top b going same timed = let sound = player_sound c is n going in record { sound = sound.0; instant = sound.1; same = same; timed = timed }
+-- ---- the parts of an instant that goes on
 
-  pub now_arrived : (p : Player) (old new : Body) → Now c n n p old → Step (arrival c) old new → Now c n n (arrival c p) new
-  now_arrived p old new now step = now_step c n n n (arrival c) p old new now step (arrival_sound c n p now.sound) (arrives_t c p p.download ∙ now.instant)
+-- what the parts of an instant need that goes on, and what a part has made of it
+module _ (c : Case) (is : IsCase c) (b : Body) (sound : Sound c b.t (seen b [])) (timed : IsTimed c.film c.periods b.download) (a : Body) (given : (k : Case) → k.film ≡ c.film → k.setup ≡ c.setup → Step (abandon k) b a) where
+  now_given : (h : List ℕ) → Now c b.t b.t (abandon c (seen b h)) a
+  now_given h =
+      let top : Now c b.t b.t (seen b h) b = record { sound = any_history c b.t b [] h sound; instant = refl; same = refl; timed = timed } in
+      now_step c b.t b.t b.t (abandon c) (seen b h) b a top (given c refl refl) (abandon_sound c is b.t (seen b h) top.sound) (abandon_t c (seen b h))
 
-  pub now_finished : (p : Player) (old new : Body) → Now c n n p old → Step (finish c) old new → Now c n n (finish c p) new
-  now_finished p old new now step = now_step c n n n (finish c) p old new now step (finish_sound c n p now.sound) (finish_t c p ∙ now.instant)
+  pub sound_given : Sound c b.t (seen a [])
+  sound_given = body_sound c b.t b.t (abandon c (seen b [])) a (now_given [])
 
-  pub now_abandoned : (p : Player) (old new : Body) → Now c n n p old → Step (abandon c) old new → Now c n n (abandon c p) new
-  now_abandoned p old new now step = now_step c n n n (abandon c) p old new now step (abandon_sound c is n p now.sound) (abandon_t c p ∙ now.instant)
+  -- a seek and a request tell the rule nothing
+  told_left : (h : List ℕ) (told : List ℕ → Type 0) → ((k : Case) → k.film ≡ c.film → k.setup ≡ c.setup → told (abandon k (seen b h)).history) → told (seek c (abandon c (seen b h))).history
+  told_left h told here = subst told (sym (seek_told c (abandon c (seen b h)))) (here c refl refl)
 
-  pub now_sought : (p : Player) (old new : Body) → Now c n n p old → Step (seek c) old new → Now c n (n + 1) (seek c p) new
-  now_sought p old new now step = now_step c n n (n + 1) (seek c) p old new now step (sought_sound c is n p now.instant now.sound) (seeks_t c p (seek_at c.seeks p.t) ∙ now.instant)
+  pub goes_on_told : (h : List ℕ) (told : List ℕ → Type 0) → ((k : Case) → k.film ≡ c.film → k.setup ≡ c.setup → told (abandon k (seen b h)).history) → told (gone_on c (seen b h)).history
+  goes_on_told h told here = subst told (sym (request_told c (seek c (abandon c (seen b h))))) (told_left h told here)
 
-  pub now_asked : (p : Player) (old new : Body) → Now c n (n + 1) p old → seen new p.history ≡ request c (seen old p.history) → (IsTimed c.film c.periods old.download → IsTimed c.film c.periods new.download)
-      → (request c p).history ≡ p.history → Now c n (n + 1) (request c p) new
-  now_asked p old new now asked timed told = record {
-    sound = request_sound c is (n + 1) p now.sound;
-    instant = request_t c p ∙ now.instant;
-    same = ap (seen new) told ∙ asked ∙ ap (request c) now.same;
-    timed = timed now.timed;
-  }
+  module _ (s : Body) (sought : (k : Case) → k.film ≡ c.film → k.seeks ≡ c.seeks → Step (seek k) a s) where
+    pub now_left : (h : List ℕ) → Now c b.t (b.t + 1) (seek c (abandon c (seen b h))) s
+    now_left h =
+        let p = abandon c (seen b h) in
+        let now = now_given h in
+        now_step c b.t b.t (b.t + 1) (seek c) p a s now (sought c refl refl) (sought_sound c is b.t p now.instant now.sound) (seeks_t c p (seek_at c.seeks p.t) ∙ now.instant)
+
+    -- a request follows
+    pub goes_on_same : (r : Body) (h : List ℕ) → (told : List ℕ → Type 0)
+        → ((k : Case) (g : List ℕ) → k.film ≡ c.film → k.setup ≡ c.setup → k.ahead ≡ c.ahead → k.rule ≡ c.rule → told g → seen r g ≡ request k (seen s g))
+        → ((k : Case) → k.film ≡ c.film → k.setup ≡ c.setup → told (abandon k (seen b h)).history) → GoesOn c h b r
+    goes_on_same r h told asked here =
+        let p = abandon c (seen b h) in
+        ap (seen r) (request_told c (seek c p)) ∙ asked c (seek c p).history refl refl refl refl (told_left h told here) ∙ ap (request c) (now_left h).same
+
+-- ---- a turn of the loop
+
+-- the body stands for the player of a session that did not end before its instant
+pub record StandsAt (c : Case) (b : Body) : Type 0 where
+  pub same : seen b (player_after c b.t).history ≡ player_after c b.t
+  pub timed : IsTimed c.film c.periods b.download
+  pub going : (k : ℕ) → k < b.t → ends_at c k ≡ false
+
+-- at the top of the turn, and after the arrival and the end
+module _ (c : Case) (is : IsCase c) (b : Body) (here : StandsAt c b) where
+  pub at_top : Now c b.t b.t (player_after c b.t) b
+  at_top = let sound = player_sound c is b.t here.going in record { sound = sound.0; instant = sound.1; same = here.same; timed = here.timed }
+
+  pub at_early : b.t < latest_ms
+  at_early =
+      let last = sessions_end c is in
+      let early = last.1 in
+      ⊎_elim (λ (past : last.0 < b.t). absurd (true≢false (sym last.2 ∙ here.going last.0 past))) (λ (before : b.t ≤ last.0). omega (arith, before, early)) (cases_lt last.0 b.t)
+
+  pub at_stop : (s : Body) → ((k : Case) → k.film ≡ c.film → Step (stopped k) b s) → Now c b.t b.t (stopped c (player_after c b.t)) s
+  at_stop s stop =
+      let p = player_after c b.t in
+      let top = at_top in
+      now_step c b.t b.t b.t (stopped c) p b s top (stop c refl) (stopped_sound c b.t p top.sound) (stopped_t c p ∙ top.instant)
 
   -- the session that the body shows where it has ended
-  pub session_is : (b : Body) (s : Session) → n < latest_ms → ((k : ℕ) → k < n → ends_at c k ≡ false) → Now c n n (stopped c (player_after c n)) b
-      → is_ended (stopped c (player_after c n)).mode ≡ true → ((h : List ℕ) → shown s ≡ shown_by (seen b h)) → shown s ≡ session_of c
-  session_is b s low going now ended shows = shows (stopped c (player_after c n)).history ∙ ap shown_by now.same ∙ ap shown_by (sym (last_is c is n low going ended))
+  pub session_is : (s : Body) (e : Session) → Now c b.t b.t (stopped c (player_after c b.t)) s → is_ended (mode_of s.phase) ≡ true → ((h : List ℕ) → shown e ≡ shown_by (seen s h)) → shown e ≡ session_of c
+  session_is s e now ended shows =
+      let over = sym (ap (λ (q : Player). is_ended q.mode) now.same) ∙ ended in
+      shows (stopped c (player_after c b.t)).history ∙ ap shown_by now.same ∙ ap shown_by (sym (last_is c is b.t at_early here.going over))
+
+-- what stands at the end of the turn: after the other parts, a millisecond later, and after the stretch
+module _ (c : Case) (is : IsCase c) (b : Body) (here : StandsAt c b) (s : Body) (stop : Now c b.t b.t (stopped c (player_after c b.t)) s) (on : is_ended (mode_of s.phase) ≡ false) (a : Body)
+    (gone : GoesOn c (stopped c (player_after c b.t)).history s a) (timed : IsTimed c.film c.periods a.download) where
+  -- the player after the parts
+  abbrev left : Player
+  left = gone_on c (stopped c (player_after c b.t))
+
+  goes : is_ended (stopped c (player_after c b.t)).mode ≡ false
+  goes = sym (ap (λ (q : Player). is_ended q.mode) stop.same) ∙ on
+
+  left_is : instant c (player_after c b.t) ≡ left
+  left_is = instant_goes c (player_after c b.t) goes
+
+  left_goes : is_ended left.mode ≡ false
+  left_goes = gone_goes c (stopped c (player_after c b.t)) goes
+
+  left_open : IsOpen left
+  left_open = let p = stopped c (player_after c b.t) in gone_on_open c is b.t p stop.instant stop.sound (stopped_open c (player_after c b.t))
+
+  left_still : IsStill c left
+  left_still = subst (IsStill c) left_is (instant_still c (player_after c b.t) (turn_goes c b.t goes))
+
+  pub at_left : Now c b.t (b.t + 1) left a
+  at_left =
+      let p = stopped c (player_after c b.t) in
+      record {
+        sound = gone_on_sound c is b.t p stop.instant stop.sound;
+        instant = gone_on_t c p ∙ stop.instant;
+        same = subst (λ (q : Player). seen a (gone_on c q).history ≡ gone_on c q) stop.same gone;
+        timed = timed;
+      }
+
+  pub at_rest : CanRest c.film c.setup c.ahead a
+  at_rest = rest_ready c is b.t (b.t + 1) left a (at_early c is b here) at_left left_open left_still
+
+  module _ (q : Body) (passes : (k : Case) → k.film ≡ c.film → k.periods ≡ c.periods → Follows (pass_ms k) a q) (on_time : IsTimed c.film c.periods q.download) where
+    at_next : Now c (b.t + 1) (b.t + 1) (pass_ms c left) q
+    at_next =
+        let now = at_left in
+        record {
+          sound = pass_sound c is (b.t + 1) left now.sound left_open left_goes;
+          instant = pass_t c left ∙ ap (λ k. k + 1) now.instant;
+          same = subst (λ (p : Player). seen q (pass_ms c p).history ≡ pass_ms c p) now.same (passes c refl refl left.history);
+          timed = on_time;
+        }
+
+    module _ (ms : ℕ) (few : ms ≤ 1000000000000000) (quiet : (k : Case) (h : List ℕ) → k.film ≡ c.film → k.setup ≡ c.setup → k.seeks ≡ c.seeks → k.ahead ≡ c.ahead → IsTimed k.film k.periods a.download → IsQuiet k (seen a h) ms) where
+      left_quiet : IsQuiet c left ms
+      left_quiet = subst (λ p. IsQuiet c p ms) at_left.same (quiet c left.history refl refl refl refl timed)
+
+      pub at_glide : CanGlide q (ms - 1)
+      at_glide =
+          let early = at_early c is b here in
+          glide_ready c is (b.t + 1) (b.t + 1) (ms - 1) (pass_ms c left) q (omega (arith, early)) (omega (arith, few)) at_next
+          (next_ahead c is (b.t + 1) left (pass_ms c left) ms at_left.sound left_goes left_still left_quiet (pass_next c left left_goes))
+
+      -- and the history is the one that the rule was told
+      pub at_end : (r : Body) → ((k : Case) → k.periods ≡ c.periods → IsTimed k.film k.periods q.download → Follows (glides k (ms - 1)) q r) → r.t ≡ q.t + (ms - 1) → IsTimed c.film c.periods r.download
+          → StandsAt c r × (b.t < r.t) × ((player_after c r.t).history ≡ left.history)
+      at_end r glide t in_time =
+          let some = left_quiet.some in
+          let next = body_instant c (b.t + 1) (b.t + 1) (pass_ms c left) q at_next in
+          let there : b.t + ms ≡ r.t = omega (arith, some, next, t) in
+          let law = stretch c is b.t ms here.going (turn_goes c b.t goes) (subst (λ p. IsQuiet c p ms) (sym left_is) left_quiet) in
+          let same : player_after c r.t ≡ glides c (ms - 1) (pass_ms c left) = ap (player_after c) (sym there) ∙ law.1 ∙ ap (λ p. glides c (ms - 1) (pass_ms c p)) left_is in
+          let seen_there = subst (λ (p : Player). seen r (glides c (ms - 1) p).history ≡ glides c (ms - 1) p) at_next.same (glide c refl on_time (pass_ms c left).history) in (
+            record {
+              same = subst (λ (p : Player). seen r p.history ≡ p) (sym same) seen_there;
+              timed = in_time;
+              going = λ k low. law.0 k (omega (arith, low, there));
+            },
+            omega (arith, some, next, t),
+            ap (λ (p : Player). p.history) same ∙ pass_told c left,
+          )
 
 -- what a session that is the model's keeps
 module _ (c : Case) (is : IsCase c) (s : Session) (e : shown s ≡ session_of c) where

@@ -116,10 +116,10 @@ gone_on_open c is t r e h some =
 
 -- ---- the whole instant
 
-instant_ended : (c : Case) (p : Player) → is_ended (stopped c p).mode ≡ true → instant c p ≡ stopped c p
+pub instant_ended : (c : Case) (p : Player) → is_ended (stopped c p).mode ≡ true → instant c p ≡ stopped c p
 instant_ended c p e = cond-true (is_ended (stopped c p).mode) (stopped c p) (gone_on c (stopped c p)) e
 
-instant_goes : (c : Case) (p : Player) → is_ended (stopped c p).mode ≡ false → instant c p ≡ gone_on c (stopped c p)
+pub instant_goes : (c : Case) (p : Player) → is_ended (stopped c p).mode ≡ false → instant c p ≡ gone_on c (stopped c p)
 instant_goes c p e = cond-false (is_ended (stopped c p).mode) (stopped c p) (gone_on c (stopped c p)) e
 
 pub instant_t : (c : Case) (p : Player) → (instant c p).t ≡ p.t

@@ -65,6 +65,11 @@ abbrev pub IsTimed : Film → List Period → Option Running → Type 0
 IsTimed f periods download = IfSome download (λ r.
     (r.begins ≡ first_at periods r.asked (size_of f r.segment r.rung)) × (r.done ≡ done_at periods r.asked (size_of f r.segment r.rung)))
 
+-- the body went through this part of an instant, and a running download still knows its instants
+pub record Step (part : Player → Player) (old new : Body) : Type 0 where
+  pub follows : Follows part old new
+  pub timed : (f : Film) (ps : List Period) → IsTimed f ps old.download → IsTimed f ps new.download
+
 -- a running download can take its network millisecond
 pub record CanTake (periods : List Period) (t : ℕ) (r : Running) : Type 0 where
   pub credit : r.job.credit ≤ 100000000

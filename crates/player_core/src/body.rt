@@ -6,7 +6,7 @@ ghost use Rattle.lab_model.specs.Film.{Film, rungs_of, segments_of, size_of};
 ghost use Rattle.player_core.specs.State.{Case};
 ghost use Rattle.player_core.specs.Parts.{arrival, finish, got_of, sample_of, wasted_by};
 ghost use Rattle.player_core.specs.Sound.{IsCase, Runs};
-ghost use Rattle.player_core.specs.Seen.{Follows, IsTimed, download_of, mode_of, seen};
+ghost use Rattle.player_core.specs.Seen.{Follows, IsTimed, Step, download_of, mode_of, seen};
 
 use crate::player::available;
 use crate::session::{Event, Session};
@@ -152,9 +152,8 @@ impl Body {
     fn load<T: Rule>(&mut self, m: &Manifest, d: &Running, rule: &mut T) -> Result<(), NoMemory>
         requires ready { CanLoad m.now (seen self.old []) (download_of d.now) }
         ensures kind { T.kind rule.new ≡ T.kind rule.old }
-        ensures loads { IfOk result (λ _. (c : Case) → c.film ≡ m.now → Follows (λ p. loads c p (download_of d.now)) self.old self.new) }
+        ensures loads { IfOk result (λ _. (c : Case) → c.film ≡ m.now → Step (λ p. loads c p (download_of d.now)) self.old self.new) }
         ensures told { IfOk result (λ _. (history : List ℕ) → T.stands_for rule.old history → T.stands_for rule.new (history ++ sample_of m.now self.old.t (download_of d.now) ∷ [])) }
-        ensures timed { IfOk result (λ _. (f : Film) (ps : List Period) → IsTimed f ps self.old.download → IsTimed f ps self.new.download) }
     {
         let sample = sample_of(m, self.t, d);
         self.events.push(Event::Arrive {
@@ -181,9 +180,8 @@ impl Body {
     pub fn stop<T: Rule>(&mut self, m: &Manifest, rule: &mut T) -> Result<(), NoMemory>
         requires ready { IfSome self.old.download (λ d. d.job.left ≡ 0 → CanLoad m.now (seen self.old []) (download_of d)) }
         ensures kind { T.kind rule.new ≡ T.kind rule.old }
-        ensures stops { IfOk result (λ _. (c : Case) → c.film ≡ m.now → Follows (stopped c) self.old self.new) }
+        ensures stops { IfOk result (λ _. (c : Case) → c.film ≡ m.now → Step (stopped c) self.old self.new) }
         ensures told { IfOk result (λ _. (c : Case) → c.film ≡ m.now → (history : List ℕ) → T.stands_for rule.old history → T.stands_for rule.new (stopped c (seen self.old history)).history) }
-        ensures timed { IfOk result (λ _. (f : Film) (ps : List Period) → IsTimed f ps self.old.download → IsTimed f ps self.new.download) }
     {
         self.arrive(m, rule)?;
         self.finish(m)
@@ -217,9 +215,8 @@ impl Body {
     fn arrive<T: Rule>(&mut self, m: &Manifest, rule: &mut T) -> Result<(), NoMemory>
         requires ready { IfSome self.old.download (λ d. d.job.left ≡ 0 → CanLoad m.now (seen self.old []) (download_of d)) }
         ensures kind { T.kind rule.new ≡ T.kind rule.old }
-        ensures arrives { IfOk result (λ _. (c : Case) → c.film ≡ m.now → Follows (arrival c) self.old self.new) }
+        ensures arrives { IfOk result (λ _. (c : Case) → c.film ≡ m.now → Step (arrival c) self.old self.new) }
         ensures told { IfOk result (λ _. (c : Case) → c.film ≡ m.now → (history : List ℕ) → T.stands_for rule.old history → T.stands_for rule.new (arrival c (seen self.old history)).history) }
-        ensures timed { IfOk result (λ _. (f : Film) (ps : List Period) → IsTimed f ps self.old.download → IsTimed f ps self.new.download) }
     {
         match self.download {
             Some(d) if d.job.left == 0 => self.load(m, &d, rule),
@@ -229,8 +226,7 @@ impl Body {
 
     /// 2. End: all is played.
     fn finish(&mut self, m: &Manifest) -> Result<(), NoMemory>
-        ensures follows { IfOk result (λ _. (c : Case) → c.film ≡ m.now → Follows (finish c) self.old self.new) }
-        ensures timed { IfOk result (λ _. (f : Film) (ps : List Period) → IsTimed f ps self.old.download → IsTimed f ps self.new.download) }
+        ensures { IfOk result (λ _. (c : Case) → c.film ≡ m.now → Step (finish c) self.old self.new) }
     {
         let all_ms = m.segments() as u32 * m.seg_ms();
         if self.phase.is_playing() && self.x == all_ms {
@@ -252,9 +248,8 @@ impl Body {
         requires first { 1 ≤ bit_ms_of self.old.t (download_of d.now) }
         requires wasted { self.old.wasted ≤ 1000000000000000 }
         ensures kind { T.kind rule.new ≡ T.kind rule.old }
-        ensures gives_up { IfOk result (λ _. (c : Case) → c.film ≡ m.now → Follows (λ p. gives_up c p (download_of d.now) (Some to)) self.old self.new) }
+        ensures gives_up { IfOk result (λ _. (c : Case) → c.film ≡ m.now → Step (λ p. gives_up c p (download_of d.now) (Some to)) self.old self.new) }
         ensures told { IfOk result (λ _. (history : List ℕ) → T.stands_for rule.old history → T.stands_for rule.new (history ++ sample_of m.now self.old.t (download_of d.now) ∷ [])) }
-        ensures timed { IfOk result (λ _. (f : Film) (ps : List Period) → IsTimed f ps self.old.download → IsTimed f ps self.new.download) }
     {
         let got = got_of(m, d);
         self.events.push(Event::Abandon {
@@ -290,9 +285,8 @@ impl Body {
         requires judge { IfSome self.old.download (λ d. CanJudge m.now (seen self.old []) (download_of d)) }
         requires wasted { self.old.wasted ≤ 1000000000000000 }
         ensures kind { T.kind rule.new ≡ T.kind rule.old }
-        ensures abandons { IfOk result (λ _. (c : Case) → c.film ≡ m.now → c.setup ≡ set.now → Follows (abandon c) self.old self.new) }
+        ensures abandons { IfOk result (λ _. (c : Case) → c.film ≡ m.now → c.setup ≡ set.now → Step (abandon c) self.old self.new) }
         ensures told { IfOk result (λ _. (c : Case) → c.film ≡ m.now → c.setup ≡ set.now → (history : List ℕ) → T.stands_for rule.old history → T.stands_for rule.new (abandon c (seen self.old history)).history) }
-        ensures timed { IfOk result (λ _. (f : Film) (ps : List Period) → IsTimed f ps self.old.download → IsTimed f ps self.new.download) }
     {
         if !set.abandon {
             return Ok(());
@@ -328,8 +322,7 @@ impl Body {
         requires room { length self.old.loaded.items ≤ 2000 }
         requires wasted { self.old.wasted ≤ 1000000000000000 }
         requires targets { All (λ s. s.to < segments_of m.now) seeks.now }
-        ensures follows { IfOk result (λ _. (c : Case) → c.film ≡ m.now → c.seeks ≡ seeks.now → Follows (seek c) self.old self.new) }
-        ensures timed { IfOk result (λ _. (f : Film) (ps : List Period) → IsTimed f ps self.old.download → IsTimed f ps self.new.download) }
+        ensures { IfOk result (λ _. (c : Case) → c.film ≡ m.now → c.seeks ≡ seeks.now → Step (seek c) self.old self.new) }
     {
         let Some(s) = seek_at(seeks, self.t) else {
             return Ok(());

@@ -81,7 +81,7 @@ module _ (c : Case) (is : IsCase c) (p : Player) where
 -- ---- a millisecond after it
 
 -- the second player is the first a millisecond later
-record IsNext (c : Case) (q p : Player) : Type 0 where
+pub record IsNext (c : Case) (q p : Player) : Type 0 where
   t : p.t ≡ q.t + 1
   k : p.k ≡ q.k
   y : p.y ≡ q.y
@@ -122,7 +122,7 @@ module _ (c : Case) where
   still_stands q ended goes e = absurd (true≢false goes)
   still_stands q playing goes e = absurd (true≢false e)
 
-  pass_next : (q : Player) → is_ended q.mode ≡ false → IsNext c q (pass_ms c q)
+  pub pass_next : (q : Player) → is_ended q.mode ≡ false → IsNext c q (pass_ms c q)
   pass_next q goes =
       let passed = passes_passed c (taken c q) q.mode in
       record {
@@ -193,6 +193,14 @@ module _ (c : Case) (is : IsCase c) (from : ℕ) (q p : Player) (n : ℕ) (sound
       let end = sound.loaded_end in
       let most = end_ahead q.x c.film.seg_ms n (quiet.plays on low) q.k (omega (arith, end, low)) in
       omega (arith, most, end)
+
+  -- and after the first of them as many fewer
+  pub next_ahead : is_playing p.mode ≡ true → p.x < p.y → p.x + (n - 1) ≤ p.y
+  next_ahead on low =
+      let plays : is_playing q.mode ≡ true = sym (ap is_playing next.mode) ∙ on in
+      let y = next.y in
+      ⊎_elim (λ (ahead : q.x < q.y). let x = (next.goes plays ahead).0 in let whole = ahead_ms plays ahead in let some = quiet.some in omega (arith, x, y, whole, some))
+      (λ (full : q.y ≤ q.x). let x = (next.stalls plays full).0 in absurd (omega (arith, x, y, low, full))) (cases_lt q.x q.y)
 
   rests_smooth : (j : ℕ) → suc j < n → IsSmooth c p p.mode j
   rests_smooth j inside = record {
