@@ -2,10 +2,17 @@
 use Rattle.std.proofs.Common.{◌≡◌, ◌∙◌, ℕ, ◌+◌, ◌-◌, ◌<◌, ◌≤◌, List, [], length, true, false, refl, sym, ap, subst, ⊎_elim, arith}
 use Rattle.std.proofs.lemmas.Bool.{cases_lt, true≢false}
 use Rattle.std.specs.List.{All}
-use Rattle.lab_model.specs.Film.{rungs_of, segments_of}
+use Rattle.lab_model.specs.declared.trace.Period.{Period}
+use Rattle.lab_model.specs.declared.setup.Setup.{Setup}
+use Rattle.lab_model.specs.declared.context.Seek.{Seek}
+use Rattle.lab_model.specs.Cycle.{IsTrace}
+use Rattle.lab_model.specs.Film.{Film, IsFilm, rungs_of, segments_of}
+use Rattle.lab_model.specs.Fit.{SetupFits}
+use Rattle.lab_model.specs.Rules.{KindFits, RuleKind}
+use Rattle.lab_model.specs.Seeks.{SeeksFit}
 use Rattle.player_core.specs.declared.body.Body.{Body}
 use Rattle.player_core.specs.declared.session.Session.{Session}
-use Rattle.player_core.specs.State.{Case, Player}
+use Rattle.player_core.specs.State.{Case, Player, case_of, first_player}
 use Rattle.player_core.specs.Parts.{abandon, gone_on, instant, is_ended, is_playing, pass_ms, request, seek, seek_at, stopped}
 use Rattle.player_core.specs.Session.{Shown, end_of, ends_at, latest_ms, player_after, session_of, shown, shown_by}
 use Rattle.player_core.specs.Sound.{IsCase, Sound}
@@ -17,8 +24,13 @@ use Rattle.player_core.proofs.Follow.{Now, any_history, body_instant, body_sound
 use Rattle.player_core.proofs.Players.{abandon_t, gone_on_open, gone_on_sound, gone_on_t, instant_goes, pass_t, player_sound, seeks_t, sought_sound, stopped_open, stopped_sound, stopped_t}
 use Rattle.player_core.proofs.Soundness.{IsOpen, abandon_sound, pass_sound}
 use Rattle.player_core.proofs.Stretch.{next_ahead, pass_next, stretch}
-use Rattle.player_core.proofs.Turned.{gone_goes, last_is, pass_told, request_told, seek_told, turn_goes}
+use Rattle.player_core.proofs.Turned.{gone_goes, last_is, none_timed, pass_told, player_first, request_told, seek_told, turn_goes}
 use Rattle.player_core.proofs.Waits.{IsStill, instant_still}
+
+-- what the player is called with keeps the limits
+pub is_case : (f : Film) (ps : List Period) (set : Setup) (seeks : List Seek) (ahead : ℕ) (kind : RuleKind) → IsFilm f → IsTrace ps → SetupFits set f → SeeksFit seeks (segments_of f) → ahead ≤ 120000000 → KindFits kind f
+    → IsCase (case_of f ps set seeks ahead kind)
+is_case f ps set seeks ahead kind film trace setup script most rule = record { film = film; trace = trace; setup = setup; seeks = script; ahead = most; rule = rule }
 
 -- ---- the parts of an instant that goes on
 
@@ -62,6 +74,22 @@ pub record StandsAt (c : Case) (b : Body) : Type 0 where
   pub timed : IsTimed c.film c.periods b.download
   pub going : (k : ℕ) → k < b.t → ends_at c k ≡ false
 
+-- the body at the start
+pub start_stands : (c : Case) (b : Body) → seen b [] ≡ first_player → StandsAt c b
+start_stands c b e =
+    let none : b.t ≡ 0 = ap (λ (p : Player). p.t) e in
+    let first : player_after c b.t ≡ first_player = ap (player_after c) none ∙ player_first c in
+    record {
+      same = subst (λ (p : Player). seen b p.history ≡ p) (sym first) e;
+      timed = none_timed c b e;
+      going = λ k low. absurd (omega (arith, low, none));
+    }
+
+pub start_told : (c : Case) (b : Body) → seen b [] ≡ first_player → (told : List ℕ → Type 0) → told [] → told (player_after c b.t).history
+start_told c b e told h =
+    let none : b.t ≡ 0 = ap (λ (p : Player). p.t) e in
+    subst (λ (p : Player). told p.history) (sym (ap (player_after c) none ∙ player_first c)) h
+
 -- at the top of the turn, and after the arrival and the end
 module _ (c : Case) (is : IsCase c) (b : Body) (here : StandsAt c b) where
   pub at_top : Now c b.t b.t (player_after c b.t) b
@@ -79,15 +107,33 @@ module _ (c : Case) (is : IsCase c) (b : Body) (here : StandsAt c b) where
       let top = at_top in
       now_step c b.t b.t b.t (stopped c) p b s top (stop c refl) (stopped_sound c b.t p top.sound) (stopped_t c p ∙ top.instant)
 
+  -- the same for a case whose rule is this one
+  pub ruled_case : (kind : RuleKind) → kind ≡ c.rule → IsCase (record c { rule = kind })
+  ruled_case kind ruled = subst (λ r. IsCase (record c { rule = r })) (sym ruled) is
+
+  pub ruled_sound : (s : Body) → Now c b.t b.t (stopped c (player_after c b.t)) s → (kind : RuleKind) → kind ≡ c.rule → Sound (record c { rule = kind }) s.t (seen s [])
+  ruled_sound s stop kind ruled =
+      let at = body_instant c b.t b.t (stopped c (player_after c b.t)) s stop in
+      subst (λ r. Sound (record c { rule = r }) s.t (seen s [])) (sym ruled) (subst (λ n. Sound c n (seen s [])) (sym at) (body_sound c b.t b.t (stopped c (player_after c b.t)) s stop))
+
   -- the session that the body shows where it has ended
   pub session_is : (s : Body) (e : Session) → Now c b.t b.t (stopped c (player_after c b.t)) s → is_ended (mode_of s.phase) ≡ true → ((h : List ℕ) → shown e ≡ shown_by (seen s h)) → shown e ≡ session_of c
   session_is s e now ended shows =
       let over = sym (ap (λ (q : Player). is_ended q.mode) now.same) ∙ ended in
       shows (stopped c (player_after c b.t)).history ∙ ap shown_by now.same ∙ ap shown_by (sym (last_is c is b.t at_early here.going over))
 
+-- what the rule was told before the other parts
+pub told_stop : (c : Case) (b : Body) → StandsAt c b → (told heard : List ℕ → Type 0) → ((k : Case) → k.film ≡ c.film → (h : List ℕ) → told h → heard (stopped k (seen b h)).history)
+    → told (player_after c b.t).history → heard (stopped c (player_after c b.t)).history
+told_stop c b here told heard tells h = subst (λ (p : Player). heard (stopped c p).history) here.same (tells c refl (player_after c b.t).history h)
+
 -- what stands at the end of the turn: after the other parts, a millisecond later, and after the stretch
-module _ (c : Case) (is : IsCase c) (b : Body) (here : StandsAt c b) (s : Body) (stop : Now c b.t b.t (stopped c (player_after c b.t)) s) (on : is_ended (mode_of s.phase) ≡ false) (a : Body)
-    (gone : GoesOn c (stopped c (player_after c b.t)).history s a) (timed : IsTimed c.film c.periods a.download) where
+module _ (c : Case) (is : IsCase c) (b : Body) (here : StandsAt c b) (s : Body) (stops : (k : Case) → k.film ≡ c.film → Step (stopped k) b s) (on : is_ended (mode_of s.phase) ≡ false)
+    (kind : RuleKind) (ruled : kind ≡ c.rule) (heard : List ℕ → Type 0) (told : heard (stopped c (player_after c b.t)).history)
+    (a : Body) (gone : (h : List ℕ) → heard h → GoesOn (record c { rule = kind }) h s a) (timed : IsTimed c.film c.periods a.download) where
+  stop : Now c b.t b.t (stopped c (player_after c b.t)) s
+  stop = at_stop c is b here s stops
+
   -- the player after the parts
   abbrev left : Player
   left = gone_on c (stopped c (player_after c b.t))
@@ -113,9 +159,14 @@ module _ (c : Case) (is : IsCase c) (b : Body) (here : StandsAt c b) (s : Body) 
       record {
         sound = gone_on_sound c is b.t p stop.instant stop.sound;
         instant = gone_on_t c p ∙ stop.instant;
-        same = subst (λ (q : Player). seen a (gone_on c q).history ≡ gone_on c q) stop.same gone;
+        same = subst (λ (q : Player). seen a (gone_on c q).history ≡ gone_on c q) stop.same (subst (λ r. GoesOn (record c { rule = r }) p.history s a) ruled (gone p.history told));
         timed = timed;
       }
+
+  left_told : (after : List ℕ → Type 0) → ((h : List ℕ) → heard h → after (gone_on (record c { rule = kind }) (seen s h)).history) → after left.history
+  left_told after tells =
+      let p = stopped c (player_after c b.t) in
+      subst (λ r. after (gone_on (record c { rule = r }) p).history) ruled (subst (λ (q : Player). after (gone_on (record c { rule = kind }) q).history) stop.same (tells p.history told))
 
   pub at_rest : CanRest c.film c.setup c.ahead a
   at_rest = rest_ready c is b.t (b.t + 1) left a (at_early c is b here) at_left left_open left_still
@@ -141,10 +192,10 @@ module _ (c : Case) (is : IsCase c) (b : Body) (here : StandsAt c b) (s : Body) 
           glide_ready c is (b.t + 1) (b.t + 1) (ms - 1) (pass_ms c left) q (omega (arith, early)) (omega (arith, few)) at_next
           (next_ahead c is (b.t + 1) left (pass_ms c left) ms at_left.sound left_goes left_still left_quiet (pass_next c left left_goes))
 
-      -- and the history is the one that the rule was told
-      pub at_end : (r : Body) → ((k : Case) → k.periods ≡ c.periods → IsTimed k.film k.periods q.download → Follows (glides k (ms - 1)) q r) → r.t ≡ q.t + (ms - 1) → IsTimed c.film c.periods r.download
-          → StandsAt c r × (b.t < r.t) × ((player_after c r.t).history ≡ left.history)
-      at_end r glide t in_time =
+      -- and what the history is that the rule was told
+      pub at_end : (after : List ℕ → Type 0) → ((h : List ℕ) → heard h → after (gone_on (record c { rule = kind }) (seen s h)).history) → (r : Body) → ((k : Case) → k.periods ≡ c.periods → IsTimed k.film k.periods q.download → Follows (glides k (ms - 1)) q r) → r.t ≡ q.t + (ms - 1) → IsTimed c.film c.periods r.download
+          → StandsAt c r × (b.t < r.t) × after (player_after c r.t).history
+      at_end after tells r glide t in_time =
           let some = left_quiet.some in
           let next = body_instant c (b.t + 1) (b.t + 1) (pass_ms c left) q at_next in
           let there : b.t + ms ≡ r.t = omega (arith, some, next, t) in
@@ -157,7 +208,7 @@ module _ (c : Case) (is : IsCase c) (b : Body) (here : StandsAt c b) (s : Body) 
               going = λ k low. law.0 k (omega (arith, low, there));
             },
             omega (arith, some, next, t),
-            ap (λ (p : Player). p.history) same ∙ pass_told c left,
+            subst after (sym (ap (λ (p : Player). p.history) same ∙ pass_told c left)) (left_told after tells),
           )
 
 -- what a session that is the model's keeps

@@ -24,6 +24,17 @@ use Rattle.player_core.proofs.Waits.{IsStill, asks_true}
 
 -- ---- a part of a millisecond
 
+-- a part that does the same to this body
+pub step_as : (f g : Player → Player) (old new : Body) → ((h : List ℕ) → f (seen old h) ≡ g (seen old h)) → Step f old new → Step g old new
+step_as f g old new same step = record { follows = λ h. subst (λ (r : Player). seen new r.history ≡ r) (same h) (step.follows h); timed = step.timed }
+
+-- one part after another
+pub step_then : (f g : Player → Player) (old mid new : Body) → Step f old mid → Step g mid new → Step (λ p. g (f p)) old new
+step_then f g old mid new first next = record {
+  follows = λ h. subst (λ (r : Player). seen new (g r).history ≡ g r) (first.follows h) (next.follows (f (seen old h)).history);
+  timed = λ film ps was. next.timed film ps (first.timed film ps was);
+}
+
 -- at an instant the body stands for a sound player
 pub record Now (c : Case) (n from : ℕ) (p : Player) (b : Body) : Type 0 where
   pub sound : Sound c from p

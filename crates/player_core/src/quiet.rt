@@ -115,6 +115,7 @@ impl Body {
     /// no beginning of a segment or of a stall after the first of them.
     pub fn quiet_ms(&self, m: &Manifest, set: &Setup, seeks: &[Seek], ahead: u32) -> u64
         requires { CanRest m.now set.now ahead self.now }
+        ensures some { 1 ≤ result }
         ensures limit { result ≤ 1000000000000000 }
         ensures quiet { (c : Case) (history : List ℕ) → c.film ≡ m.now → c.setup ≡ set.now → c.seeks ≡ seeks.now → c.ahead ≡ ahead → IsTimed c.film c.periods self.now.download → IsQuiet c (seen self.now history) result }
     {

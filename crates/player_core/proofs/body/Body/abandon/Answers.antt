@@ -5,6 +5,7 @@ use Rattle.abandonment.specs.Test.{abandonment}
 use Rattle.player_core.specs.State.{Case, Download, Player}
 use Rattle.player_core.specs.Parts.{abandon, gives_up, gives_up_any, progress_of}
 use Rattle.player_core.specs.Seen.{download_of, seen}
+use Rattle.player_core.proofs.Follow.{step_as}
 use Rattle.player_core.proofs.body.Body.abandon.Goals as goal
 
 -- where the test gives a rung, the download is given up for it
@@ -16,13 +17,8 @@ pub returns-in-Some-judged-clause-abandons : goal.returns-in-Some-judged-clause-
 returns-in-Some-judged-clause-abandons g c =
     IfOk-weaker c.give_up.result _ _
     (λ x given k film setup.
-    let step = given k film in
-    record {
-      follows = λ history.
-          subst (λ (r : Player). seen c.give_up.new.self r.history ≡ r)
-          (abandons_for k (seen c.args.self.now history) (download_of c.in-Some.d) c.in-Some-judged.to (ap (λ s. s.abandon) setup ∙ c.if-not-set.false) (ap (λ o. option_map download_of o) c.in-Some.is)
-          (sym c.in-Some-judged.is ∙ c.judged.ensures.value ∙ ap (λ f. abandonment f c.in-Some.d.segment c.in-Some.d.rung (progress_of f c.args.self.now.t (download_of c.in-Some.d))) (sym film)))
-          (step.follows history);
-      timed = step.timed;
-    })
+    step_as _ (abandon k) c.args.self.now c.give_up.new.self
+    (λ history. abandons_for k (seen c.args.self.now history) (download_of c.in-Some.d) c.in-Some-judged.to (ap (λ s. s.abandon) setup ∙ c.if-not-set.false) (ap (option_map download_of) c.in-Some.is)
+    (sym c.in-Some-judged.is ∙ c.judged.ensures.value ∙ ap (λ f. abandonment f c.in-Some.d.segment c.in-Some.d.rung (progress_of f c.args.self.now.t (download_of c.in-Some.d))) (sym film)))
+    (given k film))
     c.give_up.ensures.gives_up
