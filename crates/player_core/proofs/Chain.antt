@@ -14,14 +14,16 @@ use Rattle.player_core.specs.declared.body.Body.{Body}
 use Rattle.player_core.specs.declared.session.Session.{Session}
 use Rattle.player_core.specs.State.{Case, Player, case_of, first_player}
 use Rattle.player_core.specs.Parts.{abandon, gone_on, instant, is_ended, is_playing, pass_ms, request, seek, seek_at, stopped}
-use Rattle.player_core.specs.Session.{Shown, end_of, ends_at, latest_ms, player_after, session_of, shown, shown_by}
+use Rattle.player_core.specs.Session.{Shown, end_of, ends_at, last_player, latest_ms, player_after, session_of, shown, shown_by}
 use Rattle.player_core.specs.Sound.{IsCase, Sound}
 use Rattle.player_core.specs.Quiet.{IsQuiet, glides}
-use Rattle.player_core.specs.Seen.{CanGlide, CanRest, Follows, GoesOn, IsTimed, Step, mode_of, seen}
+use Rattle.player_core.specs.Seen.{CanGlide, CanRest, CanTake, Follows, GoesOn, IsTimed, LeftAt, StandsAt, StandsFor, Step, Waits, mode_of, seen}
+use Rattle.player_core.specs.Ready.{CanPass}
+use Rattle.std.specs.Option.{IfSome}
 use Rattle.player_core.proofs.Bounds.{last_count, last_rungs, last_times}
-use Rattle.player_core.proofs.Ends.{end_early, last_t, sessions_end}
-use Rattle.player_core.proofs.Follow.{Now, any_history, body_instant, body_sound, glide_ready, now_step, rest_ready}
-use Rattle.player_core.proofs.Players.{abandon_t, gone_on_open, gone_on_sound, gone_on_t, instant_goes, pass_t, player_sound, seeks_t, sought_sound, stopped_open, stopped_sound, stopped_t}
+use Rattle.player_core.proofs.Ends.{end_early, end_is, last_t, sessions_end}
+use Rattle.player_core.proofs.Follow.{Now, any_history, body_instant, body_sound, glide_ready, now_step, pass_ready, rest_ready, take_ready}
+use Rattle.player_core.proofs.Players.{abandon_t, gone_on_open, gone_on_sound, gone_on_t, instant_ended, instant_goes, instant_sound, instant_t, pass_t, player_sound, seeks_t, sought_sound, stopped_open, stopped_sound, stopped_t}
 use Rattle.player_core.proofs.Soundness.{IsOpen, abandon_sound, pass_sound}
 use Rattle.player_core.proofs.Stretch.{next_ahead, pass_next, stretch}
 use Rattle.player_core.proofs.Turned.{gone_goes, last_is, none_timed, pass_told, player_first, request_told, seek_told, turn_goes}
@@ -68,11 +70,37 @@ module _ (c : Case) (is : IsCase c) (b : Body) (sound : Sound c b.t (seen b []))
 
 -- ---- a turn of the loop
 
--- the body stands for the player of a session that did not end before its instant
-pub record StandsAt (c : Case) (b : Body) : Type 0 where
-  pub same : seen b (player_after c b.t).history ≡ player_after c b.t
-  pub timed : IsTimed c.film c.periods b.download
-  pub going : (k : ℕ) → k < b.t → ends_at c k ≡ false
+-- a case and the same whose rule is this one
+module _ (c : Case) (is : IsCase c) (kind : RuleKind) (ruled : kind ≡ c.rule) where
+  pub ruled_case : IsCase (record c { rule = kind })
+  ruled_case = subst (λ r. IsCase (record c { rule = r })) (sym ruled) is
+
+  pub ruled_stands : (b : Body) → StandsAt c b → StandsAt (record c { rule = kind }) b
+  ruled_stands b here = subst (λ r. StandsAt (record c { rule = r }) b) (sym ruled) here
+
+  pub ruled_told : (b : Body) (told : List ℕ → Type 0) → told (player_after c b.t).history → told (player_after (record c { rule = kind }) b.t).history
+  ruled_told b told h = subst (λ r. told (player_after (record c { rule = r }) b.t).history) (sym ruled) h
+
+  pub left_ruled : (b : Body) → LeftAt (record c { rule = kind }) b → LeftAt c b
+  left_ruled b left = subst (λ r. LeftAt (record c { rule = r }) b) ruled left
+
+  -- what the rule was told, after a wait
+  pub waits_told : (b a r : Body) → a.t ≡ b.t → Waits c a r → (told : List ℕ → Type 0) → told (instant (record c { rule = kind }) (player_after (record c { rule = kind }) b.t)).history → told (player_after c r.t).history
+  waits_told b a r at waits told h =
+      subst told (sym (waits.told ∙ ap (λ n. (instant c (player_after c n)).history) at))
+      (subst (λ k. told (instant (record c { rule = k }) (player_after (record c { rule = k }) b.t)).history) ruled h)
+
+-- where no instant before it was the end, an instant is early
+early_before : (c : Case) → IsCase c → (n : ℕ) → ((k : ℕ) → k < n → ends_at c k ≡ false) → n < latest_ms
+early_before c is n going =
+    let last = sessions_end c is in
+    let early = last.1 in
+    ⊎_elim (λ (past : last.0 < n). absurd (true≢false (sym last.2 ∙ going last.0 past))) (λ (before : n ≤ last.0). omega (arith, before, early)) (cases_lt last.0 n)
+
+-- the player at the first instant that is the end is the last one
+last_at : (c : Case) → (n : ℕ) → n < latest_ms → ((k : ℕ) → k < n → ends_at c k ≡ false) → ends_at c n ≡ true → last_player c ≡ instant c (player_after c n)
+unfolding last_player
+last_at c n low before h = ap (λ (m : ℕ). instant c (player_after c m)) (sym (end_is c n low h before))
 
 -- the body at the start
 pub start_stands : (c : Case) (b : Body) → seen b [] ≡ first_player → StandsAt c b
@@ -80,8 +108,7 @@ start_stands c b e =
     let none : b.t ≡ 0 = ap (λ (p : Player). p.t) e in
     let first : player_after c b.t ≡ first_player = ap (player_after c) none ∙ player_first c in
     record {
-      same = subst (λ (p : Player). seen b p.history ≡ p) (sym first) e;
-      timed = none_timed c b e;
+      stands = record { same = subst (λ (p : Player). seen b p.history ≡ p) (sym first) e; timed = none_timed c b e };
       going = λ k low. absurd (omega (arith, low, none));
     }
 
@@ -93,13 +120,21 @@ start_told c b e told h =
 -- at the top of the turn, and after the arrival and the end
 module _ (c : Case) (is : IsCase c) (b : Body) (here : StandsAt c b) where
   pub at_top : Now c b.t b.t (player_after c b.t) b
-  at_top = let sound = player_sound c is b.t here.going in record { sound = sound.0; instant = sound.1; same = here.same; timed = here.timed }
+  at_top = let sound = player_sound c is b.t here.going in record { sound = sound.0; instant = sound.1; same = here.stands.same; timed = here.stands.timed }
 
   pub at_early : b.t < latest_ms
-  at_early =
-      let last = sessions_end c is in
-      let early = last.1 in
-      ⊎_elim (λ (past : last.0 < b.t). absurd (true≢false (sym last.2 ∙ here.going last.0 past))) (λ (before : b.t ≤ last.0). omega (arith, before, early)) (cases_lt last.0 b.t)
+  at_early = early_before c is b.t here.going
+
+  -- a body that stands for what the parts leave
+  lefts_at : (q : Player) (a : Body) → (from : ℕ) → Now c b.t from q a → instant c (player_after c b.t) ≡ q → LeftAt c a × (a.t ≡ b.t)
+  lefts_at q a from now same =
+      let at : a.t ≡ b.t = body_instant c b.t from q a now in (
+        record {
+          stands = subst (λ n. StandsFor c (instant c (player_after c n)) a) (sym at) (subst (λ p. StandsFor c p a) (sym same) (record { same = now.same; timed = now.timed }));
+          going = λ k low. here.going k (omega (arith, low, at));
+        },
+        at,
+      )
 
   pub at_stop : (s : Body) → ((k : Case) → k.film ≡ c.film → Step (stopped k) b s) → Now c b.t b.t (stopped c (player_after c b.t)) s
   at_stop s stop =
@@ -107,109 +142,131 @@ module _ (c : Case) (is : IsCase c) (b : Body) (here : StandsAt c b) where
       let top = at_top in
       now_step c b.t b.t b.t (stopped c) p b s top (stop c refl) (stopped_sound c b.t p top.sound) (stopped_t c p ∙ top.instant)
 
-  -- the same for a case whose rule is this one
-  pub ruled_case : (kind : RuleKind) → kind ≡ c.rule → IsCase (record c { rule = kind })
-  ruled_case kind ruled = subst (λ r. IsCase (record c { rule = r })) (sym ruled) is
-
   pub ruled_sound : (s : Body) → Now c b.t b.t (stopped c (player_after c b.t)) s → (kind : RuleKind) → kind ≡ c.rule → Sound (record c { rule = kind }) s.t (seen s [])
   ruled_sound s stop kind ruled =
       let at = body_instant c b.t b.t (stopped c (player_after c b.t)) s stop in
       subst (λ r. Sound (record c { rule = r }) s.t (seen s [])) (sym ruled) (subst (λ n. Sound c n (seen s [])) (sym at) (body_sound c b.t b.t (stopped c (player_after c b.t)) s stop))
 
-  -- the session that the body shows where it has ended
-  pub session_is : (s : Body) (e : Session) → Now c b.t b.t (stopped c (player_after c b.t)) s → is_ended (mode_of s.phase) ≡ true → ((h : List ℕ) → shown e ≡ shown_by (seen s h)) → shown e ≡ session_of c
-  session_is s e now ended shows =
-      let over = sym (ap (λ (q : Player). is_ended q.mode) now.same) ∙ ended in
-      shows (stopped c (player_after c b.t)).history ∙ ap shown_by now.same ∙ ap shown_by (sym (last_is c is b.t at_early here.going over))
+  -- where the session has ended, that is what the parts leave
+  pub left_ended : (s : Body) → Now c b.t b.t (stopped c (player_after c b.t)) s → is_ended (mode_of s.phase) ≡ true → LeftAt c s × (s.t ≡ b.t)
+  left_ended s stop ended =
+      let over = sym (ap (λ (q : Player). is_ended q.mode) stop.same) ∙ ended in
+      lefts_at (stopped c (player_after c b.t)) s b.t stop (instant_ended c (player_after c b.t) over)
+
+  pub told_ended : (s : Body) → Now c b.t b.t (stopped c (player_after c b.t)) s → is_ended (mode_of s.phase) ≡ true → (told : List ℕ → Type 0) → told (stopped c (player_after c b.t)).history → told (instant c (player_after c b.t)).history
+  told_ended s stop ended told h =
+      let over = sym (ap (λ (q : Player). is_ended q.mode) stop.same) ∙ ended in
+      subst (λ (q : Player). told q.history) (sym (instant_ended c (player_after c b.t) over)) h
+
+  -- and where it goes on, what the other parts make of it
+  module _ (s : Body) (stop : Now c b.t b.t (stopped c (player_after c b.t)) s) (on : is_ended (mode_of s.phase) ≡ false) where
+    goes : is_ended (stopped c (player_after c b.t)).mode ≡ false
+    goes = sym (ap (λ (q : Player). is_ended q.mode) stop.same) ∙ on
+
+    pub left_gone : (kind : RuleKind) → kind ≡ c.rule → (a : Body) → GoesOn (record c { rule = kind }) (stopped c (player_after c b.t)).history s a → IsTimed c.film c.periods a.download → LeftAt c a × (a.t ≡ b.t)
+    left_gone kind ruled a gone timed =
+        let p = stopped c (player_after c b.t) in
+        lefts_at (gone_on c p) a (b.t + 1)
+        (record {
+          sound = gone_on_sound c is b.t p stop.instant stop.sound;
+          instant = gone_on_t c p ∙ stop.instant;
+          same = subst (λ (q : Player). seen a (gone_on c q).history ≡ gone_on c q) stop.same (subst (λ r. GoesOn (record c { rule = r }) p.history s a) ruled gone);
+          timed = timed;
+        })
+        (instant_goes c (player_after c b.t) goes)
+
+    pub left_told : (kind : RuleKind) → kind ≡ c.rule → (told : List ℕ → Type 0) → told (gone_on (record c { rule = kind }) (seen s (stopped c (player_after c b.t)).history)).history → told (instant c (player_after c b.t)).history
+    left_told kind ruled told h =
+        let p = stopped c (player_after c b.t) in
+        subst (λ (q : Player). told q.history) (sym (instant_goes c (player_after c b.t) goes))
+        (subst (λ r. told (gone_on (record c { rule = r }) p).history) ruled (subst (λ (q : Player). told (gone_on (record c { rule = kind }) q).history) stop.same h))
 
 -- what the rule was told before the other parts
 pub told_stop : (c : Case) (b : Body) → StandsAt c b → (told heard : List ℕ → Type 0) → ((k : Case) → k.film ≡ c.film → (h : List ℕ) → told h → heard (stopped k (seen b h)).history)
     → told (player_after c b.t).history → heard (stopped c (player_after c b.t)).history
-told_stop c b here told heard tells h = subst (λ (p : Player). heard (stopped c p).history) here.same (tells c refl (player_after c b.t).history h)
+told_stop c b here told heard tells h = subst (λ (p : Player). heard (stopped c p).history) here.stands.same (tells c refl (player_after c b.t).history h)
 
--- what stands at the end of the turn: after the other parts, a millisecond later, and after the stretch
-module _ (c : Case) (is : IsCase c) (b : Body) (here : StandsAt c b) (s : Body) (stops : (k : Case) → k.film ≡ c.film → Step (stopped k) b s) (on : is_ended (mode_of s.phase) ≡ false)
-    (kind : RuleKind) (ruled : kind ≡ c.rule) (heard : List ℕ → Type 0) (told : heard (stopped c (player_after c b.t)).history)
-    (a : Body) (gone : (h : List ℕ) → heard h → GoesOn (record c { rule = kind }) h s a) (timed : IsTimed c.film c.periods a.download) where
-  stop : Now c b.t b.t (stopped c (player_after c b.t)) s
-  stop = at_stop c is b here s stops
+-- ---- a wait
 
-  -- the player after the parts
-  abbrev left : Player
-  left = gone_on c (stopped c (player_after c b.t))
+-- what a wait needs, and where it ends: a millisecond later, and after the stretch
+module _ (c : Case) (is : IsCase c) (a : Body) (left : LeftAt c a) where
+  at_left_early : a.t < latest_ms
+  at_left_early = early_before c is a.t left.going
 
-  goes : is_ended (stopped c (player_after c b.t)).mode ≡ false
-  goes = sym (ap (λ (q : Player). is_ended q.mode) stop.same) ∙ on
+  -- the session that the body shows where it has ended
+  pub session_is : (e : Session) → is_ended (mode_of a.phase) ≡ true → ((h : List ℕ) → shown e ≡ shown_by (seen a h)) → shown e ≡ session_of c
+  session_is e ended shows =
+      let q = instant c (player_after c a.t) in
+      let over = sym (ap (λ (r : Player). is_ended r.mode) left.stands.same) ∙ ended in
+      shows q.history ∙ ap shown_by left.stands.same ∙ ap shown_by (sym (last_at c a.t at_left_early left.going over))
 
-  left_is : instant c (player_after c b.t) ≡ left
-  left_is = instant_goes c (player_after c b.t) goes
+  module _ (on : is_ended (mode_of a.phase) ≡ false) where
+    left_goes : ends_at c a.t ≡ false
+    left_goes = sym (ap (λ (r : Player). is_ended r.mode) left.stands.same) ∙ on
 
-  left_goes : is_ended left.mode ≡ false
-  left_goes = gone_goes c (stopped c (player_after c b.t)) goes
+    left_both : Sound c (a.t + 1) (instant c (player_after c a.t)) × IsOpen (instant c (player_after c a.t))
+    left_both = let start = player_sound c is a.t left.going in instant_sound c is a.t (player_after c a.t) start.1 start.0 left_goes
 
-  left_open : IsOpen left
-  left_open = let p = stopped c (player_after c b.t) in gone_on_open c is b.t p stop.instant stop.sound (stopped_open c (player_after c b.t))
+    left_still : IsStill c (instant c (player_after c a.t))
+    left_still = instant_still c (player_after c a.t) left_goes
 
-  left_still : IsStill c left
-  left_still = subst (IsStill c) left_is (instant_still c (player_after c b.t) (turn_goes c b.t goes))
+    at_left : Now c a.t (a.t + 1) (instant c (player_after c a.t)) a
+    at_left = record {
+      sound = left_both.0;
+      instant = instant_t c (player_after c a.t) ∙ (player_sound c is a.t left.going).1;
+      same = left.stands.same;
+      timed = left.stands.timed;
+    }
 
-  pub at_left : Now c b.t (b.t + 1) left a
-  at_left =
-      let p = stopped c (player_after c b.t) in
-      record {
-        sound = gone_on_sound c is b.t p stop.instant stop.sound;
-        instant = gone_on_t c p ∙ stop.instant;
-        same = subst (λ (q : Player). seen a (gone_on c q).history ≡ gone_on c q) stop.same (subst (λ r. GoesOn (record c { rule = r }) p.history s a) ruled (gone p.history told));
-        timed = timed;
-      }
+    pub rest_left : CanRest c.film c.setup c.ahead a
+    rest_left = rest_ready c is a.t (a.t + 1) (instant c (player_after c a.t)) a at_left_early at_left left_both.1 left_still
 
-  left_told : (after : List ℕ → Type 0) → ((h : List ℕ) → heard h → after (gone_on (record c { rule = kind }) (seen s h)).history) → after left.history
-  left_told after tells =
-      let p = stopped c (player_after c b.t) in
-      subst (λ r. after (gone_on (record c { rule = r }) p).history) ruled (subst (λ (q : Player). after (gone_on (record c { rule = kind }) q).history) stop.same (tells p.history told))
+    pub pass_left : CanPass (seen a []) × IfSome a.download (CanTake c.periods a.t)
+    pass_left =
+        let q = instant c (player_after c a.t) in
+        (pass_ready c is a.t (a.t + 1) q a at_left_early at_left, take_ready c is a.t (a.t + 1) q a at_left)
 
-  pub at_rest : CanRest c.film c.setup c.ahead a
-  at_rest = rest_ready c is b.t (b.t + 1) left a (at_early c is b here) at_left left_open left_still
+    module _ (b : Body) (passes : (k : Case) → k.film ≡ c.film → k.periods ≡ c.periods → Follows (pass_ms k) a b) (timed : IsTimed c.film c.periods a.download → IsTimed c.film c.periods b.download) where
+      at_next : Now c (a.t + 1) (a.t + 1) (pass_ms c (instant c (player_after c a.t))) b
+      at_next =
+          let q = instant c (player_after c a.t) in
+          record {
+            sound = pass_sound c is (a.t + 1) q left_both.0 left_both.1 left_goes;
+            instant = pass_t c q ∙ ap (λ k. k + 1) at_left.instant;
+            same = subst (λ (p : Player). seen b (pass_ms c p).history ≡ pass_ms c p) left.stands.same (passes c refl refl q.history);
+            timed = timed left.stands.timed;
+          }
 
-  module _ (q : Body) (passes : (k : Case) → k.film ≡ c.film → k.periods ≡ c.periods → Follows (pass_ms k) a q) (on_time : IsTimed c.film c.periods q.download) where
-    at_next : Now c (b.t + 1) (b.t + 1) (pass_ms c left) q
-    at_next =
-        let now = at_left in
-        record {
-          sound = pass_sound c is (b.t + 1) left now.sound left_open left_goes;
-          instant = pass_t c left ∙ ap (λ k. k + 1) now.instant;
-          same = subst (λ (p : Player). seen q (pass_ms c p).history ≡ pass_ms c p) now.same (passes c refl refl left.history);
-          timed = on_time;
-        }
+      module _ (ms : ℕ) (few : ms ≤ 1000000000000000)
+          (quiet : (k : Case) (h : List ℕ) → k.film ≡ c.film → k.setup ≡ c.setup → k.seeks ≡ c.seeks → k.ahead ≡ c.ahead → IsTimed k.film k.periods a.download → IsQuiet k (seen a h) ms) where
+        left_quiet : IsQuiet c (instant c (player_after c a.t)) ms
+        left_quiet = subst (λ p. IsQuiet c p ms) left.stands.same (quiet c (instant c (player_after c a.t)).history refl refl refl refl left.stands.timed)
 
-    module _ (ms : ℕ) (few : ms ≤ 1000000000000000) (quiet : (k : Case) (h : List ℕ) → k.film ≡ c.film → k.setup ≡ c.setup → k.seeks ≡ c.seeks → k.ahead ≡ c.ahead → IsTimed k.film k.periods a.download → IsQuiet k (seen a h) ms) where
-      left_quiet : IsQuiet c left ms
-      left_quiet = subst (λ p. IsQuiet c p ms) at_left.same (quiet c left.history refl refl refl refl timed)
+        pub glide_left : CanGlide b (ms - 1)
+        glide_left =
+            let q = instant c (player_after c a.t) in
+            let early = at_left_early in
+            glide_ready c is (a.t + 1) (a.t + 1) (ms - 1) (pass_ms c q) b (omega (arith, early)) (omega (arith, few)) at_next
+            (next_ahead c is (a.t + 1) q (pass_ms c q) ms left_both.0 left_goes left_still left_quiet (pass_next c q left_goes))
 
-      pub at_glide : CanGlide q (ms - 1)
-      at_glide =
-          let early = at_early c is b here in
-          glide_ready c is (b.t + 1) (b.t + 1) (ms - 1) (pass_ms c left) q (omega (arith, early)) (omega (arith, few)) at_next
-          (next_ahead c is (b.t + 1) left (pass_ms c left) ms at_left.sound left_goes left_still left_quiet (pass_next c left left_goes))
-
-      -- and what the history is that the rule was told
-      pub at_end : (after : List ℕ → Type 0) → ((h : List ℕ) → heard h → after (gone_on (record c { rule = kind }) (seen s h)).history) → (r : Body) → ((k : Case) → k.periods ≡ c.periods → IsTimed k.film k.periods q.download → Follows (glides k (ms - 1)) q r) → r.t ≡ q.t + (ms - 1) → IsTimed c.film c.periods r.download
-          → StandsAt c r × (b.t < r.t) × after (player_after c r.t).history
-      at_end after tells r glide t in_time =
-          let some = left_quiet.some in
-          let next = body_instant c (b.t + 1) (b.t + 1) (pass_ms c left) q at_next in
-          let there : b.t + ms ≡ r.t = omega (arith, some, next, t) in
-          let law = stretch c is b.t ms here.going (turn_goes c b.t goes) (subst (λ p. IsQuiet c p ms) (sym left_is) left_quiet) in
-          let same : player_after c r.t ≡ glides c (ms - 1) (pass_ms c left) = ap (player_after c) (sym there) ∙ law.1 ∙ ap (λ p. glides c (ms - 1) (pass_ms c p)) left_is in
-          let seen_there = subst (λ (p : Player). seen r (glides c (ms - 1) p).history ≡ glides c (ms - 1) p) at_next.same (glide c refl on_time (pass_ms c left).history) in (
+        pub waits_left : (r : Body) → ((k : Case) → k.periods ≡ c.periods → IsTimed k.film k.periods b.download → Follows (glides k (ms - 1)) b r) → r.t ≡ b.t + (ms - 1)
+            → (IsTimed c.film c.periods b.download → IsTimed c.film c.periods r.download) → Waits c a r
+        waits_left r glide t in_time =
+            let q = instant c (player_after c a.t) in
+            let some = left_quiet.some in
+            let next = body_instant c (a.t + 1) (a.t + 1) (pass_ms c q) b at_next in
+            let there : a.t + ms ≡ r.t = omega (arith, some, next, t) in
+            let law = stretch c is a.t ms left.going left_goes left_quiet in
+            let same : player_after c r.t ≡ glides c (ms - 1) (pass_ms c q) = ap (player_after c) (sym there) ∙ law.1 in
+            let seen_there = subst (λ (p : Player). seen r (glides c (ms - 1) p).history ≡ glides c (ms - 1) p) at_next.same (glide c refl at_next.timed (pass_ms c q).history) in
             record {
-              same = subst (λ (p : Player). seen r p.history ≡ p) (sym same) seen_there;
-              timed = in_time;
-              going = λ k low. law.0 k (omega (arith, low, there));
-            },
-            omega (arith, some, next, t),
-            subst after (sym (ap (λ (p : Player). p.history) same ∙ pass_told c left)) (left_told after tells),
-          )
+              later = omega (arith, some, next, t);
+              stands = record {
+                stands = record { same = subst (λ (p : Player). seen r p.history ≡ p) (sym same) seen_there; timed = in_time at_next.timed };
+                going = λ k low. law.0 k (omega (arith, low, there));
+              };
+              told = ap (λ (p : Player). p.history) same ∙ pass_told c q;
+            }
 
 -- what a session that is the model's keeps
 module _ (c : Case) (is : IsCase c) (s : Session) (e : shown s ≡ session_of c) where

@@ -1,6 +1,7 @@
 -- The body stands for the model's player, part by part, and what is true of the player serves the body.
-use Rattle.std.proofs.Common.{◌≡◌, ◌∙◌, ℕ, zero, suc, ◌+◌, ◌-◌, ◌<◌, ◌≤◌, ◌⊎◌, inl, inr, List, [], length, true, false, Option, Some, None, sym, ap, subst, ⊎_elim, arith, eqb}
+use Rattle.std.proofs.Common.{◌≡◌, ◌∙◌, ℕ, zero, suc, ◌+◌, ◌-◌, ◌<◌, ◌≤◌, ◌⊎◌, inl, inr, List, [], length, true, false, Option, Some, None, Result, Ok, Err, sym, ap, subst, ⊎_elim, arith, eqb}
 use Rattle.std.specs.Option.{IfSome, option_map}
+use Rattle.std.specs.Result.{IfOk}
 use Rattle.std.proofs.lemmas.Bool.{cases_lt, ne_eqb, false_from_ne_true, eq-eqb, true≢false}
 use Rattle.std.proofs.lemmas.Option.{IfSome_then}
 use Rattle.lab_model.specs.declared.trace.Period.{Period}
@@ -79,6 +80,11 @@ body_sound c n from p b now = any_history c from b p.history [] (subst (Sound c 
 
 pub body_instant : (c : Case) (n from : ℕ) (p : Player) (b : Body) → Now c n from p b → b.t ≡ n
 body_instant c n from p b now = ap (λ (q : Player). q.t) now.same ∙ now.instant
+
+-- both of two things that hold of a result's value
+pub ok_both : {T E : Type 0} (r : Result T E) (P Q : T → Type 0) → IfOk r P → IfOk r Q → IfOk r (λ v. P v × Q v)
+ok_both (Ok v) P Q p q = (p, q)
+ok_both (Err e) P Q p q = tt
 
 -- ---- what the parts of a millisecond need
 

@@ -1,18 +1,21 @@
 -- Not part of the model: what the proofs keep.
 -- What the values of the player's code stand for.
-use Rattle.std.specs.Prelude.{◌≡◌, ℕ, ◌+◌, ◌-◌, ◌*◌, ◌<◌, ◌≤◌, ◌==◌, ◌⊎◌, List, [], true, Option, None, IfSome, option_map}
+use Rattle.std.specs.Prelude.{◌≡◌, ℕ, ◌+◌, ◌-◌, ◌*◌, ◌<◌, ◌≤◌, ◌==◌, ◌⊎◌, List, [], true, false, Option, None, IfSome, option_map}
 use Rattle.lab_model.specs.declared.trace.Period.{Period}
 use Rattle.lab_model.specs.declared.setup.Setup.{Setup}
+use Rattle.lab_model.specs.declared.context.Seek.{Seek}
+use Rattle.lab_model.specs.Rules.{RuleKind}
 use Rattle.lab_model.specs.Film.{Film, segments_of, size_of}
 use Rattle.network_clock.specs.Network.{done_at, first_at, is_spent}
 use Rattle.player_core.specs.declared.body.Running.{Running}
 use Rattle.player_core.specs.declared.body.Body.{Body}
 use Rattle.player_core.specs.declared.body.Phase.{Phase}
 use Rattle.player_core.specs.declared.body.Phase.TheVariants as phase
-use Rattle.player_core.specs.State.{Case, Download, Mode, Player, starting, playing, seeking, ended}
+use Rattle.player_core.specs.State.{Case, Download, Mode, Player, case_of, starting, playing, seeking, ended}
 use Rattle.player_core.specs.Available.{available_at}
-use Rattle.player_core.specs.Parts.{gone_on, is_playing}
-use Rattle.player_core.specs.Sound.{Sound}
+use Rattle.player_core.specs.Parts.{gone_on, instant, is_ended, is_playing}
+use Rattle.player_core.specs.Session.{ends_at, player_after}
+use Rattle.player_core.specs.Sound.{IsCase}
 
 -- the download that a running one stands for
 abbrev pub download_of : Running → Download
@@ -56,10 +59,6 @@ Follows part old new = (history : List ℕ) → seen new (part (seen old history
 abbrev pub GoesOn : Case → List ℕ → Body → Body → Type 0
 GoesOn c history old new = seen new (gone_on c (seen old history)).history ≡ gone_on c (seen old history)
 
--- the body stands for a sound player
-abbrev pub IsSound : Case → ℕ → Body → Type 0
-IsSound c from b = Sound c from (seen b [])
-
 -- a running download of some film and network knows when its bits begin and when it is done
 abbrev pub IsTimed : Film → List Period → Option Running → Type 0
 IsTimed f periods download = IfSome download (λ r.
@@ -69,6 +68,34 @@ IsTimed f periods download = IfSome download (λ r.
 pub record Step (part : Player → Player) (old new : Body) : Type 0 where
   pub follows : Follows part old new
   pub timed : (f : Film) (ps : List Period) → IsTimed f ps old.download → IsTimed f ps new.download
+
+-- the body stands for this player, and a running download knows its instants
+pub record StandsFor (c : Case) (p : Player) (b : Body) : Type 0 where
+  pub same : seen b p.history ≡ p
+  pub timed : IsTimed c.film c.periods b.download
+
+-- the body stands for the player of a session before its instant, and no instant before it was the end
+pub record StandsAt (c : Case) (b : Body) : Type 0 where
+  pub stands : StandsFor c (player_after c b.t) b
+  pub going : (k : ℕ) → k < b.t → ends_at c k ≡ false
+
+-- the same after the parts of the instant
+pub record LeftAt (c : Case) (b : Body) : Type 0 where
+  pub stands : StandsFor c (instant c (player_after c b.t)) b
+  pub going : (k : ℕ) → k < b.t → ends_at c k ≡ false
+
+-- with some rule it does, and the session goes on
+pub record CanWait (f : Film) (periods : List Period) (set : Setup) (seeks : List Seek) (ahead : ℕ) (b : Body) : Type 0 where
+  pub rule : RuleKind
+  pub case : IsCase (case_of f periods set seeks ahead rule)
+  pub left : LeftAt (case_of f periods set seeks ahead rule) b
+  pub goes : is_ended (mode_of b.phase) ≡ false
+
+-- from one instant to a later one at which something may happen: the rule is told nothing on the way
+pub record Waits (c : Case) (old new : Body) : Type 0 where
+  pub later : old.t < new.t
+  pub stands : StandsAt c new
+  pub told : (player_after c new.t).history ≡ (instant c (player_after c old.t)).history
 
 -- a running download can take its network millisecond
 pub record CanTake (periods : List Period) (t : ℕ) (r : Running) : Type 0 where

@@ -176,8 +176,33 @@ impl Body {
         Ok(())
     }
 
+    /// The parts of an instant: arrival and end, and where the session goes on abandonment, seek and request.
+    pub fn instant<T: Rule>(
+        &mut self,
+        m: &Manifest,
+        clock: &Clock,
+        set: &Setup,
+        seeks: &[Seek],
+        ahead: u32,
+        rule: &mut T,
+    ) -> Result<(), NoMemory>
+        requires case { IsCase (case_of m.now clock.now set.now seeks.now ahead (T.kind rule.old)) }
+        requires stands { StandsAt (case_of m.now clock.now set.now seeks.now ahead (T.kind rule.old)) self.old }
+        requires told { T.stands_for rule.old (player_after (case_of m.now clock.now set.now seeks.now ahead (T.kind rule.old)) self.old.t).history }
+        ensures kind { T.kind rule.new ≡ T.kind rule.old }
+        ensures instant { IfOk result (λ _. self.new.t ≡ self.old.t) }
+        ensures left { IfOk result (λ _. LeftAt (case_of m.now clock.now set.now seeks.now ahead (T.kind rule.old)) self.new) }
+        ensures told { IfOk result (λ _. T.stands_for rule.new (instant (case_of m.now clock.now set.now seeks.now ahead (T.kind rule.old)) (player_after (case_of m.now clock.now set.now seeks.now ahead (T.kind rule.old)) self.old.t)).history) }
+    {
+        self.stop(m, rule)?;
+        if self.phase.is_ended() {
+            return Ok(());
+        }
+        self.go_on(m, clock, set, seeks, ahead, rule)
+    }
+
     /// What an instant begins with: the arrival, and then the end.
-    pub fn stop<T: Rule>(&mut self, m: &Manifest, rule: &mut T) -> Result<(), NoMemory>
+    fn stop<T: Rule>(&mut self, m: &Manifest, rule: &mut T) -> Result<(), NoMemory>
         requires ready { IfSome self.old.download (λ d. d.job.left ≡ 0 → CanLoad m.now (seen self.old []) (download_of d)) }
         ensures kind { T.kind rule.new ≡ T.kind rule.old }
         ensures stops { IfOk result (λ _. (c : Case) → c.film ≡ m.now → Step (stopped c) self.old self.new) }
@@ -188,7 +213,7 @@ impl Body {
     }
 
     /// What an instant does where the session goes on: abandonment, seek and request.
-    pub fn go_on<T: Rule>(
+    fn go_on<T: Rule>(
         &mut self,
         m: &Manifest,
         clock: &Clock,
@@ -638,5 +663,6 @@ ghost use Rattle.player_core.specs.Parts.{abandon, gives_up, is_playing, progres
 ghost use Rattle.player_core.specs.Ready.{CanJudge, CanLoad};
 ghost use Rattle.player_core.specs.State.{case_of};
 ghost use Rattle.player_core.specs.Sound.{Sound};
-ghost use Rattle.player_core.specs.Parts.{gone_on, stopped};
-ghost use Rattle.player_core.specs.Seen.{GoesOn};
+ghost use Rattle.player_core.specs.Parts.{gone_on, instant, stopped};
+ghost use Rattle.player_core.specs.Seen.{GoesOn, LeftAt, StandsAt};
+ghost use Rattle.player_core.specs.Session.{player_after};

@@ -75,14 +75,11 @@ pub fn play_from<T: Rule + Drop>(
     let mut body = Body::new(alloc);
     let mut rule = rule;
     for _turn in 0..LATEST_MS {
-        body.stop(m, &mut rule)?;
+        body.instant(m, clock, set, seeks, ahead, &mut rule)?;
         if body.phase.is_ended() {
             return Ok(body.into_session());
         }
-        body.go_on(m, clock, set, seeks, ahead, &mut rule)?;
-        let quiet = body.quiet_ms(m, set, seeks, ahead);
-        body.pass(m, clock)?;
-        body.glide(clock, quiet - 1);
+        body.wait(m, clock, set, seeks, ahead)?;
     }
     unreachable!()
 }

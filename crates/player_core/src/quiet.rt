@@ -1,17 +1,19 @@
 //! Stretches of milliseconds in which nothing happens: how long they are, and how they pass at once.
 
-ghost use Rattle.std.specs.Prelude.{◌≡◌, ℕ, ◌+◌, ◌-◌, ◌*◌, ◌%◌, ◌<◌, ◌≤◌, ◌⊎◌, List, Option, None, Some, IfSome, true, false, nat_lt, if◌then◌else◌};
+ghost use Rattle.std.specs.Prelude.{◌≡◌, ℕ, ◌+◌, ◌-◌, ◌*◌, ◌%◌, ◌<◌, ◌≤◌, ◌⊎◌, List, Option, None, Some, IfSome, true, false, nat_lt, if◌then◌else◌, IfOk};
 ghost use Rattle.lab_model.specs.Film.{Film, segments_of, size_of};
+ghost use Rattle.lab_model.specs.Rules.{RuleKind};
 ghost use Rattle.network_clock.specs.Network.{first_at, job_after};
 ghost use Rattle.player_core.specs.Available.{available_at};
 ghost use Rattle.player_core.specs.Parts.{is_playing, seek_at};
 ghost use Rattle.player_core.specs.Quiet.{IsQuiet, glides, is_due_ms, taken_ms};
-ghost use Rattle.player_core.specs.Seen.{CanGlide, CanRest, Follows, IsTimed, download_of, mode_of, seen};
-ghost use Rattle.player_core.specs.State.{Case};
+ghost use Rattle.player_core.specs.Seen.{CanGlide, CanRest, CanWait, Follows, IsTimed, LeftAt, Waits, download_of, mode_of, seen};
+ghost use Rattle.player_core.specs.Sound.{IsCase};
+ghost use Rattle.player_core.specs.State.{Case, case_of};
 
 use crate::body::{Body, Phase, Running};
 use crate::player::{LATEST_MS, available};
-use lab_model::{Manifest, Seek, Setup};
+use lab_model::{Manifest, NoMemory, Seek, Setup};
 use network_clock::Clock;
 
 /// The milliseconds from `elapsed` after a request, at most 10^9, to the next instant at which its download may be looked at for
@@ -113,7 +115,7 @@ impl Body {
 
     /// The milliseconds, at least 1, for which nothing happens after an instant: no arrival, test for abandonment, seek or request, and
     /// no beginning of a segment or of a stall after the first of them.
-    pub fn quiet_ms(&self, m: &Manifest, set: &Setup, seeks: &[Seek], ahead: u32) -> u64
+    fn quiet_ms(&self, m: &Manifest, set: &Setup, seeks: &[Seek], ahead: u32) -> u64
         requires { CanRest m.now set.now ahead self.now }
         ensures some { 1 ≤ result }
         ensures limit { result ≤ 1000000000000000 }
@@ -127,7 +129,7 @@ impl Body {
     }
 
     /// So many milliseconds pass at once, in which nothing begins.
-    pub fn glide(&mut self, clock: &Clock, ms: u64)
+    fn glide(&mut self, clock: &Clock, ms: u64)
         requires { CanGlide self.old ms }
         ensures glides { (c : Case) → c.periods ≡ clock.now → IsTimed c.film c.periods self.old.download → Follows (glides c ms) self.old self.new }
         ensures timed { (f : Film) → IsTimed f clock.now self.old.download → IsTimed f clock.now self.new.download }
@@ -144,5 +146,23 @@ impl Body {
             Phase::Ended => (),
         }
         self.t += ms;
+    }
+
+    /// The milliseconds pass from one instant to the next at which something may happen.
+    pub fn wait(
+        &mut self,
+        m: &Manifest,
+        clock: &Clock,
+        set: &Setup,
+        seeks: &[Seek],
+        ahead: u32,
+    ) -> Result<(), NoMemory>
+        requires { CanWait m.now clock.now set.now seeks.now ahead self.old }
+        ensures { IfOk result (λ _. (kind : RuleKind) → IsCase (case_of m.now clock.now set.now seeks.now ahead kind) → LeftAt (case_of m.now clock.now set.now seeks.now ahead kind) self.old → Waits (case_of m.now clock.now set.now seeks.now ahead kind) self.old self.new) }
+    {
+        let quiet = self.quiet_ms(m, set, seeks, ahead);
+        self.pass(m, clock)?;
+        self.glide(clock, quiet - 1);
+        Ok(())
     }
 }

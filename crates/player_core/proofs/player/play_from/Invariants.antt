@@ -1,7 +1,7 @@
 use Rattle.std.proofs.Common.{◌≡◌, ◌≤◌}
 use Rattle.player_core.specs.State.{case_of}
 use Rattle.player_core.specs.Session.{player_after}
-use Rattle.player_core.proofs.Chain.{StandsAt}
+use Rattle.player_core.specs.Seen.{StandsAt}
 use Rattle.player_core.proofs.player.play_from.Given as goal
 
 abbrev pub invariant-loop-turn : goal.invariant-loop-turn
