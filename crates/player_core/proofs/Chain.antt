@@ -1,5 +1,5 @@
 -- The parts of a turn, one after the other, with what is true after each.
-use Rattle.std.proofs.Common.{◌≡◌, ◌∙◌, ℕ, ◌+◌, ◌-◌, ◌<◌, ◌≤◌, List, [], length, true, false, refl, sym, ap, subst, ⊎_elim, arith}
+use Rattle.std.proofs.Common.{◌≡◌, ◌∙◌, ℕ, ◌+◌, ◌-◌, ◌<◌, ◌≤◌, List, [], length, true, false, refl, sym, ap, subst, ⊎_elim, add-one, below_more, arith}
 use Rattle.std.proofs.lemmas.Bool.{cases_lt, true≢false}
 use Rattle.std.specs.List.{All}
 use Rattle.lab_model.specs.declared.trace.Period.{Period}
@@ -23,7 +23,7 @@ use Rattle.std.specs.Option.{IfSome}
 use Rattle.player_core.proofs.Bounds.{last_count, last_rungs, last_times}
 use Rattle.player_core.proofs.Ends.{end_early, end_is, last_t, sessions_end}
 use Rattle.player_core.proofs.Follow.{Now, any_history, body_instant, body_sound, glide_ready, now_step, pass_ready, rest_ready, take_ready}
-use Rattle.player_core.proofs.Players.{abandon_t, gone_on_open, gone_on_sound, gone_on_t, instant_ended, instant_goes, instant_sound, instant_t, pass_t, player_sound, seeks_t, sought_sound, stopped_open, stopped_sound, stopped_t}
+use Rattle.player_core.proofs.Players.{abandon_t, gone_on_open, gone_on_sound, gone_on_t, instant_ended, instant_goes, instant_sound, instant_t, pass_t, player_next, player_sound, seeks_t, sought_sound, stopped_open, stopped_sound, stopped_t}
 use Rattle.player_core.proofs.Soundness.{IsOpen, abandon_sound, pass_sound}
 use Rattle.player_core.proofs.Stretch.{next_ahead, pass_next, stretch}
 use Rattle.player_core.proofs.Turned.{gone_goes, last_is, none_timed, pass_told, player_first, request_told, seek_told, turn_goes}
@@ -235,6 +235,21 @@ module _ (c : Case) (is : IsCase c) (a : Body) (left : LeftAt c a) where
             instant = pass_t c q ∙ ap (λ k. k + 1) at_left.instant;
             same = subst (λ (p : Player). seen b (pass_ms c p).history ≡ pass_ms c p) left.stands.same (passes c refl refl q.history);
             timed = timed left.stands.timed;
+          }
+
+      -- one millisecond alone is a wait too
+      pub passes_left : Waits c a b
+      passes_left =
+          let q = instant c (player_after c a.t) in
+          let next = body_instant c (a.t + 1) (a.t + 1) (pass_ms c q) b at_next in
+          let same : player_after c b.t ≡ pass_ms c q = ap (player_after c) (next ∙ add-one a.t) ∙ player_next c a.t left_goes in
+          record {
+            later = omega (arith, next);
+            stands = record {
+              stands = record { same = subst (λ (p : Player). seen b p.history ≡ p) (sym same) at_next.same; timed = at_next.timed };
+              going = λ k low. below_more (λ n. ends_at c n ≡ false) a.t left.going left_goes k (omega (arith, low, next));
+            };
+            told = ap (λ (p : Player). p.history) same ∙ pass_told c q;
           }
 
       module _ (ms : ℕ) (few : ms ≤ 1000000000000000)

@@ -12,4 +12,6 @@ pub use rules::{Fixed, Listed};
 pub use session::{Event, Session};
 
 #[cfg(test)]
+mod plain;
+#[cfg(test)]
 mod tests;
