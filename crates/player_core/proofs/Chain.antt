@@ -148,18 +148,18 @@ module _ (c : Case) (is : IsCase c) (b : Body) (here : StandsAt c b) where
       subst (λ r. Sound (record c { rule = r }) s.t (seen s [])) (sym ruled) (subst (λ n. Sound c n (seen s [])) (sym at) (body_sound c b.t b.t (stopped c (player_after c b.t)) s stop))
 
   -- where the session has ended, that is what the parts leave
-  pub left_ended : (s : Body) → Now c b.t b.t (stopped c (player_after c b.t)) s → is_ended (mode_of s.phase) ≡ true → LeftAt c s × (s.t ≡ b.t)
+  pub left_ended : (s : Body) → Now c b.t b.t (stopped c (player_after c b.t)) s → is_ended (mode_of s.mode) ≡ true → LeftAt c s × (s.t ≡ b.t)
   left_ended s stop ended =
       let over = sym (ap (λ (q : Player). is_ended q.mode) stop.same) ∙ ended in
       lefts_at (stopped c (player_after c b.t)) s b.t stop (instant_ended c (player_after c b.t) over)
 
-  pub told_ended : (s : Body) → Now c b.t b.t (stopped c (player_after c b.t)) s → is_ended (mode_of s.phase) ≡ true → (told : List ℕ → Type 0) → told (stopped c (player_after c b.t)).history → told (instant c (player_after c b.t)).history
+  pub told_ended : (s : Body) → Now c b.t b.t (stopped c (player_after c b.t)) s → is_ended (mode_of s.mode) ≡ true → (told : List ℕ → Type 0) → told (stopped c (player_after c b.t)).history → told (instant c (player_after c b.t)).history
   told_ended s stop ended told h =
       let over = sym (ap (λ (q : Player). is_ended q.mode) stop.same) ∙ ended in
       subst (λ (q : Player). told q.history) (sym (instant_ended c (player_after c b.t) over)) h
 
   -- and where it goes on, what the other parts make of it
-  module _ (s : Body) (stop : Now c b.t b.t (stopped c (player_after c b.t)) s) (on : is_ended (mode_of s.phase) ≡ false) where
+  module _ (s : Body) (stop : Now c b.t b.t (stopped c (player_after c b.t)) s) (on : is_ended (mode_of s.mode) ≡ false) where
     goes : is_ended (stopped c (player_after c b.t)).mode ≡ false
     goes = sym (ap (λ (q : Player). is_ended q.mode) stop.same) ∙ on
 
@@ -194,13 +194,13 @@ module _ (c : Case) (is : IsCase c) (a : Body) (left : LeftAt c a) where
   at_left_early = early_before c is a.t left.going
 
   -- the session that the body shows where it has ended
-  pub session_is : (e : Session) → is_ended (mode_of a.phase) ≡ true → ((h : List ℕ) → shown e ≡ shown_by (seen a h)) → shown e ≡ session_of c
+  pub session_is : (e : Session) → is_ended (mode_of a.mode) ≡ true → ((h : List ℕ) → shown e ≡ shown_by (seen a h)) → shown e ≡ session_of c
   session_is e ended shows =
       let q = instant c (player_after c a.t) in
       let over = sym (ap (λ (r : Player). is_ended r.mode) left.stands.same) ∙ ended in
       shows q.history ∙ ap shown_by left.stands.same ∙ ap shown_by (sym (last_at c a.t at_left_early left.going over))
 
-  module _ (on : is_ended (mode_of a.phase) ≡ false) where
+  module _ (on : is_ended (mode_of a.mode) ≡ false) where
     left_goes : ends_at c a.t ≡ false
     left_goes = sym (ap (λ (r : Player). is_ended r.mode) left.stands.same) ∙ on
 

@@ -11,7 +11,7 @@ use Rattle.network_clock.specs.Network.{first_at, is_spent, job_after, pass, per
 use Rattle.network_clock.proofs.Downloads.{first_found, first_not_before}
 use Rattle.network_clock.proofs.Laws.{job_next, job_start, left_falls}
 use Rattle.player_core.specs.declared.body.Body.{Body}
-use Rattle.player_core.specs.declared.body.Running.{Running}
+use Rattle.player_core.specs.declared.running.Running.{Running}
 use Rattle.player_core.specs.State.{Case, Download, Player}
 use Rattle.player_core.specs.Sound.{IsCase, Runs, Sound, asked_size}
 use Rattle.player_core.specs.Seen.{CanGlide, CanRest, CanTake, IsTimed, Step, download_of, seen}
@@ -113,7 +113,7 @@ pub load_ready : (c : Case) → IsCase c → (from : ℕ) (b : Body) → Sound c
 load_ready c is from b s = load_of c is (seen b []) (end_most c is from (seen b []) s) b.download s.running s.of_next
 
 judge_of : (c : Case) → IsCase c → (p : Player) (o : Option Running) → IfSome (option_map download_of o) (Runs c p.t)
-    → IfSome o (λ r. CanJudge c.film p (download_of r))
+    → IfSome o (λ r. CanJudge c.film p.t (download_of r))
 judge_of c is p None runs = tt
 judge_of c is p (Some r) runs =
     let d = download_of r in
@@ -127,7 +127,7 @@ judge_of c is p (Some r) runs =
       pace = (runs_pace c is p.t d runs).1;
     }
 
-pub judge_ready : (c : Case) → IsCase c → (from : ℕ) (b : Body) → Sound c from (seen b []) → IfSome b.download (λ r. CanJudge c.film (seen b []) (download_of r))
+pub judge_ready : (c : Case) → IsCase c → (from : ℕ) (b : Body) → Sound c from (seen b []) → IfSome b.download (λ r. CanJudge c.film b.t (download_of r))
 judge_ready c is from b s = judge_of c is (seen b []) b.download s.running
 
 pub wasted_ready : (c : Case) → IsCase c → (from : ℕ) (b : Body) → Sound c from (seen b []) → b.wasted ≤ 1000000000000000

@@ -7,10 +7,10 @@ use Rattle.lab_model.specs.declared.context.Seek.{Seek}
 use Rattle.lab_model.specs.Rules.{RuleKind}
 use Rattle.lab_model.specs.Film.{Film, segments_of, size_of}
 use Rattle.network_clock.specs.Network.{done_at, first_at, is_spent}
-use Rattle.player_core.specs.declared.body.Running.{Running}
+use Rattle.player_core.specs.declared.running.Running.{Running}
 use Rattle.player_core.specs.declared.body.Body.{Body}
-use Rattle.player_core.specs.declared.body.Phase.{Phase}
-use Rattle.player_core.specs.declared.body.Phase.TheVariants as phase
+use Rattle.player_core.specs.declared.mode.Mode.{Mode as BodyMode}
+use Rattle.player_core.specs.declared.mode.Mode.TheVariants as mode
 use Rattle.player_core.specs.State.{Case, Download, Mode, Player, case_of, starting, playing, seeking, ended}
 use Rattle.player_core.specs.Available.{available_at}
 use Rattle.player_core.specs.Parts.{gone_on, instant, is_ended, is_playing}
@@ -21,12 +21,12 @@ use Rattle.player_core.specs.Sound.{IsCase}
 abbrev pub download_of : Running → Download
 download_of r = record { segment = r.segment; rung = r.rung; asked = r.asked; job = r.job; first = r.first }
 
--- the mode that a phase stands for
-abbrev pub mode_of : Phase → Mode
-mode_of phase.Starting = starting
-mode_of phase.Playing = playing
-mode_of phase.Seeking = seeking
-mode_of phase.Ended = ended
+-- the mode that a body's mode stands for
+abbrev pub mode_of : BodyMode → Mode
+mode_of mode.Starting = starting
+mode_of mode.Playing = playing
+mode_of mode.Seeking = seeking
+mode_of mode.Ended = ended
 
 -- the player that a body stands for, with its history
 abbrev pub seen : Body → List ℕ → Player
@@ -38,7 +38,7 @@ seen b history = record {
   download = option_map download_of b.download;
   forced = b.forced;
   last = b.last;
-  mode = mode_of b.phase;
+  mode = mode_of b.mode;
   loaded = b.loaded.items;
   stalling = b.stalling;
   history = history;
@@ -63,6 +63,14 @@ GoesOn c history old new = seen new (gone_on c (seen old history)).history ≡ g
 abbrev pub IsTimed : Film → List Period → Option Running → Type 0
 IsTimed f periods download = IfSome download (λ r.
     (r.begins ≡ first_at periods r.asked (size_of f r.segment r.rung)) × (r.done ≡ done_at periods r.asked (size_of f r.segment r.rung)))
+
+-- a download that was asked for as another was
+abbrev pub SameRequest : Running → Running → Type 0
+SameRequest old new = (new.begins ≡ old.begins) × (new.done ≡ old.done) × (new.asked ≡ old.asked) × (new.segment ≡ old.segment) × (new.rung ≡ old.rung)
+
+-- neither the instant nor the download has changed
+abbrev pub SameDownload : Body → Body → Type 0
+SameDownload old new = (new.t ≡ old.t) × (new.download ≡ old.download)
 
 -- the body went through this part of an instant, and a running download still knows its instants
 pub record Step (part : Player → Player) (old new : Body) : Type 0 where
@@ -89,7 +97,7 @@ pub record CanWait (f : Film) (periods : List Period) (set : Setup) (seeks : Lis
   pub rule : RuleKind
   pub case : IsCase (case_of f periods set seeks ahead rule)
   pub left : LeftAt (case_of f periods set seeks ahead rule) b
-  pub goes : is_ended (mode_of b.phase) ≡ false
+  pub goes : is_ended (mode_of b.mode) ≡ false
 
 -- from one instant to a later one at which something may happen: the rule is told nothing on the way
 pub record Waits (c : Case) (old new : Body) : Type 0 where
@@ -116,5 +124,5 @@ pub record CanGlide (b : Body) (ms : ℕ) : Type 0 where
   pub end : b.y ≤ 120000000
   pub instant : b.t + ms ≤ 2000000000000000
   pub times : b.startup_ms + b.stall_ms + b.seek_ms ≤ b.t
-  pub moves : is_playing (mode_of b.phase) ≡ true → b.x < b.y → b.x + ms ≤ b.y
+  pub moves : is_playing (mode_of b.mode) ≡ true → b.x < b.y → b.x + ms ≤ b.y
   pub jobs : IfSome b.download (λ r. (r.job.credit ≤ 100000000) × (r.job.left ≤ 200000000000))

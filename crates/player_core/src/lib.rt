@@ -2,9 +2,12 @@
 #![tactic(auto)]
 
 mod body;
+mod mode;
 mod player;
 mod quiet;
 mod rules;
+mod running;
+mod script;
 mod session;
 
 pub use player::{available, play, play_from, seeks_fit};

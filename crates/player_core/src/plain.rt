@@ -38,7 +38,7 @@ pub fn play_from<T: Rule + Drop>(
     let mut rule = rule;
     for _ms in 0..LATEST_MS {
         body.instant(m, clock, set, seeks, ahead, &mut rule)?;
-        if body.phase.is_ended() {
+        if body.mode.is_ended() {
             return Ok(body.into_session());
         }
         body.pass(m, clock)?;

@@ -46,6 +46,9 @@ pub fn seeks_fit(seeks: &[Seek], m: &Manifest) -> bool
         && seeks.iter().all(|s| s.to < segments)
 }
 
+/// So much media ahead, in milliseconds, that every film within the limits is there at instant 0.
+const ALL_AHEAD_MS: u32 = 120_000_000;
+
 /// An instant, in milliseconds, before which every session within the limits ends.
 pub const LATEST_MS: u64 = 1_000_000_000_000_000;
 
@@ -76,7 +79,7 @@ pub fn play_from<T: Rule + Drop>(
     let mut rule = rule;
     for _turn in 0..LATEST_MS {
         body.instant(m, clock, set, seeks, ahead, &mut rule)?;
-        if body.phase.is_ended() {
+        if body.mode.is_ended() {
             return Ok(body.into_session());
         }
         body.wait(m, clock, set, seeks, ahead)?;
@@ -103,5 +106,5 @@ pub fn play<T: Rule + Drop>(
     ensures ends { IfOk result (λ s. s.end < 1000000000000000) }
     ensures times { IfOk result (λ s. s.startup_ms + s.stall_ms + s.seek_ms ≤ s.end) }
 {
-    play_from(alloc, m, clock, set, seeks, 120_000_000, rule)
+    play_from(alloc, m, clock, set, seeks, ALL_AHEAD_MS, rule)
 }

@@ -1,85 +1,21 @@
 //! Stretches of milliseconds in which nothing happens: how long they are, and how they pass at once.
 
-ghost use Rattle.std.specs.Prelude.{◌≡◌, ℕ, ◌+◌, ◌-◌, ◌*◌, ◌%◌, ◌<◌, ◌≤◌, ◌⊎◌, List, Option, None, Some, IfSome, true, false, nat_lt, if◌then◌else◌, IfOk};
-ghost use Rattle.lab_model.specs.Film.{Film, segments_of, size_of};
+ghost use Rattle.std.specs.Prelude.{◌≡◌, ℕ, ◌+◌, ◌-◌, ◌%◌, ◌<◌, ◌≤◌, ◌⊎◌, List, true, IfOk};
+ghost use Rattle.lab_model.specs.Film.{Film, segments_of};
 ghost use Rattle.lab_model.specs.Rules.{RuleKind};
-ghost use Rattle.network_clock.specs.Network.{first_at, job_after};
 ghost use Rattle.player_core.specs.Available.{available_at};
-ghost use Rattle.player_core.specs.Parts.{is_playing, seek_at};
-ghost use Rattle.player_core.specs.Quiet.{IsQuiet, glides, is_due_ms, taken_ms};
-ghost use Rattle.player_core.specs.Seen.{CanGlide, CanRest, CanWait, Follows, IsTimed, LeftAt, Waits, download_of, mode_of, seen};
+ghost use Rattle.player_core.specs.Parts.{is_playing};
+ghost use Rattle.player_core.specs.Quiet.{IsQuiet, glides};
+ghost use Rattle.player_core.specs.Seen.{CanGlide, CanRest, CanWait, Follows, IsTimed, LeftAt, Waits, mode_of, seen};
 ghost use Rattle.player_core.specs.Sound.{IsCase};
 ghost use Rattle.player_core.specs.State.{Case, case_of};
 
-use crate::body::{Body, Phase, Running};
+use crate::body::Body;
+use crate::mode::Mode;
 use crate::player::{LATEST_MS, available};
+use crate::script::seek_in;
 use lab_model::{Manifest, NoMemory, Seek, Setup};
 use network_clock::Clock;
-
-/// The milliseconds from `elapsed` after a request, at most 10^9, to the next instant at which its download may be looked at for
-/// abandonment.
-fn due_in(elapsed: u64) -> u64
-    requires { elapsed ≤ 1000000000 }
-    ensures some { 1 ≤ result }
-    ensures none_before { (m : ℕ) → elapsed < m → m < elapsed + result → is_due_ms m ≡ false }
-{
-    let next = (elapsed / 100 + 1) * 100;
-    next.max(500) - elapsed
-}
-
-/// The milliseconds from an instant to the next seek, `LATEST_MS` where there is none.
-fn seek_in(seeks: &[Seek], t: u64) -> u64
-    ensures some { 1 ≤ result }
-    ensures limit { result ≤ 1000000000000000 }
-    ensures none_before { (m : ℕ) → t < m → m < t + result → seek_at seeks.now m ≡ None }
-{
-    let mut ms = LATEST_MS;
-    for s in seeks {
-        if s.at_ms > t {
-            ms = ms.min(s.at_ms - t);
-        }
-    }
-    ms
-}
-
-impl Running {
-    /// The milliseconds from an instant to the arrival, or to the next instant at which the download may be given up.
-    fn quiet_ms(&self, t: u64, set: &Setup) -> u64
-        requires asked { self.now.asked ≤ t }
-        requires running { t < self.now.done }
-        requires short { self.now.done ≤ self.now.asked + 300010000 }
-        ensures some { 1 ≤ result }
-        ensures arrives { t + result ≤ self.now.done }
-        ensures judges { set.now.abandon ≡ true → (self.now.rung ≡ 0) ⊎ ((m : ℕ) → t < m → m < t + result → is_due_ms (m - self.now.asked) ≡ false) }
-    {
-        let left = self.done - t;
-        if set.abandon && self.rung > 0 {
-            left.min(due_in(t - self.asked))
-        } else {
-            left
-        }
-    }
-
-    /// The download after so many milliseconds from an instant on.
-    fn after(&self, clock: &Clock, t: u64, ms: u64) -> Running
-        requires instant { t + ms ≤ 2000000000000000 }
-        requires credit { self.now.job.credit ≤ 100000000 }
-        requires left { self.now.job.left ≤ 200000000000 }
-        ensures takes { (c : Case) → c.periods ≡ clock.now → self.now.begins ≡ first_at c.periods self.now.asked (size_of c.film self.now.segment self.now.rung) → download_of result ≡ taken_ms c t ms (download_of self.now) }
-        ensures same { (result.begins ≡ self.now.begins) × (result.done ≡ self.now.done) × (result.asked ≡ self.now.asked) × (result.segment ≡ self.now.segment) × (result.rung ≡ self.now.rung) }
-    {
-        let to = t + ms;
-        Running {
-            job: clock.advance(self.job, t, to),
-            first: if self.begins < to {
-                Some(self.begins)
-            } else {
-                None
-            },
-            ..*self
-        }
-    }
-}
 
 impl Body {
     /// The milliseconds until a segment may be asked for: until it fits the buffer, or else until it is there.
@@ -104,9 +40,9 @@ impl Body {
     /// The milliseconds until a segment begins or play stalls.
     fn begin_in(&self, m: &Manifest) -> u64
         ensures some { 1 ≤ result }
-        ensures plays { is_playing (mode_of self.now.phase) ≡ true → self.now.x < self.now.y → self.now.x % m.now.seg_ms + result ≤ m.now.seg_ms }
+        ensures plays { is_playing (mode_of self.now.mode) ≡ true → self.now.x < self.now.y → self.now.x % m.now.seg_ms + result ≤ m.now.seg_ms }
     {
-        if self.phase.is_playing() && self.x < self.y {
+        if self.mode.is_playing() && self.x < self.y {
             (m.seg_ms() - self.x % m.seg_ms()) as u64
         } else {
             LATEST_MS
@@ -138,12 +74,12 @@ impl Body {
         if let Some(d) = self.download {
             self.download = Some(d.after(clock, self.t, ms));
         }
-        match self.phase {
-            Phase::Starting => self.startup_ms += ms,
-            Phase::Seeking => self.seek_ms += ms,
-            Phase::Playing if self.x < self.y => self.x += ms as u32,
-            Phase::Playing => self.stall_ms += ms,
-            Phase::Ended => (),
+        match self.mode {
+            Mode::Starting => self.startup_ms += ms,
+            Mode::Seeking => self.seek_ms += ms,
+            Mode::Playing if self.x < self.y => self.x += ms as u32,
+            Mode::Playing => self.stall_ms += ms,
+            Mode::Ended => (),
         }
         self.t += ms;
     }

@@ -13,12 +13,12 @@ abandons_for : (k : Case) (p : Player) (d : Download) (q : ℕ) → k.setup.aban
 abandons_for k p d q on runs given =
     sym (cond-true k.setup.abandon (gives_up_any k p p.download) p on ∙ ap (gives_up_any k p) runs ∙ ap (gives_up k p d) (sym given))
 
-pub returns-in-Some-judged-clause-abandons : goal.returns-in-Some-judged-clause-abandons
-returns-in-Some-judged-clause-abandons g c =
+pub returns-in-Some-rung_instead-clause-abandons : goal.returns-in-Some-rung_instead-clause-abandons
+returns-in-Some-rung_instead-clause-abandons g c =
     IfOk-weaker c.give_up.result _ _
     (λ x given k film setup.
     step_as _ (abandon k) c.args.self.now c.give_up.new.self
-    (λ history. abandons_for k (seen c.args.self.now history) (download_of c.in-Some.d) c.in-Some-judged.to (ap (λ s. s.abandon) setup ∙ c.if-not-set.false) (ap (option_map download_of) c.in-Some.is)
-    (sym c.in-Some-judged.is ∙ c.judged.ensures.value ∙ ap (λ f. abandonment f c.in-Some.d.segment c.in-Some.d.rung (progress_of f c.args.self.now.t (download_of c.in-Some.d))) (sym film)))
+    (λ history. abandons_for k (seen c.args.self.now history) (download_of c.in-Some.d) c.in-Some-rung_instead.to (ap (λ s. s.abandon) setup ∙ c.if-not-set.false) (ap (option_map download_of) c.in-Some.is)
+    (sym c.in-Some-rung_instead.is ∙ c.rung_instead.ensures.value ∙ ap (λ f. abandonment f c.in-Some.d.segment c.in-Some.d.rung (progress_of f c.args.self.now.t (download_of c.in-Some.d))) (sym film)))
     (given k film))
     c.give_up.ensures.gives_up

@@ -1,6 +1,6 @@
 use Rattle.std.proofs.Common.{◌≡◌, ℕ, ◌+◌, ◌<◌, ◌≤◌, drop}
 use Rattle.player_core.specs.Parts.{seek_at}
-use Rattle.player_core.proofs.quiet.seek_in.Given as goal
+use Rattle.player_core.proofs.script.seek_in.Given as goal
 
 abbrev pub invariant-loop-s : goal.invariant-loop-s
 invariant-loop-s l = record {
