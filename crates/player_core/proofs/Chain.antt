@@ -1,52 +1,287 @@
 -- The parts of a turn, one after the other, with what is true after each.
-use Rattle.std.proofs.Common.{◌≡◌, ◌∙◌, ℕ, ◌+◌, ◌<◌, ◌≤◌, List, length, true, false, sym, ap, subst, arith}
+use Rattle.std.proofs.Common.{◌≡◌, ◌∙◌, ℕ, ◌+◌, ◌-◌, ◌<◌, ◌≤◌, List, [], length, true, false, refl, sym, ap, subst, ⊎_elim, add-one, below_more, arith}
+use Rattle.std.proofs.lemmas.Bool.{cases_lt, true≢false}
 use Rattle.std.specs.List.{All}
-use Rattle.lab_model.specs.Film.{rungs_of, segments_of}
+use Rattle.lab_model.specs.declared.trace.Period.{Period}
+use Rattle.lab_model.specs.declared.setup.Setup.{Setup}
+use Rattle.lab_model.specs.declared.context.Seek.{Seek}
+use Rattle.lab_model.specs.Cycle.{IsTrace}
+use Rattle.lab_model.specs.Film.{Film, IsFilm, rungs_of, segments_of}
+use Rattle.lab_model.specs.Fit.{SetupFits}
+use Rattle.lab_model.specs.Rules.{KindFits, RuleKind}
+use Rattle.lab_model.specs.Seeks.{SeeksFit}
 use Rattle.player_core.specs.declared.body.Body.{Body}
 use Rattle.player_core.specs.declared.session.Session.{Session}
-use Rattle.player_core.specs.State.{Case, Player}
-use Rattle.player_core.specs.Parts.{abandon, arrival, finish, is_ended, request, seek}
-use Rattle.player_core.specs.Session.{Shown, end_of, ends_at, latest_ms, player_after, session_of, shown, shown_by}
-use Rattle.player_core.specs.Sound.{IsCase}
-use Rattle.player_core.specs.Seen.{IsTimed, seen}
+use Rattle.player_core.specs.State.{Case, Player, case_of, first_player}
+use Rattle.player_core.specs.Parts.{abandon, gone_on, instant, is_ended, is_playing, pass_ms, request, seek, seek_at, stopped}
+use Rattle.player_core.specs.Session.{Shown, end_of, ends_at, last_player, latest_ms, player_after, session_of, shown, shown_by}
+use Rattle.player_core.specs.Sound.{IsCase, Sound}
+use Rattle.player_core.specs.Quiet.{IsQuiet, glides}
+use Rattle.player_core.specs.Seen.{CanGlide, CanRest, CanTake, Follows, GoesOn, IsTimed, LeftAt, StandsAt, StandsFor, Step, Waits, mode_of, seen}
+use Rattle.player_core.specs.Ready.{CanPass}
+use Rattle.std.specs.Option.{IfSome}
 use Rattle.player_core.proofs.Bounds.{last_count, last_rungs, last_times}
-use Rattle.player_core.proofs.Ends.{end_early, last_t}
-use Rattle.player_core.proofs.Follow.{Now, Step, now_step}
-use Rattle.player_core.proofs.Players.{abandon_t, arrives_t, finish_t, player_sound, request_t, seeks_t, sought_sound, stopped}
-use Rattle.player_core.proofs.Soundness.{abandon_sound, arrival_sound, finish_sound, request_sound}
-use Rattle.player_core.specs.Parts.{seek_at}
-use Rattle.player_core.proofs.Turned.{last_is}
+use Rattle.player_core.proofs.Ends.{end_early, end_is, last_t, sessions_end}
+use Rattle.player_core.proofs.Follow.{Now, any_history, body_instant, body_sound, glide_ready, now_step, pass_ready, rest_ready, take_ready}
+use Rattle.player_core.proofs.Players.{abandon_t, gone_on_open, gone_on_sound, gone_on_t, instant_ended, instant_goes, instant_sound, instant_t, pass_t, player_next, player_sound, seeks_t, sought_sound, stopped_open, stopped_sound, stopped_t}
+use Rattle.player_core.proofs.Soundness.{IsOpen, abandon_sound, pass_sound}
+use Rattle.player_core.proofs.Stretch.{next_ahead, pass_next, stretch}
+use Rattle.player_core.proofs.Turned.{gone_goes, last_is, none_timed, pass_told, player_first, request_told, seek_told, turn_goes}
+use Rattle.player_core.proofs.Waits.{IsStill, instant_still}
 
-module _ (c : Case) (is : IsCase c) (n : ℕ) where
-  pub now_top : (b : Body) → ((k : ℕ) → k < n → ends_at c k ≡ false) → seen b (player_after c n).history ≡ player_after c n → IsTimed c.film c.periods b.download
-      → Now c n n (player_after c n) b
-  now_top b going same timed = let sound = player_sound c is n going in record { sound = sound.0; instant = sound.1; same = same; timed = timed }
+-- what the player is called with keeps the limits
+pub is_case : (f : Film) (ps : List Period) (set : Setup) (seeks : List Seek) (ahead : ℕ) (kind : RuleKind) → IsFilm f → IsTrace ps → SetupFits set f → SeeksFit seeks (segments_of f) → ahead ≤ 120000000 → KindFits kind f
+    → IsCase (case_of f ps set seeks ahead kind)
+is_case f ps set seeks ahead kind film trace setup script most rule = record { film = film; trace = trace; setup = setup; seeks = script; ahead = most; rule = rule }
 
-  pub now_arrived : (p : Player) (old new : Body) → Now c n n p old → Step (arrival c) old new → Now c n n (arrival c p) new
-  now_arrived p old new now step = now_step c n n n (arrival c) p old new now step (arrival_sound c n p now.sound) (arrives_t c p p.download ∙ now.instant)
+-- ---- the parts of an instant that goes on
 
-  pub now_finished : (p : Player) (old new : Body) → Now c n n p old → Step (finish c) old new → Now c n n (finish c p) new
-  now_finished p old new now step = now_step c n n n (finish c) p old new now step (finish_sound c n p now.sound) (finish_t c p ∙ now.instant)
+-- what the parts of an instant need that goes on, and what a part has made of it
+module _ (c : Case) (is : IsCase c) (b : Body) (sound : Sound c b.t (seen b [])) (timed : IsTimed c.film c.periods b.download) (a : Body) (given : (k : Case) → k.film ≡ c.film → k.setup ≡ c.setup → Step (abandon k) b a) where
+  now_given : (h : List ℕ) → Now c b.t b.t (abandon c (seen b h)) a
+  now_given h =
+      let top : Now c b.t b.t (seen b h) b = record { sound = any_history c b.t b [] h sound; instant = refl; same = refl; timed = timed } in
+      now_step c b.t b.t b.t (abandon c) (seen b h) b a top (given c refl refl) (abandon_sound c is b.t (seen b h) top.sound) (abandon_t c (seen b h))
 
-  pub now_abandoned : (p : Player) (old new : Body) → Now c n n p old → Step (abandon c) old new → Now c n n (abandon c p) new
-  now_abandoned p old new now step = now_step c n n n (abandon c) p old new now step (abandon_sound c is n p now.sound) (abandon_t c p ∙ now.instant)
+  pub sound_given : Sound c b.t (seen a [])
+  sound_given = body_sound c b.t b.t (abandon c (seen b [])) a (now_given [])
 
-  pub now_sought : (p : Player) (old new : Body) → Now c n n p old → Step (seek c) old new → Now c n (n + 1) (seek c p) new
-  now_sought p old new now step = now_step c n n (n + 1) (seek c) p old new now step (sought_sound c is n p now.instant now.sound) (seeks_t c p (seek_at c.seeks p.t) ∙ now.instant)
+  -- a seek and a request tell the rule nothing
+  told_left : (h : List ℕ) (told : List ℕ → Type 0) → ((k : Case) → k.film ≡ c.film → k.setup ≡ c.setup → told (abandon k (seen b h)).history) → told (seek c (abandon c (seen b h))).history
+  told_left h told here = subst told (sym (seek_told c (abandon c (seen b h)))) (here c refl refl)
 
-  pub now_asked : (p : Player) (old new : Body) → Now c n (n + 1) p old → seen new p.history ≡ request c (seen old p.history) → (IsTimed c.film c.periods old.download → IsTimed c.film c.periods new.download)
-      → (request c p).history ≡ p.history → Now c n (n + 1) (request c p) new
-  now_asked p old new now asked timed told = record {
-    sound = request_sound c is (n + 1) p now.sound;
-    instant = request_t c p ∙ now.instant;
-    same = ap (seen new) told ∙ asked ∙ ap (request c) now.same;
-    timed = timed now.timed;
-  }
+  pub goes_on_told : (h : List ℕ) (told : List ℕ → Type 0) → ((k : Case) → k.film ≡ c.film → k.setup ≡ c.setup → told (abandon k (seen b h)).history) → told (gone_on c (seen b h)).history
+  goes_on_told h told here = subst told (sym (request_told c (seek c (abandon c (seen b h))))) (told_left h told here)
+
+  module _ (s : Body) (sought : (k : Case) → k.film ≡ c.film → k.seeks ≡ c.seeks → Step (seek k) a s) where
+    pub now_left : (h : List ℕ) → Now c b.t (b.t + 1) (seek c (abandon c (seen b h))) s
+    now_left h =
+        let p = abandon c (seen b h) in
+        let now = now_given h in
+        now_step c b.t b.t (b.t + 1) (seek c) p a s now (sought c refl refl) (sought_sound c is b.t p now.instant now.sound) (seeks_t c p (seek_at c.seeks p.t) ∙ now.instant)
+
+    -- a request follows
+    pub goes_on_same : (r : Body) (h : List ℕ) → (told : List ℕ → Type 0)
+        → ((k : Case) (g : List ℕ) → k.film ≡ c.film → k.setup ≡ c.setup → k.ahead ≡ c.ahead → k.rule ≡ c.rule → told g → seen r g ≡ request k (seen s g))
+        → ((k : Case) → k.film ≡ c.film → k.setup ≡ c.setup → told (abandon k (seen b h)).history) → GoesOn c h b r
+    goes_on_same r h told asked here =
+        let p = abandon c (seen b h) in
+        ap (seen r) (request_told c (seek c p)) ∙ asked c (seek c p).history refl refl refl refl (told_left h told here) ∙ ap (request c) (now_left h).same
+
+-- ---- a turn of the loop
+
+-- a case and the same whose rule is this one
+module _ (c : Case) (is : IsCase c) (kind : RuleKind) (ruled : kind ≡ c.rule) where
+  pub ruled_case : IsCase (record c { rule = kind })
+  ruled_case = subst (λ r. IsCase (record c { rule = r })) (sym ruled) is
+
+  pub ruled_stands : (b : Body) → StandsAt c b → StandsAt (record c { rule = kind }) b
+  ruled_stands b here = subst (λ r. StandsAt (record c { rule = r }) b) (sym ruled) here
+
+  pub ruled_told : (b : Body) (told : List ℕ → Type 0) → told (player_after c b.t).history → told (player_after (record c { rule = kind }) b.t).history
+  ruled_told b told h = subst (λ r. told (player_after (record c { rule = r }) b.t).history) (sym ruled) h
+
+  pub left_ruled : (b : Body) → LeftAt (record c { rule = kind }) b → LeftAt c b
+  left_ruled b left = subst (λ r. LeftAt (record c { rule = r }) b) ruled left
+
+  -- what the rule was told, after a wait
+  pub waits_told : (b a r : Body) → a.t ≡ b.t → Waits c a r → (told : List ℕ → Type 0) → told (instant (record c { rule = kind }) (player_after (record c { rule = kind }) b.t)).history → told (player_after c r.t).history
+  waits_told b a r at waits told h =
+      subst told (sym (waits.told ∙ ap (λ n. (instant c (player_after c n)).history) at))
+      (subst (λ k. told (instant (record c { rule = k }) (player_after (record c { rule = k }) b.t)).history) ruled h)
+
+-- where no instant before it was the end, an instant is early
+early_before : (c : Case) → IsCase c → (n : ℕ) → ((k : ℕ) → k < n → ends_at c k ≡ false) → n < latest_ms
+early_before c is n going =
+    let last = sessions_end c is in
+    let early = last.1 in
+    ⊎_elim (λ (past : last.0 < n). absurd (true≢false (sym last.2 ∙ going last.0 past))) (λ (before : n ≤ last.0). omega (arith, before, early)) (cases_lt last.0 n)
+
+-- the player at the first instant that is the end is the last one
+last_at : (c : Case) → (n : ℕ) → n < latest_ms → ((k : ℕ) → k < n → ends_at c k ≡ false) → ends_at c n ≡ true → last_player c ≡ instant c (player_after c n)
+unfolding last_player
+last_at c n low before h = ap (λ (m : ℕ). instant c (player_after c m)) (sym (end_is c n low h before))
+
+-- the body at the start
+pub start_stands : (c : Case) (b : Body) → seen b [] ≡ first_player → StandsAt c b
+start_stands c b e =
+    let none : b.t ≡ 0 = ap (λ (p : Player). p.t) e in
+    let first : player_after c b.t ≡ first_player = ap (player_after c) none ∙ player_first c in
+    record {
+      stands = record { same = subst (λ (p : Player). seen b p.history ≡ p) (sym first) e; timed = none_timed c b e };
+      going = λ k low. absurd (omega (arith, low, none));
+    }
+
+pub start_told : (c : Case) (b : Body) → seen b [] ≡ first_player → (told : List ℕ → Type 0) → told [] → told (player_after c b.t).history
+start_told c b e told h =
+    let none : b.t ≡ 0 = ap (λ (p : Player). p.t) e in
+    subst (λ (p : Player). told p.history) (sym (ap (player_after c) none ∙ player_first c)) h
+
+-- at the top of the turn, and after the arrival and the end
+module _ (c : Case) (is : IsCase c) (b : Body) (here : StandsAt c b) where
+  pub at_top : Now c b.t b.t (player_after c b.t) b
+  at_top = let sound = player_sound c is b.t here.going in record { sound = sound.0; instant = sound.1; same = here.stands.same; timed = here.stands.timed }
+
+  pub at_early : b.t < latest_ms
+  at_early = early_before c is b.t here.going
+
+  -- a body that stands for what the parts leave
+  lefts_at : (q : Player) (a : Body) → (from : ℕ) → Now c b.t from q a → instant c (player_after c b.t) ≡ q → LeftAt c a × (a.t ≡ b.t)
+  lefts_at q a from now same =
+      let at : a.t ≡ b.t = body_instant c b.t from q a now in (
+        record {
+          stands = subst (λ n. StandsFor c (instant c (player_after c n)) a) (sym at) (subst (λ p. StandsFor c p a) (sym same) (record { same = now.same; timed = now.timed }));
+          going = λ k low. here.going k (omega (arith, low, at));
+        },
+        at,
+      )
+
+  pub at_stop : (s : Body) → ((k : Case) → k.film ≡ c.film → Step (stopped k) b s) → Now c b.t b.t (stopped c (player_after c b.t)) s
+  at_stop s stop =
+      let p = player_after c b.t in
+      let top = at_top in
+      now_step c b.t b.t b.t (stopped c) p b s top (stop c refl) (stopped_sound c b.t p top.sound) (stopped_t c p ∙ top.instant)
+
+  pub ruled_sound : (s : Body) → Now c b.t b.t (stopped c (player_after c b.t)) s → (kind : RuleKind) → kind ≡ c.rule → Sound (record c { rule = kind }) s.t (seen s [])
+  ruled_sound s stop kind ruled =
+      let at = body_instant c b.t b.t (stopped c (player_after c b.t)) s stop in
+      subst (λ r. Sound (record c { rule = r }) s.t (seen s [])) (sym ruled) (subst (λ n. Sound c n (seen s [])) (sym at) (body_sound c b.t b.t (stopped c (player_after c b.t)) s stop))
+
+  -- where the session has ended, that is what the parts leave
+  pub left_ended : (s : Body) → Now c b.t b.t (stopped c (player_after c b.t)) s → is_ended (mode_of s.mode) ≡ true → LeftAt c s × (s.t ≡ b.t)
+  left_ended s stop ended =
+      let over = sym (ap (λ (q : Player). is_ended q.mode) stop.same) ∙ ended in
+      lefts_at (stopped c (player_after c b.t)) s b.t stop (instant_ended c (player_after c b.t) over)
+
+  pub told_ended : (s : Body) → Now c b.t b.t (stopped c (player_after c b.t)) s → is_ended (mode_of s.mode) ≡ true → (told : List ℕ → Type 0) → told (stopped c (player_after c b.t)).history → told (instant c (player_after c b.t)).history
+  told_ended s stop ended told h =
+      let over = sym (ap (λ (q : Player). is_ended q.mode) stop.same) ∙ ended in
+      subst (λ (q : Player). told q.history) (sym (instant_ended c (player_after c b.t) over)) h
+
+  -- and where it goes on, what the other parts make of it
+  module _ (s : Body) (stop : Now c b.t b.t (stopped c (player_after c b.t)) s) (on : is_ended (mode_of s.mode) ≡ false) where
+    goes : is_ended (stopped c (player_after c b.t)).mode ≡ false
+    goes = sym (ap (λ (q : Player). is_ended q.mode) stop.same) ∙ on
+
+    pub left_gone : (kind : RuleKind) → kind ≡ c.rule → (a : Body) → GoesOn (record c { rule = kind }) (stopped c (player_after c b.t)).history s a → IsTimed c.film c.periods a.download → LeftAt c a × (a.t ≡ b.t)
+    left_gone kind ruled a gone timed =
+        let p = stopped c (player_after c b.t) in
+        lefts_at (gone_on c p) a (b.t + 1)
+        (record {
+          sound = gone_on_sound c is b.t p stop.instant stop.sound;
+          instant = gone_on_t c p ∙ stop.instant;
+          same = subst (λ (q : Player). seen a (gone_on c q).history ≡ gone_on c q) stop.same (subst (λ r. GoesOn (record c { rule = r }) p.history s a) ruled gone);
+          timed = timed;
+        })
+        (instant_goes c (player_after c b.t) goes)
+
+    pub left_told : (kind : RuleKind) → kind ≡ c.rule → (told : List ℕ → Type 0) → told (gone_on (record c { rule = kind }) (seen s (stopped c (player_after c b.t)).history)).history → told (instant c (player_after c b.t)).history
+    left_told kind ruled told h =
+        let p = stopped c (player_after c b.t) in
+        subst (λ (q : Player). told q.history) (sym (instant_goes c (player_after c b.t) goes))
+        (subst (λ r. told (gone_on (record c { rule = r }) p).history) ruled (subst (λ (q : Player). told (gone_on (record c { rule = kind }) q).history) stop.same h))
+
+-- what the rule was told before the other parts
+pub told_stop : (c : Case) (b : Body) → StandsAt c b → (told heard : List ℕ → Type 0) → ((k : Case) → k.film ≡ c.film → (h : List ℕ) → told h → heard (stopped k (seen b h)).history)
+    → told (player_after c b.t).history → heard (stopped c (player_after c b.t)).history
+told_stop c b here told heard tells h = subst (λ (p : Player). heard (stopped c p).history) here.stands.same (tells c refl (player_after c b.t).history h)
+
+-- ---- a wait
+
+-- what a wait needs, and where it ends: a millisecond later, and after the stretch
+module _ (c : Case) (is : IsCase c) (a : Body) (left : LeftAt c a) where
+  at_left_early : a.t < latest_ms
+  at_left_early = early_before c is a.t left.going
 
   -- the session that the body shows where it has ended
-  pub session_is : (b : Body) (s : Session) → n < latest_ms → ((k : ℕ) → k < n → ends_at c k ≡ false) → Now c n n (stopped c (player_after c n)) b
-      → is_ended (stopped c (player_after c n)).mode ≡ true → ((h : List ℕ) → shown s ≡ shown_by (seen b h)) → shown s ≡ session_of c
-  session_is b s low going now ended shows = shows (stopped c (player_after c n)).history ∙ ap shown_by now.same ∙ ap shown_by (sym (last_is c is n low going ended))
+  pub session_is : (e : Session) → is_ended (mode_of a.mode) ≡ true → ((h : List ℕ) → shown e ≡ shown_by (seen a h)) → shown e ≡ session_of c
+  session_is e ended shows =
+      let q = instant c (player_after c a.t) in
+      let over = sym (ap (λ (r : Player). is_ended r.mode) left.stands.same) ∙ ended in
+      shows q.history ∙ ap shown_by left.stands.same ∙ ap shown_by (sym (last_at c a.t at_left_early left.going over))
+
+  module _ (on : is_ended (mode_of a.mode) ≡ false) where
+    left_goes : ends_at c a.t ≡ false
+    left_goes = sym (ap (λ (r : Player). is_ended r.mode) left.stands.same) ∙ on
+
+    left_both : Sound c (a.t + 1) (instant c (player_after c a.t)) × IsOpen (instant c (player_after c a.t))
+    left_both = let start = player_sound c is a.t left.going in instant_sound c is a.t (player_after c a.t) start.1 start.0 left_goes
+
+    left_still : IsStill c (instant c (player_after c a.t))
+    left_still = instant_still c (player_after c a.t) left_goes
+
+    at_left : Now c a.t (a.t + 1) (instant c (player_after c a.t)) a
+    at_left = record {
+      sound = left_both.0;
+      instant = instant_t c (player_after c a.t) ∙ (player_sound c is a.t left.going).1;
+      same = left.stands.same;
+      timed = left.stands.timed;
+    }
+
+    pub rest_left : CanRest c.film c.setup c.ahead a
+    rest_left = rest_ready c is a.t (a.t + 1) (instant c (player_after c a.t)) a at_left_early at_left left_both.1 left_still
+
+    pub pass_left : CanPass (seen a []) × IfSome a.download (CanTake c.periods a.t)
+    pass_left =
+        let q = instant c (player_after c a.t) in
+        (pass_ready c is a.t (a.t + 1) q a at_left_early at_left, take_ready c is a.t (a.t + 1) q a at_left)
+
+    module _ (b : Body) (passes : (k : Case) → k.film ≡ c.film → k.periods ≡ c.periods → Follows (pass_ms k) a b) (timed : IsTimed c.film c.periods a.download → IsTimed c.film c.periods b.download) where
+      at_next : Now c (a.t + 1) (a.t + 1) (pass_ms c (instant c (player_after c a.t))) b
+      at_next =
+          let q = instant c (player_after c a.t) in
+          record {
+            sound = pass_sound c is (a.t + 1) q left_both.0 left_both.1 left_goes;
+            instant = pass_t c q ∙ ap (λ k. k + 1) at_left.instant;
+            same = subst (λ (p : Player). seen b (pass_ms c p).history ≡ pass_ms c p) left.stands.same (passes c refl refl q.history);
+            timed = timed left.stands.timed;
+          }
+
+      -- one millisecond alone is a wait too
+      pub passes_left : Waits c a b
+      passes_left =
+          let q = instant c (player_after c a.t) in
+          let next = body_instant c (a.t + 1) (a.t + 1) (pass_ms c q) b at_next in
+          let same : player_after c b.t ≡ pass_ms c q = ap (player_after c) (next ∙ add-one a.t) ∙ player_next c a.t left_goes in
+          record {
+            later = omega (arith, next);
+            stands = record {
+              stands = record { same = subst (λ (p : Player). seen b p.history ≡ p) (sym same) at_next.same; timed = at_next.timed };
+              going = λ k low. below_more (λ n. ends_at c n ≡ false) a.t left.going left_goes k (omega (arith, low, next));
+            };
+            told = ap (λ (p : Player). p.history) same ∙ pass_told c q;
+          }
+
+      module _ (ms : ℕ) (few : ms ≤ 1000000000000000)
+          (quiet : (k : Case) (h : List ℕ) → k.film ≡ c.film → k.setup ≡ c.setup → k.seeks ≡ c.seeks → k.ahead ≡ c.ahead → IsTimed k.film k.periods a.download → IsQuiet k (seen a h) ms) where
+        left_quiet : IsQuiet c (instant c (player_after c a.t)) ms
+        left_quiet = subst (λ p. IsQuiet c p ms) left.stands.same (quiet c (instant c (player_after c a.t)).history refl refl refl refl left.stands.timed)
+
+        pub glide_left : CanGlide b (ms - 1)
+        glide_left =
+            let q = instant c (player_after c a.t) in
+            let early = at_left_early in
+            glide_ready c is (a.t + 1) (a.t + 1) (ms - 1) (pass_ms c q) b (omega (arith, early)) (omega (arith, few)) at_next
+            (next_ahead c is (a.t + 1) q (pass_ms c q) ms left_both.0 left_goes left_still left_quiet (pass_next c q left_goes))
+
+        pub waits_left : (r : Body) → ((k : Case) → k.periods ≡ c.periods → IsTimed k.film k.periods b.download → Follows (glides k (ms - 1)) b r) → r.t ≡ b.t + (ms - 1)
+            → (IsTimed c.film c.periods b.download → IsTimed c.film c.periods r.download) → Waits c a r
+        waits_left r glide t in_time =
+            let q = instant c (player_after c a.t) in
+            let some = left_quiet.some in
+            let next = body_instant c (a.t + 1) (a.t + 1) (pass_ms c q) b at_next in
+            let there : a.t + ms ≡ r.t = omega (arith, some, next, t) in
+            let law = stretch c is a.t ms left.going left_goes left_quiet in
+            let same : player_after c r.t ≡ glides c (ms - 1) (pass_ms c q) = ap (player_after c) (sym there) ∙ law.1 in
+            let seen_there = subst (λ (p : Player). seen r (glides c (ms - 1) p).history ≡ glides c (ms - 1) p) at_next.same (glide c refl at_next.timed (pass_ms c q).history) in
+            record {
+              later = omega (arith, some, next, t);
+              stands = record {
+                stands = record { same = subst (λ (p : Player). seen r p.history ≡ p) (sym same) seen_there; timed = in_time at_next.timed };
+                going = λ k low. law.0 k (omega (arith, low, there));
+              };
+              told = ap (λ (p : Player). p.history) same ∙ pass_told c q;
+            }
 
 -- what a session that is the model's keeps
 module _ (c : Case) (is : IsCase c) (s : Session) (e : shown s ≡ session_of c) where

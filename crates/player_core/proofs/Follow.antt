@@ -1,7 +1,9 @@
 -- The body stands for the model's player, part by part, and what is true of the player serves the body.
-use Rattle.std.proofs.Common.{◌≡◌, ◌∙◌, ℕ, zero, suc, ◌+◌, ◌-◌, ◌<◌, ◌≤◌, List, [], length, true, Option, Some, None, sym, ap, subst, ⊎_elim, arith, eqb}
+use Rattle.std.proofs.Common.{◌≡◌, ◌∙◌, ℕ, zero, suc, ◌+◌, ◌-◌, ◌<◌, ◌≤◌, ◌⊎◌, inl, inr, List, [], length, true, false, Option, Some, None, Result, Ok, Err, sym, ap, subst, ⊎_elim, arith, eqb}
 use Rattle.std.specs.Option.{IfSome, option_map}
-use Rattle.std.proofs.lemmas.Bool.{cases_lt, ne_eqb, false_from_ne_true, eq-eqb}
+use Rattle.std.specs.Result.{IfOk}
+use Rattle.std.proofs.lemmas.Bool.{cases_lt, ne_eqb, false_from_ne_true, eq-eqb, true≢false}
+use Rattle.std.proofs.lemmas.Option.{IfSome_then}
 use Rattle.lab_model.specs.declared.trace.Period.{Period}
 use Rattle.lab_model.specs.Film.{Film, rungs_of, segments_of}
 use Rattle.network_clock.specs.declared.job.Job.{Job}
@@ -9,20 +11,30 @@ use Rattle.network_clock.specs.Network.{first_at, is_spent, job_after, pass, per
 use Rattle.network_clock.proofs.Downloads.{first_found, first_not_before}
 use Rattle.network_clock.proofs.Laws.{job_next, job_start, left_falls}
 use Rattle.player_core.specs.declared.body.Body.{Body}
-use Rattle.player_core.specs.declared.body.Running.{Running}
+use Rattle.player_core.specs.declared.running.Running.{Running}
 use Rattle.player_core.specs.State.{Case, Download, Player}
 use Rattle.player_core.specs.Sound.{IsCase, Runs, Sound, asked_size}
-use Rattle.player_core.specs.Seen.{CanTake, Follows, IsTimed, download_of, seen}
+use Rattle.player_core.specs.Seen.{CanGlide, CanRest, CanTake, IsTimed, Step, download_of, seen}
+use Rattle.player_core.specs.Available.{available_at}
+use Rattle.player_core.specs.Parts.{is_playing}
 use Rattle.player_core.specs.Ready.{CanJudge, CanLoad, CanPass, CanRequest}
 use Rattle.player_core.proofs.Bounds.{end_most, loaded_most, stalls_most, wasted_small}
-use Rattle.player_core.proofs.Runs.{asked_within, bit_ms_is, bit_ms_short, first_cases, runs_begun, runs_pace, runs_short}
+use Rattle.player_core.proofs.Runs.{asked_within, bit_ms_is, bit_ms_short, done_soon, first_cases, runs_begun, runs_on, runs_pace, runs_short}
+use Rattle.player_core.proofs.Soundness.{IsOpen}
+use Rattle.player_core.proofs.Waits.{IsStill, asks_true}
 
 -- ---- a part of a millisecond
 
--- the body went through a part of a millisecond, and a running download still knows when its bits begin
-pub record Step (part : Player → Player) (old new : Body) : Type 0 where
-  pub follows : Follows part old new
-  pub timed : (f : Film) (ps : List Period) → IsTimed f ps old.download → IsTimed f ps new.download
+-- a part that does the same to this body
+pub step_as : (f g : Player → Player) (old new : Body) → ((h : List ℕ) → f (seen old h) ≡ g (seen old h)) → Step f old new → Step g old new
+step_as f g old new same step = record { follows = λ h. subst (λ (r : Player). seen new r.history ≡ r) (same h) (step.follows h); timed = step.timed }
+
+-- one part after another
+pub step_then : (f g : Player → Player) (old mid new : Body) → Step f old mid → Step g mid new → Step (λ p. g (f p)) old new
+step_then f g old mid new first next = record {
+  follows = λ h. subst (λ (r : Player). seen new (g r).history ≡ g r) (first.follows h) (next.follows (f (seen old h)).history);
+  timed = λ film ps was. next.timed film ps (first.timed film ps was);
+}
 
 -- at an instant the body stands for a sound player
 pub record Now (c : Case) (n from : ℕ) (p : Player) (b : Body) : Type 0 where
@@ -41,8 +53,8 @@ now_step c n from to part p old new now step sound instant = record {
 }
 
 -- the history has no part in being sound
-forget : (c : Case) (from : ℕ) (b : Body) (h : List ℕ) → Sound c from (seen b h) → Sound c from (seen b [])
-forget c from b h s = record {
+pub any_history : (c : Case) (from : ℕ) (b : Body) (g h : List ℕ) → Sound c from (seen b g) → Sound c from (seen b h)
+any_history c from b g h s = record {
   position = s.position;
   loaded_end = s.loaded_end;
   next = s.next;
@@ -64,10 +76,15 @@ forget c from b h s = record {
 
 -- the body itself is sound
 pub body_sound : (c : Case) (n from : ℕ) (p : Player) (b : Body) → Now c n from p b → Sound c from (seen b [])
-body_sound c n from p b now = forget c from b p.history (subst (Sound c from) (sym now.same) now.sound)
+body_sound c n from p b now = any_history c from b p.history [] (subst (Sound c from) (sym now.same) now.sound)
 
 pub body_instant : (c : Case) (n from : ℕ) (p : Player) (b : Body) → Now c n from p b → b.t ≡ n
 body_instant c n from p b now = ap (λ (q : Player). q.t) now.same ∙ now.instant
+
+-- both of two things that hold of a result's value
+pub ok_both : {T E : Type 0} (r : Result T E) (P Q : T → Type 0) → IfOk r P → IfOk r Q → IfOk r (λ v. P v × Q v)
+ok_both (Ok v) P Q p q = (p, q)
+ok_both (Err e) P Q p q = tt
 
 -- ---- what the parts of a millisecond need
 
@@ -96,7 +113,7 @@ pub load_ready : (c : Case) → IsCase c → (from : ℕ) (b : Body) → Sound c
 load_ready c is from b s = load_of c is (seen b []) (end_most c is from (seen b []) s) b.download s.running s.of_next
 
 judge_of : (c : Case) → IsCase c → (p : Player) (o : Option Running) → IfSome (option_map download_of o) (Runs c p.t)
-    → IfSome o (λ r. CanJudge c.film p (download_of r))
+    → IfSome o (λ r. CanJudge c.film p.t (download_of r))
 judge_of c is p None runs = tt
 judge_of c is p (Some r) runs =
     let d = download_of r in
@@ -110,7 +127,7 @@ judge_of c is p (Some r) runs =
       pace = (runs_pace c is p.t d runs).1;
     }
 
-pub judge_ready : (c : Case) → IsCase c → (from : ℕ) (b : Body) → Sound c from (seen b []) → IfSome b.download (λ r. CanJudge c.film (seen b []) (download_of r))
+pub judge_ready : (c : Case) → IsCase c → (from : ℕ) (b : Body) → Sound c from (seen b []) → IfSome b.download (λ r. CanJudge c.film b.t (download_of r))
 judge_ready c is from b s = judge_of c is (seen b []) b.download s.running
 
 pub wasted_ready : (c : Case) → IsCase c → (from : ℕ) (b : Body) → Sound c from (seen b []) → b.wasted ≤ 1000000000000000
@@ -202,8 +219,49 @@ take_of c is t (Some r) runs timed =
     record {
       credit = omega (arith, credit, credit_is);
       left = omega (arith, left, left_is, size);
-      begins = λ none. spent_when c is t d runs none ∙ ap (λ (m : ℕ). eqb t m) (sym timed);
+      begins = λ none. spent_when c is t d runs none ∙ ap (λ (m : ℕ). eqb t m) (sym timed.0);
     }
 
 pub take_ready : (c : Case) → IsCase c → (n from : ℕ) (p : Player) (b : Body) → Now c n from p b → IfSome b.download (CanTake c.periods b.t)
 take_ready c is n from p b now = take_of c is b.t b.download (body_sound c n from p b now).running now.timed
+
+-- ---- a stretch in which nothing happens
+
+rest_of : (c : Case) → IsCase c → (t : ℕ) (o : Option Running) → IfSome (option_map download_of o) (Runs c t) → IfSome (option_map download_of o) (λ d. eqb d.job.left 0 ≡ false)
+    → IsTimed c.film c.periods o → IfSome o (λ r. (r.asked ≤ t) × (t < r.done) × (r.done ≤ r.asked + 300010000))
+rest_of c is t None runs some timed = tt
+rest_of c is t (Some r) runs some timed =
+    let d = download_of r in
+    let done = timed.1 in
+    let early = runs_on c is t d runs some in
+    let soon = done_soon c is t d runs in
+    (runs.asked, omega (arith, done, early), omega (arith, done, soon))
+
+pub rest_ready : (c : Case) → IsCase c → (n from : ℕ) (p : Player) (b : Body) → n < 1000000000000000 → Now c n from p b → IsOpen p → IsStill c p → CanRest c.film c.setup c.ahead b
+rest_ready c is n from p b low now some still =
+    let s = body_sound c n from p b now in
+    let here = body_instant c n from p b now in
+    let waits = (subst (IsStill c) (sym now.same) still).waits in
+    record {
+      position = s.position;
+      end = end_most c is from (seen b []) s;
+      instant = omega (arith, here, low);
+      runs = rest_of c is b.t b.download s.running (subst IsOpen (sym now.same) some) now.timed;
+      waits = λ none next.
+          ⊎_elim (λ full. inl full)
+          (λ fits. ⊎_elim (λ early. inr early)
+          (λ there. absurd (true≢false (sym (asks_true c (seen b p.history) (ap (option_map download_of) none) next fits there) ∙ waits (ap (option_map download_of) none)))) (cases_lt b.t (available_at c.film c.ahead b.k)))
+          (cases_lt c.setup.buffer_ms (b.y - b.x + c.film.seg_ms));
+    }
+
+pub glide_ready : (c : Case) → IsCase c → (n from ms : ℕ) (p : Player) (b : Body) → n ≤ 1000000000000000 → ms ≤ 1000000000000000 → Now c n from p b → (is_playing p.mode ≡ true → p.x < p.y → p.x + ms ≤ p.y) → CanGlide b ms
+glide_ready c is n from ms p b low few now ahead =
+    let s = body_sound c n from p b now in
+    let here = body_instant c n from p b now in
+    record {
+      end = end_most c is from (seen b []) s;
+      instant = omega (arith, here, low, few);
+      times = s.times;
+      moves = subst (λ (q : Player). is_playing q.mode ≡ true → q.x < q.y → q.x + ms ≤ q.y) (sym now.same) ahead;
+      jobs = IfSome_then b.download (take_ready c is n from p b now) (λ r can. (can.credit, can.left));
+    }

@@ -13,6 +13,7 @@ use Rattle.player_core.specs.Session.{ends_at, player_after}
 use Rattle.player_core.specs.Sound.{IsCase, IsOf, Sound}
 use Rattle.player_core.proofs.Counts.{seeks_most, turns_now}
 use Rattle.player_core.proofs.Soundness.{IsOpen, abandon_open, abandon_sound, arrival_open, arrival_sound, finish_open, finish_sound, pass_sound, request_open, request_sound, seek_open, seek_sound}
+pub use Rattle.player_core.specs.Parts.{gone_on, stopped}
 
 -- ---- the start
 
@@ -91,14 +92,6 @@ module _ (c : Case) where
 
 -- ---- the parts of an instant, one after the other
 
--- the player after the arrival and the end
-abbrev pub stopped : Case → Player → Player
-stopped c p = finish c (arrival c p)
-
--- the player after the other parts
-abbrev pub gone_on : Case → Player → Player
-gone_on c r = request c (seek c (abandon c r))
-
 pub stopped_t : (c : Case) (p : Player) → (stopped c p).t ≡ p.t
 stopped_t c p = finish_t c (arrival c p) ∙ arrives_t c p p.download
 
@@ -123,10 +116,10 @@ gone_on_open c is t r e h some =
 
 -- ---- the whole instant
 
-instant_ended : (c : Case) (p : Player) → is_ended (stopped c p).mode ≡ true → instant c p ≡ stopped c p
+pub instant_ended : (c : Case) (p : Player) → is_ended (stopped c p).mode ≡ true → instant c p ≡ stopped c p
 instant_ended c p e = cond-true (is_ended (stopped c p).mode) (stopped c p) (gone_on c (stopped c p)) e
 
-instant_goes : (c : Case) (p : Player) → is_ended (stopped c p).mode ≡ false → instant c p ≡ gone_on c (stopped c p)
+pub instant_goes : (c : Case) (p : Player) → is_ended (stopped c p).mode ≡ false → instant c p ≡ gone_on c (stopped c p)
 instant_goes c p e = cond-false (is_ended (stopped c p).mode) (stopped c p) (gone_on c (stopped c p)) e
 
 pub instant_t : (c : Case) (p : Player) → (instant c p).t ≡ p.t

@@ -102,7 +102,7 @@ module _ (c : Case) (is : IsCase c) where
       (cases_lt t first)
 
   -- the first instant spent on bits, after the millisecond
-  first_next : (t : ℕ) (d : Download) → Runs c t d
+  pub first_next : (t : ℕ) (d : Download) → Runs c t d
       → cond (is_some d.first) d.first (cond (is_spent c.periods t d.job) (Some t) None) ≡ cond (ltb (first_at c.periods d.asked (asked_size c d)) (t + 1)) (Some (first_at c.periods d.asked (asked_size c d))) None
   first_next t d h =
       let ps = c.periods in

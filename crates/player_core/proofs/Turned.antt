@@ -7,7 +7,7 @@ use Rattle.lab_model.specs.Film.{segments_of}
 use Rattle.abandonment.specs.Test.{abandonment}
 use Rattle.player_core.specs.declared.body.Body.{Body}
 use Rattle.player_core.specs.declared.session.Event.TheVariants as event
-use Rattle.player_core.specs.declared.body.Running.{Running}
+use Rattle.player_core.specs.declared.running.Running.{Running}
 use Rattle.player_core.specs.Seen.{IsTimed, download_of, seen}
 use Rattle.player_core.specs.State.{Case, Download, Mode, Player, first_player, starting, playing, seeking, ended}
 use Rattle.player_core.specs.Parts.{abandon, asks, begins, can_ask, finish, gives_up, gives_up_any, instant, is_ended, is_playing, pass_ms, passes_in, plays, progress_of, request, rung_for, seek, seek_at, seeks_to, stalls_on, takes}

@@ -55,7 +55,7 @@ pub record IsStill (c : Case) (q : Player) : Type 0 where
   pub inside : (is_playing q.mode && eqb q.x (segments_of c.film * c.film.seg_ms)) ≡ false
 
 -- it does not play at the film's end
-abbrev IsInside : Case → Player → Type 0
+abbrev pub IsInside : Case → Player → Type 0
 IsInside c q = (is_playing q.mode && eqb q.x (segments_of c.film * c.film.seg_ms)) ≡ false
 
 module _ (c : Case) where
@@ -101,36 +101,37 @@ module _ (c : Case) where
 -- ---- what a millisecond leaves as it is
 
 -- a millisecond later nothing but the position has moved, and not back
-record Passed (c : Case) (p q : Player) : Type 0 where
-  k : q.k ≡ p.k
-  y : q.y ≡ p.y
-  x : p.x ≤ q.x
-  download : q.download ≡ p.download
-  forced : q.forced ≡ p.forced
+pub record Passed (c : Case) (p q : Player) : Type 0 where
+  pub k : q.k ≡ p.k
+  pub y : q.y ≡ p.y
+  pub x : p.x ≤ q.x
+  pub mode : q.mode ≡ p.mode
+  pub download : q.download ≡ p.download
+  pub forced : q.forced ≡ p.forced
 
 module _ (c : Case) where
   same_passed : (p : Player) → Passed c p p
-  same_passed p = record { k = refl; y = refl; x = omega arith; download = refl; forced = refl }
+  same_passed p = record { k = refl; y = refl; x = omega arith; mode = refl; download = refl; forced = refl }
 
   begins_passed : (p : Player) (qs : List Played) → Passed c p (record (begins p qs) { x = (begins p qs).x + 1; stalling = false })
-  begins_passed p [] = record { k = refl; y = refl; x = omega arith; download = refl; forced = refl }
-  begins_passed p (q ∷ qs) = record { k = refl; y = refl; x = omega arith; download = refl; forced = refl }
+  begins_passed p [] = record { k = refl; y = refl; x = omega arith; mode = refl; download = refl; forced = refl }
+  begins_passed p (q ∷ qs) = record { k = refl; y = refl; x = omega arith; mode = refl; download = refl; forced = refl }
 
-  passes_passed : (p : Player) (m : Mode) → Passed c p (passes_in c p m)
-  passes_passed p starting = record { k = refl; y = refl; x = omega arith; download = refl; forced = refl }
-  passes_passed p seeking = record { k = refl; y = refl; x = omega arith; download = refl; forced = refl }
+  pub passes_passed : (p : Player) (m : Mode) → Passed c p (passes_in c p m)
+  passes_passed p starting = record { k = refl; y = refl; x = omega arith; mode = refl; download = refl; forced = refl }
+  passes_passed p seeking = record { k = refl; y = refl; x = omega arith; mode = refl; download = refl; forced = refl }
   passes_passed p ended = same_passed p
   passes_passed p playing =
       cond_both (ltb p.x p.y) (plays c p) (stalls_on p) (λ q. Passed c p q)
       (λ e. cond_both (eqb (p.x % c.film.seg_ms) 0) (begins p p.loaded) p (λ q. Passed c p (record q { x = q.x + 1; stalling = false })) (λ z. begins_passed p p.loaded) (λ z. begins_passed p []))
       (λ e. cond_both p.stalling (record p { stall_ms = p.stall_ms + 1 }) (record p { stall_ms = p.stall_ms + 1; stalls = p.stalls + 1; stalling = true; events = p.events ++ event.Stall p.t ∷ [] }) (λ q. Passed c p q)
-      (λ z. record { k = refl; y = refl; x = omega arith; download = refl; forced = refl }) (λ z. record { k = refl; y = refl; x = omega arith; download = refl; forced = refl }))
+      (λ z. record { k = refl; y = refl; x = omega arith; mode = refl; download = refl; forced = refl }) (λ z. record { k = refl; y = refl; x = omega arith; mode = refl; download = refl; forced = refl }))
 
   begins_x : (p : Player) (qs : List Played) → (begins p qs).x ≡ p.x
   begins_x p [] = refl
   begins_x p (q ∷ qs) = refl
 
-  plays_x : (p : Player) (m : Mode) → m ≡ playing → p.x < p.y → (passes_in c p m).x ≡ p.x + 1
+  pub plays_x : (p : Player) (m : Mode) → m ≡ playing → p.x < p.y → (passes_in c p m).x ≡ p.x + 1
   plays_x p starting e low = absurd (false≢true (ap is_playing e))
   plays_x p seeking e low = absurd (false≢true (ap is_playing e))
   plays_x p ended e low = absurd (false≢true (ap is_playing e))

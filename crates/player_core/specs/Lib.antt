@@ -6,3 +6,4 @@ pub mod Value
 pub mod Sound
 pub mod Seen
 pub mod Ready
+pub mod Quiet

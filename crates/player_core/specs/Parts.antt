@@ -157,6 +157,14 @@ can_ask c p = not (is_some p.download) && nat_lt p.k (segments_of c.film) && nat
 abbrev pub request : Case → Player → Player
 request c p = if can_ask c p then asks c p (rung_for c p) else p
 
+-- the player after the arrival and the end
+abbrev pub stopped : Case → Player → Player
+stopped c p = finish c (arrival c p)
+
+-- the player after the other parts
+abbrev pub gone_on : Case → Player → Player
+gone_on c p = request c (seek c (abandon c p))
+
 -- the parts after the end
 abbrev pub goes_on : Case → Player → Player
 goes_on c p = if is_ended p.mode then p else request c (seek c (abandon c p))

@@ -1,6 +1,6 @@
 -- Not part of the model: what the proofs keep.
 -- What the parts of a player millisecond need of the player.
-use Rattle.std.specs.Prelude.{◌+◌, ◌-◌, ◌*◌, ◌≤◌, ◌<◌, IfSome}
+use Rattle.std.specs.Prelude.{ℕ, ◌+◌, ◌-◌, ◌*◌, ◌≤◌, ◌<◌, IfSome}
 use Rattle.lab_model.specs.Film.{Film, rungs_of, segments_of}
 use Rattle.lab_model.specs.declared.setup.Setup.{Setup}
 use Rattle.lab_model.specs.Fit.{SetupFits}
@@ -17,14 +17,14 @@ pub record CanLoad (f : Film) (p : Player) (d : Download) : Type 0 where
   pub end : p.y ≤ 120000000
   pub next : p.k < 2000
 
--- a running download can be judged for abandonment
-pub record CanJudge (f : Film) (p : Player) (d : Download) : Type 0 where
+-- a running download can be judged for abandonment at an instant
+pub record CanJudge (f : Film) (t : ℕ) (d : Download) : Type 0 where
   pub segment : d.segment < segments_of f
   pub rung : d.rung < rungs_of f
-  pub asked : d.asked ≤ p.t
-  pub elapsed : p.t - d.asked ≤ 1000000000
-  pub bits : bit_ms_of p.t d ≤ p.t - d.asked
-  pub pace : got_of f d ≤ 10000000 * bit_ms_of p.t d
+  pub asked : d.asked ≤ t
+  pub elapsed : t - d.asked ≤ 1000000000
+  pub bits : bit_ms_of t d ≤ t - d.asked
+  pub pace : got_of f d ≤ 10000000 * bit_ms_of t d
 
 -- a rule can be asked for a rung of the next segment
 pub record CanChoose (f : Film) (set : Setup) (kind : RuleKind) (p : Player) : Type 0 where

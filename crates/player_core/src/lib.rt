@@ -2,13 +2,19 @@
 #![tactic(auto)]
 
 mod body;
+mod mode;
 mod player;
+mod quiet;
 mod rules;
+mod running;
+mod script;
 mod session;
 
 pub use player::{available, play, play_from, seeks_fit};
 pub use rules::{Fixed, Listed};
 pub use session::{Event, Session};
 
+#[cfg(test)]
+mod plain;
 #[cfg(test)]
 mod tests;

@@ -46,8 +46,11 @@ pub fn seeks_fit(seeks: &[Seek], m: &Manifest) -> bool
         && seeks.iter().all(|s| s.to < segments)
 }
 
+/// So much media ahead, in milliseconds, that every film within the limits is there at instant 0.
+const ALL_AHEAD_MS: u32 = 120_000_000;
+
 /// An instant, in milliseconds, before which every session within the limits ends.
-const LATEST_MS: u64 = 1_000_000_000_000_000;
+pub const LATEST_MS: u64 = 1_000_000_000_000_000;
 
 /// The session of a film of which `ahead` milliseconds of media are there at instant 0.
 pub fn play_from<T: Rule + Drop>(
@@ -74,16 +77,12 @@ pub fn play_from<T: Rule + Drop>(
     prove!(!clock.periods().is_empty());
     let mut body = Body::new(alloc);
     let mut rule = rule;
-    for _t in 0..LATEST_MS {
-        body.arrive(m, &mut rule)?;
-        body.finish(m)?;
-        if body.phase.is_ended() {
+    for _turn in 0..LATEST_MS {
+        body.instant(m, clock, set, seeks, ahead, &mut rule)?;
+        if body.mode.is_ended() {
             return Ok(body.into_session());
         }
-        body.abandon(m, set, &mut rule)?;
-        body.seek(m, seeks)?;
-        body.request(m, clock, set, ahead, &rule)?;
-        body.pass(m, clock)?;
+        body.wait(m, clock, set, seeks, ahead)?;
     }
     unreachable!()
 }
@@ -107,5 +106,5 @@ pub fn play<T: Rule + Drop>(
     ensures ends { IfOk result (λ s. s.end < 1000000000000000) }
     ensures times { IfOk result (λ s. s.startup_ms + s.stall_ms + s.seek_ms ≤ s.end) }
 {
-    play_from(alloc, m, clock, set, seeks, 120_000_000, rule)
+    play_from(alloc, m, clock, set, seeks, ALL_AHEAD_MS, rule)
 }

@@ -1,6 +1,7 @@
 //! The two rules without a history: one rung throughout, and a rung for each segment.
 
 ghost use Rattle.std.specs.Prelude.{◌≡◌, ◌<◌, ◌↔◌, IsTrue, length};
+ghost use Rattle.std.specs.List.{All};
 ghost use Rattle.lab_model.specs.Rules.{fixed, listed};
 
 use lab_model::{Context, Manifest, Rule, Sample, Setup};
@@ -62,8 +63,6 @@ fn are_rungs(rungs: &[u8], count: u8) -> bool
 {
     rungs.iter().all(|q| *q < count)
 }
-
-ghost use Rattle.std.specs.List.{All};
 
 impl Rule for Listed {
     ghost kind = { λ l. listed l };

@@ -1,8 +1,9 @@
 //! Worked examples of the player, and short sessions, with answers from outside.
 
+mod long;
 mod short;
 
-use crate::{Event, Fixed, Listed, Session, available, play, play_from, seeks_fit};
+use crate::{Event, Fixed, Listed, Session, available, plain, play, play_from, seeks_fit};
 use lab_model::{Context, Manifest, Period, Rule, Seek, Setup, Trace, Weights};
 use network_clock::Clock;
 use short::SHORT;
@@ -216,8 +217,13 @@ fn fixed_session(rt: &impl Abort, alloc: Global, case: &Case) -> Result<Session,
     Ok(play(alloc, &m, &clock, &set, &seeks, rule)?)
 }
 
-/// The session of a rung for each segment.
-fn listed_session(rt: &impl Abort, alloc: Global, case: &Case) -> Result<Session, Fail> {
+/// The session of a rung for each segment, from event to event or millisecond by millisecond.
+fn listed_session(
+    rt: &impl Abort,
+    alloc: Global,
+    case: &Case,
+    plainly: bool,
+) -> Result<Session, Fail> {
     let m = film(alloc, case)?;
     let clock = clock(alloc, case)?;
     let set = setup(alloc, case)?;
@@ -225,7 +231,11 @@ fn listed_session(rt: &impl Abort, alloc: Global, case: &Case) -> Result<Session
     let rule = Listed::new(case.rungs.to_vec(alloc)?);
     assert!(rt; set.fits(&m) && seeks_fit(&seeks, &m) && rule.fits(&m));
     assert!(rt; case.ahead <= ON_DEMAND);
-    Ok(play_from(alloc, &m, &clock, &set, &seeks, case.ahead, rule)?)
+    Ok(if plainly {
+        plain::play_from(alloc, &m, &clock, &set, &seeks, case.ahead, rule)?
+    } else {
+        play_from(alloc, &m, &clock, &set, &seeks, case.ahead, rule)?
+    })
 }
 
 fn line_of(alloc: Global, event: Event) -> Result<String, Fail> {
@@ -254,6 +264,18 @@ fn line_of(alloc: Global, event: Event) -> Result<String, Fail> {
     })
 }
 
+/// Startup, stall, stalls, seeking, wasted bits and end.
+fn counters(session: &Session) -> [u64; 6] {
+    [
+        session.startup_ms,
+        session.stall_ms,
+        session.stalls as u64,
+        session.seek_ms,
+        session.wasted_bits,
+        session.end,
+    ]
+}
+
 /// The session shows the lines and counters of its case.
 fn shows(rt: &impl Abort, alloc: Global, session: &Session, case: &Case) -> Result<(), Fail> {
     let mut lines = String::new(alloc);
@@ -261,15 +283,7 @@ fn shows(rt: &impl Abort, alloc: Global, session: &Session, case: &Case) -> Resu
         lines.push_str(&line_of(alloc, *event)?)?;
     }
     assert_eq!(rt; lines.as_str(), case.lines);
-    let counters = [
-        session.startup_ms,
-        session.stall_ms,
-        session.stalls as u64,
-        session.seek_ms,
-        session.wasted_bits,
-        session.end,
-    ];
-    assert_eq!(rt; counters, case.counters, "after {lines}");
+    assert_eq!(rt; counters(session), case.counters, "after {lines}");
     Ok(())
 }
 
@@ -287,36 +301,20 @@ fn worked_examples(rt: HostRuntime) -> Result<(), Fail> {
 fn short_sessions(rt: HostRuntime) -> Result<(), Fail> {
     let alloc = rt.alloc();
     for case in &SHORT {
-        let session = listed_session(&rt, alloc, case)?;
+        let session = listed_session(&rt, alloc, case, false)?;
         shows(&rt, alloc, &session, case)?;
     }
     Ok(())
 }
 
-/// 2000 segments of a bit and a millisecond, all of which fit the buffer.
-const MANY: Case = Case {
-    seg_ms: 1,
-    bitrates: &[1],
-    sizes: &[1; 2000],
-    periods: &[(1, 1000, 0)],
-    buffer_ms: 10_000_000,
-    abandon: false,
-    seeks: &[],
-    ahead: ON_DEMAND,
-    rungs: &[0],
-    counters: [1, 0, 0, 0, 0, 2001],
-    lines: "",
-};
-
+/// The body that goes millisecond by millisecond shows the same.
 #[test]
-fn many_segments(rt: HostRuntime) -> Result<(), Fail> {
-    let session = fixed_session(&rt, rt.alloc(), &MANY)?;
-    assert_eq!(rt; session.events.len(), 6001);
-    assert_eq!(rt; session.played.len(), 2000);
-    assert_eq!(rt;
-        (session.startup_ms, session.stall_ms, session.end),
-        (1, 0, 2001)
-    );
+fn plain_sessions(rt: HostRuntime) -> Result<(), Fail> {
+    let alloc = rt.alloc();
+    for case in &SHORT {
+        let session = listed_session(&rt, alloc, case, true)?;
+        shows(&rt, alloc, &session, case)?;
+    }
     Ok(())
 }
 

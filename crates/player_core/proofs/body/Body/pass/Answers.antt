@@ -7,5 +7,5 @@ use Rattle.player_core.proofs.body.Body.pass.Goals as goal
 pub returns-clause-passes : goal.returns-clause-passes
 returns-clause-passes c = λ k film periods history.
     let taken = c.take.ensures.takes k periods history in
-    let passed = subst (λ (v : Player). seen c.pass_in_phase.new.self (passes_in k v v.mode).history ≡ passes_in k v v.mode) taken (c.in_ok-pass_in_phase.ensures.passes k film history) in
+    let passed = subst (λ (v : Player). seen c.pass_in_mode.new.self (passes_in k v v.mode).history ≡ passes_in k v v.mode) taken (c.in_ok-pass_in_mode.ensures.passes k film history) in
     ap (λ (r : Player). record r { t = r.t + 1 }) passed

@@ -1,0 +1,20 @@
+use Rattle.std.proofs.Common.{◌≡◌, ◌∙◌, ◌+◌, ◌-◌, ◌<◌, ◌≤◌, ℕ, refl, sym, arith}
+use Rattle.player_core.proofs.Chain.{glide_left, pass_left, rest_left, waits_left}
+use Rattle.player_core.proofs.body.Body.wait.Goals as goal
+
+pub quiet_ms-quiet-requires : goal.quiet_ms-quiet-requires
+quiet_ms-quiet-requires c = rest_left _ c.requires.case c.args.self.now c.requires.left c.requires.goes
+
+pub pass-requires : goal.pass-requires
+pass-requires c = let ready = pass_left _ c.requires.case c.args.self.now c.requires.left c.requires.goes in record { ready = ready.0; takes = ready.1 }
+
+pub glide-requires : goal.glide-requires
+glide-requires c =
+    glide_left _ c.requires.case c.args.self.now c.requires.left c.requires.goes c.pass.new.self c.in_ok-pass.ensures.passes c.in_ok-pass.ensures.timed
+    c.quiet_ms-quiet.result c.quiet_ms-quiet.ensures.limit c.quiet_ms-quiet.ensures.quiet
+
+pub returns : goal.returns
+returns c = λ kind is left.
+    waits_left _ is c.args.self.now left c.requires.goes c.pass.new.self c.in_ok-pass.ensures.passes c.in_ok-pass.ensures.timed
+    c.quiet_ms-quiet.result c.quiet_ms-quiet.ensures.limit c.quiet_ms-quiet.ensures.quiet
+    c.glide.new.self c.glide.ensures.glides c.glide.ensures.instant (c.glide.ensures.timed c.args.m.now)

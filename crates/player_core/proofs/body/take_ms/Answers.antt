@@ -1,6 +1,0 @@
-use Rattle.player_core.specs.Seen.{download_of}
-use Rattle.player_core.proofs.Takes.{takes_is}
-use Rattle.player_core.proofs.body.take_ms.Goals as goal
-
-pub returns-clause-takes : goal.returns-clause-takes
-returns-clause-takes c = λ k e. takes_is k c.args.clock.now c.args.t (download_of c.args.d.now) c.args.d.now.begins _ _ e c.requires.begins c.advance.ensures.after c.first_after.ensures

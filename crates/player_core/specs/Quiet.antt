@@ -1,0 +1,58 @@
+-- Not part of the model: what the proofs keep.
+-- Quiet stretches: milliseconds in which nothing begins and nothing happens, and what so many of them make of the player at once.
+use Rattle.std.specs.Prelude.{◌≡◌, ℕ, ◌+◌, ◌-◌, ◌*◌, ◌%◌, ◌≤◌, ◌<◌, ◌==◌, ◌&&◌, ◌⊎◌, Bool, true, false, not, nat_le, nat_lt, Option, Some, None, IfSome, option_map, if◌then◌else◌}
+use Rattle.lab_model.specs.Film.{segments_of}
+use Rattle.network_clock.specs.Network.{done_at, first_at, job_after}
+use Rattle.player_core.specs.Available.{available_at}
+use Rattle.player_core.specs.State.{Case, Download, Mode, Player, starting, playing, seeking, ended}
+use Rattle.player_core.specs.Parts.{is_playing, seek_at}
+use Rattle.player_core.specs.Sound.{asked_size}
+
+-- whether the player waits for its first segment
+abbrev pub is_starting : Mode → Bool
+is_starting starting = true
+is_starting playing = false
+is_starting seeking = false
+is_starting ended = false
+
+-- whether the player waits for the segment that was sought
+abbrev pub is_seeking : Mode → Bool
+is_seeking seeking = true
+is_seeking playing = false
+is_seeking starting = false
+is_seeking ended = false
+
+-- so many milliseconds after its request a download may be looked at for abandonment
+abbrev pub is_due_ms : ℕ → Bool
+is_due_ms elapsed = elapsed % 100 == 0 && nat_le 500 elapsed
+
+-- a download takes so many network milliseconds at once
+abbrev pub taken_ms : Case → ℕ → ℕ → Download → Download
+taken_ms c t ms d = record d {
+  job = job_after c.periods t ms d.job;
+  first = if nat_lt (first_at c.periods d.asked (asked_size c d)) (t + ms) then Some (first_at c.periods d.asked (asked_size c d)) else None;
+}
+
+-- so many milliseconds of a mode pass at once: they move the position, or they add to one of the three times
+abbrev pub glides_in : Case → ℕ → Player → Mode → Player
+glides_in c ms p mode = record p {
+  t = p.t + ms;
+  x = if is_playing mode && nat_lt p.x p.y then p.x + ms else p.x;
+  download = option_map (taken_ms c p.t ms) p.download;
+  startup_ms = if is_starting mode then p.startup_ms + ms else p.startup_ms;
+  stall_ms = if is_playing mode && not (nat_lt p.x p.y) then p.stall_ms + ms else p.stall_ms;
+  seek_ms = if is_seeking mode then p.seek_ms + ms else p.seek_ms;
+}
+
+-- so many milliseconds pass at once, in which nothing begins
+abbrev pub glides : Case → ℕ → Player → Player
+glides c ms p = glides_in c ms p p.mode
+
+-- after the instant of a player nothing happens for so many milliseconds
+pub record IsQuiet (c : Case) (q : Player) (ms : ℕ) : Type 0 where
+  pub some : 1 ≤ ms
+  pub arrives : IfSome q.download (λ d. q.t + ms ≤ done_at c.periods d.asked (asked_size c d))
+  pub judges : c.setup.abandon ≡ true → IfSome q.download (λ d. (d.rung ≡ 0) ⊎ ((m : ℕ) → q.t < m → m < q.t + ms → is_due_ms (m - d.asked) ≡ false))
+  pub seeks : (m : ℕ) → q.t < m → m < q.t + ms → seek_at c.seeks m ≡ None
+  pub asks : q.download ≡ None → q.k < segments_of c.film → (c.setup.buffer_ms + ms ≤ q.y - q.x + c.film.seg_ms) ⊎ (q.t + ms ≤ available_at c.film c.ahead q.k)
+  pub plays : is_playing q.mode ≡ true → q.x < q.y → q.x % c.film.seg_ms + ms ≤ c.film.seg_ms

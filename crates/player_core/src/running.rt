@@ -1,0 +1,152 @@
+//! A running download: what has come of it, and what milliseconds make of it.
+
+ghost use Rattle.std.specs.Prelude.{◌≡◌, ℕ, ◌+◌, ◌-◌, ◌*◌, ◌<◌, ◌≤◌, ◌==◌, ◌⊎◌, true, false, Option, Some, None, IfSome, is_some, nat_lt, if◌then◌else◌};
+ghost use Rattle.lab_model.specs.Film.{rungs_of, segments_of, size_of};
+ghost use Rattle.network_clock.specs.Network.{first_at, is_spent, job_after};
+ghost use Rattle.abandonment.specs.Test.{abandonment};
+ghost use Rattle.player_core.specs.State.{Case};
+ghost use Rattle.player_core.specs.Parts.{bit_ms_of, got_of, progress_of, sample_of, takes};
+ghost use Rattle.player_core.specs.Quiet.{is_due_ms, taken_ms};
+ghost use Rattle.player_core.specs.Ready.{CanJudge};
+ghost use Rattle.player_core.specs.Seen.{SameRequest, download_of};
+
+use abandonment::{Progress, abandon_to};
+use lab_model::{Manifest, Sample, Setup};
+use network_clock::{Clock, Job};
+
+/// A running download: what was asked for and when, when its bits begin and when it is done, what is left of it, and the first instant
+/// spent on bits, if any.
+#[derive(Clone, Copy)]
+pub struct Running {
+    pub segment: u16,
+    pub rung: u8,
+    pub asked: u64,
+    pub begins: u64,
+    pub done: u64,
+    pub job: Job,
+    pub first: Option<u64>,
+}
+
+/// The milliseconds from `elapsed` after a request, at most 10^9, to the next instant at which its download may be looked at for
+/// abandonment.
+fn due_in(elapsed: u64) -> u64
+    requires { elapsed ≤ 1000000000 }
+    ensures some { 1 ≤ result }
+    ensures none_before { (m : ℕ) → elapsed < m → m < elapsed + result → is_due_ms m ≡ false }
+{
+    let next = (elapsed / 100 + 1) * 100;
+    next.max(500) - elapsed
+}
+
+impl Running {
+    /// The bits that have come.
+    pub fn got(&self, m: &Manifest) -> u32
+        requires segment { self.now.segment < segments_of m.now }
+        requires rung { self.now.rung < rungs_of m.now }
+        ensures value { result ≡ got_of m.now (download_of self.now) }
+        ensures part { result ≤ size_of m.now self.now.segment self.now.rung }
+        ensures limit { result ≤ 200000000 }
+    {
+        let size = m.size(self.segment, self.rung) as u64;
+        size.saturating_sub(self.job.left.div_ceil(1000)) as u32
+    }
+
+    /// The milliseconds from the first one spent on bits.
+    fn bit_ms(&self, t: u64) -> u64
+        ensures { result ≡ bit_ms_of t (download_of self.now) }
+    {
+        match self.first {
+            None => 0,
+            Some(first) => t.saturating_sub(first),
+        }
+    }
+
+    /// The sample of the download where it ends at an instant.
+    pub fn sample(&self, m: &Manifest, t: u64) -> Sample
+        requires segment { self.now.segment < segments_of m.now }
+        requires rung { self.now.rung < rungs_of m.now }
+        requires first { 1 ≤ bit_ms_of t (download_of self.now) }
+        requires pace { got_of m.now (download_of self.now) ≤ 10000000 * bit_ms_of t (download_of self.now) }
+        ensures { result.rate ≡ sample_of m.now t (download_of self.now) }
+    {
+        Sample::of(self.got(m), self.bit_ms(t))
+    }
+
+    /// The rung for which the download is given up at an instant, if it is.
+    pub fn rung_instead(&self, m: &Manifest, t: u64) -> Option<u8>
+        requires judge { CanJudge m.now t (download_of self.now) }
+        ensures value { result ≡ abandonment m.now self.now.segment self.now.rung (progress_of m.now t (download_of self.now)) }
+        ensures waited { IfSome result (λ _. 1 ≤ bit_ms_of t (download_of self.now)) }
+    {
+        let now = Progress {
+            elapsed_ms: t - self.asked,
+            bit_ms: self.bit_ms(t),
+            got: self.got(m),
+        };
+        abandon_to(m, self.segment, self.rung, &now)
+    }
+
+    /// The milliseconds from an instant to the arrival, or to the next instant at which the download may be given up.
+    pub fn quiet_ms(&self, t: u64, set: &Setup) -> u64
+        requires asked { self.now.asked ≤ t }
+        requires running { t < self.now.done }
+        requires short { self.now.done ≤ self.now.asked + 300010000 }
+        ensures some { 1 ≤ result }
+        ensures arrives { t + result ≤ self.now.done }
+        ensures judges { set.now.abandon ≡ true → (self.now.rung ≡ 0) ⊎ ((m : ℕ) → t < m → m < t + result → is_due_ms (m - self.now.asked) ≡ false) }
+    {
+        let left = self.done - t;
+        if set.abandon && self.rung > 0 {
+            left.min(due_in(t - self.asked))
+        } else {
+            left
+        }
+    }
+
+    /// The first instant spent on bits, once a millisecond has passed.
+    fn first_after(&self, t: u64) -> Option<u64>
+        ensures { result ≡ (if is_some self.now.first then self.now.first else (if t == self.now.begins then Some t else None)) }
+    {
+        match self.first {
+            Some(first) => Some(first),
+            None if t == self.begins => Some(t),
+            None => None,
+        }
+    }
+
+    /// The download once its network millisecond has passed.
+    pub fn take_ms(&self, clock: &Clock, t: u64) -> Running
+        requires instant { t ≤ 1000000000000000 }
+        requires credit { self.now.job.credit ≤ 100000000 }
+        requires left { self.now.job.left ≤ 200000000000 }
+        requires begins { self.now.first ≡ None → is_spent clock.now t self.now.job ≡ (t == self.now.begins) }
+        ensures takes { (c : Case) → c.periods ≡ clock.now → download_of result ≡ takes c t (download_of self.now) }
+        ensures same { SameRequest self.now result }
+    {
+        Running {
+            job: clock.advance(self.job, t, t + 1),
+            first: self.first_after(t),
+            ..*self
+        }
+    }
+
+    /// The download after so many milliseconds from an instant on.
+    pub fn after(&self, clock: &Clock, t: u64, ms: u64) -> Running
+        requires instant { t + ms ≤ 2000000000000000 }
+        requires credit { self.now.job.credit ≤ 100000000 }
+        requires left { self.now.job.left ≤ 200000000000 }
+        ensures takes { (c : Case) → c.periods ≡ clock.now → self.now.begins ≡ first_at c.periods self.now.asked (size_of c.film self.now.segment self.now.rung) → download_of result ≡ taken_ms c t ms (download_of self.now) }
+        ensures same { SameRequest self.now result }
+    {
+        let to = t + ms;
+        Running {
+            job: clock.advance(self.job, t, to),
+            first: if self.begins < to {
+                Some(self.begins)
+            } else {
+                None
+            },
+            ..*self
+        }
+    }
+}
