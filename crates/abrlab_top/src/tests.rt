@@ -168,6 +168,61 @@ fn start(text: &str, count: usize) -> &str {
     text.get(..count).unwrap_or(text)
 }
 
+// A film whose segments are so many hundredths of what their bitrates say.
+fn film_of(
+    alloc: Global,
+    seg_ms: u64,
+    bitrates: &[u64],
+    shares: &[u64],
+) -> Result<String, AllocError> {
+    let mut text = format!(in alloc;
+        "{{\"segment_duration_ms\": {seg_ms}, \"bitrates_kbps\": {bitrates:?}, \"segment_sizes_bits\": "
+    )?;
+    let mut before = "[[";
+    for share in shares {
+        for bitrate in bitrates {
+            let size = bitrate.wrapping_mul(seg_ms).wrapping_mul(*share) / 100;
+            text.push_str(&format!(in alloc; "{before}{size}")?)?;
+            before = ", ";
+        }
+        before = "], [";
+    }
+    text.push_str("]]}")?;
+    Ok(text)
+}
+
+// A trace of periods of equal length, each with its bandwidth and latency.
+fn trace_of(alloc: Global, duration_ms: u64, periods: &[(u64, u64)]) -> Result<String, AllocError> {
+    let mut text = String::new(alloc);
+    let mut before = "[";
+    for (bandwidth, latency) in periods {
+        text.push_str(&format!(in alloc;
+            "{before}{{\"duration_ms\": {duration_ms}, \"bandwidth_kbps\": {bandwidth}, \"latency_ms\": {latency}}}"
+        )?)?;
+        before = ", ";
+    }
+    text.push_str("]")?;
+    Ok(text)
+}
+
+// 199 segments of three seconds on ten rungs.
+fn long_film_of(alloc: Global) -> Result<String, AllocError> {
+    let bitrates = [230, 331, 477, 688, 991, 1427, 2056, 2962, 5027, 6000];
+    film_of(alloc, 3000, &bitrates, &[100; 199])
+}
+
+// A link that goes up and down.
+fn waves(alloc: Global) -> Result<String, AllocError> {
+    let mut periods = Vec::new(alloc);
+    for _ in 0..10 {
+        periods.push((12_000, 50))?;
+        periods.push((16_000, 50))?;
+    }
+    trace_of(alloc, 30_000, &periods)
+}
+
 mod check;
+mod memory;
+mod plan;
 mod rules;
 mod simulate;

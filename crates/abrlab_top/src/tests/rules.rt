@@ -1,6 +1,6 @@
 // The five rules through whole runs of `simulate`.
-use super::{Answer, NONE, ran_over};
-use std::alloc::{AllocError, Global};
+use super::{Answer, NONE, film_of, long_film_of, ran_over, trace_of, waves};
+use std::alloc::Global;
 use std::process::Abort;
 use std::test::Fail;
 
@@ -86,43 +86,6 @@ fn sessions_of_each_rule(rt: HostRuntime) -> Result<(), Fail> {
     Ok(())
 }
 
-// A film whose segments are so many hundredths of what their bitrates say.
-fn film(
-    alloc: Global,
-    seg_ms: u64,
-    bitrates: &[u64],
-    shares: &[u64],
-) -> Result<String, AllocError> {
-    let mut text = format!(in alloc;
-        "{{\"segment_duration_ms\": {seg_ms}, \"bitrates_kbps\": {bitrates:?}, \"segment_sizes_bits\": "
-    )?;
-    let mut before = "[[";
-    for share in shares {
-        for bitrate in bitrates {
-            let size = bitrate.wrapping_mul(seg_ms).wrapping_mul(*share) / 100;
-            text.push_str(&format!(in alloc; "{before}{size}")?)?;
-            before = ", ";
-        }
-        before = "], [";
-    }
-    text.push_str("]]}")?;
-    Ok(text)
-}
-
-// A trace of periods of equal length, each with its bandwidth and latency.
-fn trace(alloc: Global, duration_ms: u64, periods: &[(u64, u64)]) -> Result<String, AllocError> {
-    let mut text = String::new(alloc);
-    let mut before = "[";
-    for (bandwidth, latency) in periods {
-        text.push_str(&format!(in alloc;
-            "{before}{{\"duration_ms\": {duration_ms}, \"bandwidth_kbps\": {bandwidth}, \"latency_ms\": {latency}}}"
-        )?)?;
-        before = ", ";
-    }
-    text.push_str("]")?;
-    Ok(text)
-}
-
 // The session ends with this text.
 fn ends(
     rt: &impl Abort,
@@ -141,14 +104,8 @@ fn ends(
 #[test]
 fn long_film(rt: HostRuntime) -> Result<(), Fail> {
     let alloc = rt.alloc();
-    let bitrates = [230, 331, 477, 688, 991, 1427, 2056, 2962, 5027, 6000];
-    let film = film(alloc, 3000, &bitrates, &[100; 199])?;
-    let mut periods = Vec::new(alloc);
-    for _ in 0..10 {
-        periods.push((12_000, 50))?;
-        periods.push((16_000, 50))?;
-    }
-    let trace = trace(alloc, 30_000, &periods)?;
+    let film = long_film_of(alloc)?;
+    let trace = waves(alloc)?;
     #[rattlefmt::skip]
     let table = [
         ("fixed:9", "startup 1550\nstall 0\nstalls 0\nseeking 0\nwasted 0\nend 598550\nscore 1789450\n"),
@@ -177,8 +134,8 @@ fn wide_ladder(rt: HostRuntime) -> Result<(), Fail> {
     for i in 0..11u64 {
         periods.push((1000 + 900 * (7 * i % 11), 20 + 10 * i))?;
     }
-    let film = film(alloc, 2000, &bitrates, &shares)?;
-    let trace = trace(alloc, 4000, &periods)?;
+    let film = film_of(alloc, 2000, &bitrates, &shares)?;
+    let trace = trace_of(alloc, 4000, &periods)?;
     let options =
         "--rule mpc:5 --utilities 0,1,2,3,4,5,6,7,8,9,10,11,12,13,14,15 --stall 4 --switch 200";
     let text = "startup 320\nstall 0\nstalls 0\nseeking 0\nwasted 0\nend 400320\nscore 2366480\n";
