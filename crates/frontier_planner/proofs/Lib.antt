@@ -28,3 +28,4 @@ pub mod Reading
 pub mod Naming
 pub mod Short
 pub mod Planned
+pub mod Passed

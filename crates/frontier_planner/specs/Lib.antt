@@ -15,3 +15,4 @@ pub mod Best
 pub mod Laws
 pub mod Along
 pub mod ValueLaw
+pub mod Blocks

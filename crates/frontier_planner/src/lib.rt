@@ -1,6 +1,7 @@
 //! The planner: the best rung list that a network allowed, by labels that no other dominates.
 #![tactic(auto)]
 
+mod blocks;
 mod grow;
 mod label;
 mod laws;

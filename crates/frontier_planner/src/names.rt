@@ -3,31 +3,20 @@
 ghost use Rattle.std.specs.Prelude.{◌≡◌, ℕ, ◌+◌, ◌-◌, ◌*◌, ◌<◌, ◌≤◌, ◌++◌, IfOk, length, map};
 ghost use Rattle.std.specs.List.{Contains, flat_map};
 ghost use Rattle.lab_model.specs.Film.{rungs_of, segments_of};
+ghost use Rattle.frontier_planner.specs.Blocks.{AreOver};
 ghost use Rattle.frontier_planner.specs.Grown.{grown};
 ghost use Rattle.frontier_planner.specs.Labels.{task_of};
 ghost use Rattle.frontier_planner.specs.Layers.{HoldPlan, chain_read, chains_read, grown_labels, names_read};
 ghost use Rattle.frontier_planner.specs.Parts.{chain_parts};
 ghost use Rattle.frontier_planner.specs.Read.{chain_list, place_above, starts_of};
 
+use crate::blocks::{Level, first_above, next_levels, place_from};
 use crate::grow::Layer;
-use crate::label::{Grid, dominates, next_from, start_from};
+use crate::label::{Grid, next_from, start_from};
 use crate::plans::Chain;
 use lab_model::{Label, Manifest, Setup};
 use network_clock::Clock;
 use std::alloc::{AllocError, Global};
-
-/// The first place of a label of the chain that dominates this one, and the chain's length where none does.
-fn place_above(chain: &[Label], l: Label) -> u32
-    requires { length chain.now ≤ 1000000 }
-    ensures { result ≡ place_above chain.now l }
-{
-    for (place, above) in chain.iter().enumerate() {
-        if dominates(*above, l) {
-            return place as u32;
-        }
-    }
-    chain.len() as u32
-}
 
 /// For each rung the first place of a label of segment 0 that dominates the start label.
 pub fn starts(
@@ -46,7 +35,7 @@ pub fn starts(
     let mut starts = Vec::new(alloc);
     for rung in 0..m.rungs() {
         let start = start_from(m, clock, set, ahead, rung);
-        starts.push(place_above(&layers[0].chains[rung as usize], start))?;
+        starts.push(place_from(&layers[0].chains[rung as usize], 0, start))?;
     }
     Ok(starts)
 }
@@ -59,11 +48,13 @@ fn name_label(
     ahead: u32,
     grid: Grid,
     layers: &[Layer],
+    levels: &[Vec<Level>],
     seg: u16,
     reached: (u8, Label),
     names: &mut Vec<u32>,
 ) -> Result<(), AllocError>
     requires layers { HoldPlan grid (task_of m.now clock.now set.now ahead) layers.now }
+    requires levels { AreOver layers.now (seg + 1) levels.now }
     requires seg { seg + 1 < segments_of m.now }
     requires reached { Contains (grown_labels grid (task_of m.now clock.now set.now ahead) seg) reached }
     ensures { IfOk result (λ _. names.new.items
@@ -72,7 +63,8 @@ fn name_label(
     let next = &layers[seg as usize + 1].chains;
     for rung in 0..m.rungs() {
         let successor = next_from(m, clock, set, ahead, seg + 1, reached.0, reached.1, rung);
-        names.push(place_above(&next[rung as usize], successor))?;
+        let place = first_above(&next[rung as usize], &levels[rung as usize], successor);
+        names.push(place)?;
     }
     Ok(())
 }
@@ -86,10 +78,12 @@ fn names(
     ahead: u32,
     grid: Grid,
     layers: &[Layer],
+    levels: &[Vec<Level>],
     seg: u16,
     rung: u8,
 ) -> Result<Vec<u32>, AllocError>
     requires layers { HoldPlan grid (task_of m.now clock.now set.now ahead) layers.now }
+    requires levels { AreOver layers.now (seg + 1) levels.now }
     requires seg { seg + 1 < segments_of m.now }
     requires rung { rung < rungs_of m.now }
     ensures { IfOk result (λ v. v.items
@@ -105,6 +99,7 @@ fn names(
             ahead,
             grid,
             layers,
+            levels,
             seg,
             (rung, *l),
             &mut names,
@@ -122,10 +117,12 @@ fn named_chain(
     ahead: u32,
     grid: Grid,
     layers: &[Layer],
+    levels: &[Vec<Level>],
     seg: u16,
     rung: u8,
 ) -> Result<Chain, AllocError>
     requires layers { HoldPlan grid (task_of m.now clock.now set.now ahead) layers.now }
+    requires levels { AreOver layers.now (seg + 1) levels.now }
     requires seg { seg < segments_of m.now }
     requires rung { rung < rungs_of m.now }
     ensures { IfOk result (λ c. chain_parts c
@@ -133,7 +130,7 @@ fn named_chain(
 {
     let labels = Vec::from_slice(alloc, &layers[seg as usize].chains[rung as usize])?;
     let names = if seg + 1 < m.segments() {
-        names(alloc, m, clock, set, ahead, grid, layers, seg, rung)?
+        names(alloc, m, clock, set, ahead, grid, layers, levels, seg, rung)?
     } else {
         Vec::new(alloc)
     };
@@ -157,8 +154,11 @@ fn add_named(
     ensures { IfOk result (λ _. map chain_parts chains.new.items
         ≡ map chain_parts chains.old.items ++ chains_read grid (task_of m.now clock.now set.now ahead) seg) }
 {
+    let levels = next_levels(alloc, layers, seg)?;
     for rung in 0..m.rungs() {
-        let chain = named_chain(alloc, m, clock, set, ahead, grid, layers, seg, rung)?;
+        let chain = named_chain(
+            alloc, m, clock, set, ahead, grid, layers, &levels, seg, rung,
+        )?;
         chains.push(chain)?;
     }
     Ok(())

@@ -1,4 +1,4 @@
-use Rattle.std.proofs.Common.{◌≡◌, ◌∙◌, ◌<◌, ◌≤◌, [], length, ap, arith}
+use Rattle.std.proofs.Common.{◌∙◌, ◌<◌, [], length, ap, arith}
 use Rattle.lab_model.specs.Film.{rungs_of, segments_of}
 use Rattle.frontier_planner.specs.Grown.{grown}
 use Rattle.frontier_planner.specs.Labels.{start_label, task_of}
@@ -15,8 +15,8 @@ index-requires c =
     let some = h.case.task.film.segments.0 in
     rung_inside d g layers h 0 c.loop-rung.rung c.index-layers-0.result (omega (arith, some)) (omega arith)
 
-pub place_above-requires : goal.place_above-requires
-place_above-requires c =
+pub place_from-requires-clause-few : goal.place_from-requires-clause-few
+place_from-requires-clause-few c =
     let d = c.args.grid in
     let g = task_of c.args.m.now c.args.clock.now c.args.set.now c.args.ahead in
     let h = c.requires in
@@ -40,5 +40,5 @@ loop-rung-preserved c =
     let rung : c.loop-rung.rung < rungs_of c.args.m.now = omega arith in
     let is = c.deref.ensures.value ∙ chain_is d g layers h 0 c.loop-rung.rung c.index-layers-0.result c.index.result.now first rung c.index.ensures in
     c.in_ok-push.ensures.items
-    ∙ rung_pushed [] c.loop-rung.starts.items (λ q. place_above (grown d g 0 q) (start_label g q)) c.loop-rung.rung c.place_above.result c.loop-rung.invariant
-    (start_one d g c.loop-rung.rung c.place_above.result c.deref.result.now c.start_from-start.result c.place_above.ensures is c.start_from-start.ensures.label)
+    ∙ rung_pushed [] c.loop-rung.starts.items (λ q. place_above (grown d g 0 q) (start_label g q)) c.loop-rung.rung c.place_from.result c.loop-rung.invariant
+    (start_one d g c.loop-rung.rung c.place_from.result c.deref.result.now c.start_from-start.result c.place_from.ensures is c.start_from-start.ensures.label)
