@@ -93,6 +93,7 @@ pub record LayerRead (w v : Walk) (i : ℕ) (here : List Chain) : Type 0 where
 abbrev at_place : Place → Result Place Refusal
 at_place p = Ok p
 
+-- what is known of the next layer
 pub layer_read : (w v : Walk) (i : ℕ) (here : List Chain) → w.head.rungs ≤ 16 → w.segment ≡ i → ((p : Place) → w.at ≡ Ok p → p.left ≤ 1000000) → layer_of w ≡ Ok (Some (map chain_parts here), v) → LayerRead w v i here
 layer_read w v i here few at room h =
     let r = layer_reads w v (map chain_parts here) h in
@@ -120,6 +121,7 @@ pub record HeadRead (w : Walk) : Type 0 where
   pub segment : w.segment ≡ 0
   pub room : (p : Place) → w.at ≡ Ok p → p.left ≤ 1000000
 
+-- what is known of a walk that has just begun
 pub head_read : (w : Walk) → IsBegun w → HeadRead w
 head_read w begun =
     let b = begins begun.bytes w begun.is in
@@ -210,6 +212,7 @@ pub record MoreFits (g : Task) (i : ℕ) (here next : List Chain) (f : Found) : 
   pub few : length next ≤ 16
   pub fits : f.ranges ≡ Yes → AreBoth g i here next
 
+-- one more layer may be checked
 pub more_fits : (g : Task) (first w v : Walk) (i : ℕ) (here next : List Chain) (f : Found) → IsBegun first → i + 1 < first.head.segments → StandsAt g first w i here f → layer_of w ≡ Ok (Some (map chain_parts next), v)
     → MoreFits g i here next f
 more_fits g first w v i here next f begun inside s read =
@@ -237,6 +240,7 @@ pub record EndFits (g : Task) (i : ℕ) (here : List Chain) (plan : List ℕ) (f
   pub form : IsLayer 0 here
   pub fits : f.ranges ≡ Yes → MayEnd g i here plan
 
+-- the last layer may be checked
 pub end_fits : (g : Task) (first w : Walk) (i : ℕ) (here : List Chain) (f : Found) → IsBegun first → i + 1 ≡ first.head.segments → StandsAt g first w i here f → EndFits g i here first.head.plan f
 end_fits g first w i here f begun last s =
     let known = head_read first begun in
@@ -265,7 +269,7 @@ whole_read : (g : Task) (bytes : List ℕ) (first w v : Walk) (i : ℕ) (here : 
 whole_read g bytes first w v i here f layer is last s h = (
   s.before ++ (map chain_parts here ++ []),
   begun_rest bytes first is ∙ ap (whole_of first.head) (s.rest ∙ ap (prepended (s.before ++ map chain_parts here)) (at_end g first w v i here f layer last s h))
-  ∙ ap (λ (cs : List ChainParts). Ok (with_chains first.head cs)) (append_assoc s.before (map chain_parts here) []),
+      ∙ ap (λ (cs : List ChainParts). Ok (with_chains first.head cs)) (append_assoc s.before (map chain_parts here) []),
   s.stands [],
   layer_there first.head s.before [] i here s.past s.long,
 )

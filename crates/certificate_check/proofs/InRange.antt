@@ -14,6 +14,7 @@ use Rattle.certificate_check.specs.Scheme.{tested}
 use Rattle.certificate_check.specs.Clauses.{Layer, count_of, is_near, label_of, name_of, name_ranges, range_verdict, starts_verdict}
 use Rattle.certificate_check.proofs.Scheme.{both_first, both_second, yes_at, yes_tested}
 
+-- what the test of a label's times says
 pub near_times : (l : Label) → is_near l ≡ true → (l.t ≤ farthest_ms) × (l.p ≤ farthest_ms)
 near_times l h = let r = and_parts (nat_le l.t farthest_ms) (nat_le l.p farthest_ms) h in (leb-true l.t farthest_ms r.0, leb-true l.p farthest_ms r.1)
 

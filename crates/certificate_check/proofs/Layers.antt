@@ -26,5 +26,6 @@ count_read chains q n x low is = is ∙ ap count_of (sym (layer_at chains q x lo
 pub chain_read : (per : ℕ) (chains : List Chain) (q : ℕ) (x : Chain) → IsLayer per chains → q < length chains → x ≡ get_or chains q x → IsChain per (chain_parts x)
 chain_read per chains q x form low is = subst (IsChain per) (sym (layer_read chains q x low is)) (form.chain q low)
 
+-- its number of labels is within the most
 pub few_read : (per : ℕ) (chains : List Chain) (q : ℕ) (x : Chain) → IsLayer per chains → q < length chains → x ≡ get_or chains q x → length x.labels.items ≤ 1000000
 few_read per chains q x form low is = subst (λ c. count_of c ≤ 1000000) (sym (layer_read chains q x low is)) (form.count q low)

@@ -153,16 +153,19 @@ stands_last g c bound i last f v end own s is =
 
 -- ---- what a Yes so far says
 
+-- the counts are the film's
 pub counts_so_far : (g : Task) (c : CertificateParts) (n : ℕ) (f : Found) → StandsFor g c n f → f.ranges ≡ Yes → (c.segments ≡ segments_of g.film) × (c.rungs ≡ rungs_of g.film)
 unfolding ranges_up_to
 counts_so_far g c n f s passed = let h = counts_match g c (both_first (counts_verdict g c.table c.segments c.rungs) _ (sym s.ranges ∙ passed)) in (h.segments, h.rungs)
 
+-- the next two layers may be tested
 pub are_both : (g : Task) (c : CertificateParts) (i : ℕ) (here next : List Chain) (f : Found) → i + 1 < c.segments → IsLayerOf c i here → IsLayerOf c (i + 1) next → StandsFor g c i f → f.ranges ≡ Yes → AreBoth g i here next
 are_both g c i here next f inside own more s passed =
     let h = counts_so_far g c i f s passed in
     let segments = h.0 in
     record { segment = omega (arith, inside, segments); rungs = own.count ∙ h.1; next_rungs = more.count ∙ h.1 }
 
+-- the last layer and the plan may be tested
 pub may_end : (g : Task) (c : CertificateParts) (i : ℕ) (last : List Chain) (f : Found) → i + 1 ≡ c.segments → length c.plan ≡ c.segments → IsLayerOf c i last → StandsFor g c i f → f.ranges ≡ Yes → MayEnd g i last c.plan
 unfolding ranges_up_to
 may_end g c i last f end long own s passed =

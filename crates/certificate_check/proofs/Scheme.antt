@@ -12,6 +12,7 @@ pub both_first : (a b : Verdict) → both a b ≡ Yes → a ≡ Yes
 both_first Yes b h = refl
 both_first (No c i q k) b h = h
 
+-- and of the second
 pub both_second : (a b : Verdict) → both a b ≡ Yes → b ≡ Yes
 both_second Yes b h = h
 both_second (No c i q k) b h = cc
@@ -30,6 +31,7 @@ pub yes_is : (a : Verdict) → is_no a ≡ false → a ≡ Yes
 yes_is Yes h = refl
 yes_is (No c i q k) h = cc
 
+-- a Yes isn't a No
 pub no_is : (a : Verdict) → is_no a ≡ true → a ≡ Yes → ⊥
 no_is Yes h e = cc
 no_is (No c i q k) h e = cc
@@ -56,9 +58,11 @@ both_same (No clause i q k) b c h = refl
 
 -- ---- tests
 
+-- a test that passes gives a Yes
 pub tested_yes : (c i q k : ℕ) (b : Bool) → b ≡ true → tested c i q k b ≡ Yes
 tested_yes c i q k b h = ap (tested c i q k) h
 
+-- and a Yes comes of nothing else
 pub yes_tested : (c i q k : ℕ) (b : Bool) → tested c i q k b ≡ Yes → b ≡ true
 yes_tested c i q k true h = refl
 yes_tested c i q k false h = cc
@@ -75,6 +79,7 @@ pub first_next : (f : ℕ → Verdict) (n : ℕ) → first_no f (n + 1) ≡ both
 unfolding first_no
 first_next f n = ap (first_no f) (add-one n)
 
+-- the same with the number one more
 pub first_suc : (f : ℕ → Verdict) (n : ℕ) → first_no f (suc n) ≡ both (first_no f n) (f n)
 unfolding first_no
 first_suc f n = refl
@@ -107,6 +112,7 @@ first_at f (suc n) i low h other =
     (λ (past : n ≤ i). let e : i ≡ n = omega (arith, past, low) in
     first_suc f n ∙ ap (λ v. both v (f n)) (ap (first_no f) (sym e) ∙ h) ∙ ap f (sym e)) (cases_lt i n)
 
+-- the answer where a loop stops at a No
 pub first_stop : (f : ℕ → Verdict) (n i : ℕ) (v : Verdict) → i < n → first_no f i ≡ Yes → v ≡ f i → is_no v ≡ true → v ≡ first_no f n
 first_stop f n i v low h e stop = e ∙ sym (first_at f n i low h (λ yes. no_is v stop (e ∙ yes)))
 

@@ -57,9 +57,11 @@ table_from false false h = refl
 
 -- ---- how many names a label has
 
+-- a label before the last segment has a name for each rung
 pub per_inside : (segments rungs i : ℕ) → i + 1 < segments → names_per segments rungs i ≡ rungs
 per_inside segments rungs i low = cond-false (i + 1 == segments) 0 rungs (grind arith)
 
+-- and one of the last segment has none
 pub per_last : (segments rungs i : ℕ) → i + 1 ≡ segments → names_per segments rungs i ≡ 0
 per_last segments rungs i last = cond-true (i + 1 == segments) 0 rungs (eq_from (i + 1) segments last)
 
@@ -71,20 +73,24 @@ named_inside segments rungs i r low named =
 
 -- ---- a test of all labels of a segment
 
+-- where each label passes, all do
 pub labels_yes : (rungs : ℕ) (here : Layer) (test : ℕ → ℕ → Verdict) → ((q k : ℕ) → q < rungs → k < count_of (here q) → test q k ≡ Yes) → over_labels rungs here test ≡ Yes
 labels_yes rungs here test h = all_yes (λ q. first_no (test q) (count_of (here q))) rungs (λ q low. all_yes (test q) (count_of (here q)) (λ k here_low. h q k low here_low))
 
+-- where all pass, each label does
 pub label_yes : (rungs : ℕ) (here : Layer) (test : ℕ → ℕ → Verdict) → over_labels rungs here test ≡ Yes → (q k : ℕ) → q < rungs → k < count_of (here q) → test q k ≡ Yes
 label_yes rungs here test h q k low in_chain = yes_at (test q) (count_of (here q)) k (yes_at (λ r. first_no (test r) (count_of (here r))) rungs q h low) in_chain
 
 -- ---- V1
 
+-- a Yes on V1 is V1
 pub counts_match : (g : Task) (c : CertificateParts) → counts_verdict g c.table c.segments c.rungs ≡ Yes → CountsMatch g c
 counts_match g c h =
     let two = and_parts (c.segments == segments_of g.film && c.rungs == rungs_of g.film) (if c.table then has_table g.setup else not (has_table g.setup)) (yes_tested 1 0 0 0 _ h) in
     let one = and_parts (c.segments == segments_of g.film) (c.rungs == rungs_of g.film) two.0 in
     record { segments = eq_true c.segments (segments_of g.film) one.0; rungs = eq_true c.rungs (rungs_of g.film) one.1; table = table_true c.table (has_table g.setup) two.1 }
 
+-- and V1 gives a Yes
 pub counts_yes : (g : Task) (c : CertificateParts) → CountsMatch g c → counts_verdict g c.table c.segments c.rungs ≡ Yes
 counts_yes g c h =
     tested_yes 1 0 0 0 _ (and_from (c.segments == segments_of g.film && c.rungs == rungs_of g.film) (if c.table then has_table g.setup else not (has_table g.setup))
@@ -92,6 +98,7 @@ counts_yes g c h =
 
 -- ---- V2
 
+-- a Yes on the plan puts each of its rungs in range
 pub plan_in_range : (segments rungs : ℕ) (plan : List ℕ) → plan_verdict segments rungs plan ≡ Yes → (i : ℕ) → i < segments → slice_index plan i < rungs
 plan_in_range segments rungs plan h i low =
     ltb-true (slice_index plan i) rungs (yes_tested 2 i 0 0 (nat_lt (slice_index plan i) rungs) (yes_at (λ j. tested 2 j 0 0 (nat_lt (slice_index plan j) rungs)) segments i h low))
@@ -107,6 +114,7 @@ range_at : (c : CertificateParts) → first_no (ranges_in c) c.segments ≡ Yes 
 range_at c h i q k place =
     label_yes c.rungs (chain_in c i) (λ r. range_verdict (names_per c.segments c.rungs i) i r (chain_in c i r) (chain_in c (i + 1))) (yes_at (ranges_in c) c.segments i h place.segment) q k place.rung place.label
 
+-- a Yes on ranges is V1 and V2
 pub in_range : (g : Task) (c : CertificateParts) → ranges_up_to g c c.segments ≡ Yes → CountsMatch g c × InRange c
 unfolding ranges_up_to
 in_range g c h =
@@ -147,6 +155,7 @@ ranges_yes g c counts h =
 
 -- ---- V3 and V4
 
+-- a Yes on V3 and V4 is these two
 pub claims_hold : (g : Task) (c : CertificateParts) → claims_up_to g c c.segments ≡ Yes → StartsHold g c × NamesHold g c
 unfolding claims_up_to
 claims_hold g c h =

@@ -45,17 +45,13 @@ pub fn check_lines(
     ensures verdict { (bytes : List ℕ) → begun bytes ≡ Ok lines.entry → Gives (λ v. v) result
         (lines_verdict (task_of m.now clock.now set.now all_ahead) bytes) }
     // A yes proves that the rung list has the score, and that no rung list has a greater value.
-    ensures sound { IfOk result (λ v. v ≡ Yes → Certifies
-        (task_of m.now clock.now set.now all_ahead) lines.entry.head.plan lines.entry.head.score lines.entry.head.score) }
+    ensures sound { IfOk result (λ v. v ≡ Yes →
+        Certifies (task_of m.now clock.now set.now all_ahead) lines.entry.head.plan
+        lines.entry.head.score lines.entry.head.score) }
 {
     let checker = Checker::new(m, clock, set, ALL_AHEAD);
     let mut lines = lines;
-    let head = checker.head_verdict(
-        lines.table(),
-        lines.segments(),
-        lines.rungs(),
-        lines.plan(),
-    );
+    let head = checker.head_verdict(lines.table(), lines.segments(), lines.rungs(), lines.plan());
     let last = lines.segments() - 1;
     let mut here = next_layer(&mut lines)?;
     let mut found = checker.found_first(head, lines.starts(), &here.chains);

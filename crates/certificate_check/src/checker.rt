@@ -129,7 +129,8 @@ impl<'a> Checker<'a> {
         requires few { length starts.now ≤ 16 }
         requires chains { length first.now ≡ length starts.now }
         requires inside { starts_verdict (length starts.now) starts.now (layer_of first.now) ≡ Yes }
-        ensures { result ≡ starts_held self.now (length starts.now) starts.now (layer_of first.now) }
+        ensures { result ≡
+            starts_held self.now (length starts.now) starts.now (layer_of first.now) }
     {
         for (rung, start) in starts.iter().enumerate() {
             let named = label_of(&first[rung], *start as usize);
@@ -160,8 +161,8 @@ impl<'a> Checker<'a> {
         requires form { IsChain (length next.now) (chain_parts chain.now) }
         requires range { range_verdict (length next.now) segment rung (chain_parts chain.now)
             (layer_of next.now) place ≡ Yes }
-        ensures { result ≡ name_verdict self.now (length next.now) segment rung (chain_parts chain.now)
-            (layer_of next.now) place }
+        ensures { result ≡ name_verdict self.now (length next.now) segment rung
+            (chain_parts chain.now) (layer_of next.now) place }
     {
         let label = label_of(chain, place);
         for (next_rung, next_chain) in next.iter().enumerate() {
@@ -222,8 +223,8 @@ impl<'a> Checker<'a> {
         requires count { length chain.now.labels.items ≤ 1000000 }
         requires ranges { first_no (range_verdict 0 segment rung (chain_parts chain.now)
             (layer_of [])) (length chain.now.labels.items) ≡ Yes }
-        ensures { result ≡ first_no (end_verdict self.now bound segment rung (chain_parts chain.now))
-            (length chain.now.labels.items) }
+        ensures { result ≡ first_no (end_verdict self.now bound segment rung
+            (chain_parts chain.now)) (length chain.now.labels.items) }
     {
         for place in 0..count_of(chain) {
             let low = self.ends_below(bound, label_of(chain, place));
@@ -240,7 +241,8 @@ impl<'a> Checker<'a> {
         requires form { IsLayer 0 last.now }
         requires ranges { ranges_verdict 0 (length last.now) segment (layer_of last.now)
             (layer_of []) ≡ Yes }
-        ensures { result ≡ ends_verdict self.now bound (length last.now) segment (layer_of last.now) }
+        ensures { result ≡
+            ends_verdict self.now bound (length last.now) segment (layer_of last.now) }
     {
         for (rung, chain) in last.iter().enumerate() {
             let verdict = self.ends_of_chain(bound, segment, rung as u8, chain);
@@ -274,8 +276,8 @@ impl<'a> Checker<'a> {
         requires fits { head ≡ Yes → length starts.now ≡ rungs_of self.now.film }
         ensures ranges { result.ranges ≡
             both head (starts_verdict (length starts.now) starts.now (layer_of first.now)) }
-        ensures claims { result.ranges ≡ Yes →
-            result.claims ≡ starts_held self.now (length starts.now) starts.now (layer_of first.now) }
+        ensures claims { result.ranges ≡ Yes → result.claims ≡
+            starts_held self.now (length starts.now) starts.now (layer_of first.now) }
     {
         let ranges = both(head, starts_verdict(starts, first));
         let claims = match ranges {
@@ -292,8 +294,9 @@ impl<'a> Checker<'a> {
         requires fits { found.ranges ≡ Yes → AreBoth self.now segment here.now next.now }
         ensures ranges { result.ranges ≡ both found.ranges (ranges_verdict (length next.now)
             (length here.now) segment (layer_of here.now) (layer_of next.now)) }
-        ensures claims { result.ranges ≡ Yes → result.claims ≡ both found.claims (names_verdict self.now
-            (length next.now) (length here.now) segment (layer_of here.now) (layer_of next.now)) }
+        ensures claims { result.ranges ≡ Yes → result.claims ≡ both found.claims
+            (names_verdict self.now (length next.now) (length here.now) segment (layer_of here.now)
+            (layer_of next.now)) }
     {
         let ranges = both(found.ranges, ranges_verdict(segment, here, next));
         let claims = match ranges {

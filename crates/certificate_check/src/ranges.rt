@@ -148,8 +148,8 @@ fn range_of_chain(segment: u16, rung: u8, chain: &Chain, next: &[Chain]) -> Verd
     requires count { length chain.now.labels.items ≤ 1000000 }
     requires next { length next.now ≤ 16 }
     requires names { length chain.now.names.items ≡ length chain.now.labels.items * length next.now }
-    ensures { result ≡ first_no (range_verdict (length next.now) segment rung (chain_parts chain.now)
-        (layer_of next.now)) (length chain.now.labels.items) }
+    ensures { result ≡ first_no (range_verdict (length next.now) segment rung
+        (chain_parts chain.now) (layer_of next.now)) (length chain.now.labels.items) }
 {
     for place in 0..count_of(chain) {
         let verdict = range_verdict(segment, rung, chain, next, place);
@@ -164,8 +164,8 @@ fn range_of_chain(segment: u16, rung: u8, chain: &Chain, next: &[Chain]) -> Verd
 pub(crate) fn ranges_verdict(segment: u16, here: &[Chain], next: &[Chain]) -> Verdict
     requires form { IsLayer (length next.now) here.now }
     requires next { length next.now ≤ 16 }
-    ensures { result ≡ ranges_verdict (length next.now) (length here.now) segment (layer_of here.now)
-        (layer_of next.now) }
+    ensures { result ≡ ranges_verdict (length next.now) (length here.now) segment
+        (layer_of here.now) (layer_of next.now) }
 {
     for (rung, chain) in here.iter().enumerate() {
         let verdict = range_of_chain(segment, rung as u8, chain, next);

@@ -105,31 +105,45 @@ impl Inputs {
     }
 }
 
-/// The text of steady-plan's certificate with this text in the place of so many lines, from this one on. The first is 1.
+/// The text of steady-plan's certificate with other lines, each ended by a slash, in the place of so many from this row on.
 fn with_lines(alloc: Global, row: u32, count: u32, other: &str) -> Result<String, Fail> {
-    let (row, count) = (row as usize, count as usize);
     let mut text = String::new(alloc);
-    for (i, own) in STEADY_PLAN.iter().enumerate() {
-        if i + 1 == row {
-            text.push_str(other)?;
+    let mut at = 1u32;
+    for own in STEADY_PLAN.lines() {
+        if at == row {
+            text.push_str(&other.replace(alloc, "/", "\n")?)?;
         }
-        if i + 1 < row || i + 1 >= row + count {
+        if at < row || at >= row.saturating_add(count) {
             text.push_str(own)?;
+            text.push('\n')?;
         }
+        at = at.saturating_add(1);
     }
     Ok(text)
+}
+
+/// The text that a line of a table asks for, and what is said of it.
+fn change_of(alloc: Global, line: &str) -> Result<(String, &str), Fail> {
+    let (change, wanted) = line.split_once('|').ok_or("nothing said")?;
+    let (row, rest) = change.split_once(' ').ok_or("no row")?;
+    let (count, other) = rest.split_once(' ').ok_or("no count")?;
+    let row = row.parse::<u32>().map_err(|_| "not a row")?;
+    let count = count.parse::<u32>().map_err(|_| "not a count")?;
+    Ok((with_lines(alloc, row, count, other)?, wanted))
 }
 
 /// What is said.
 fn told(alloc: Global, answer: &Result<Verdict, InputFault>) -> Result<String, Fail> {
     Ok(match answer {
         Ok(Verdict::Yes) => format!(in alloc; "yes")?,
-        Ok(Verdict::No {
-            clause,
-            segment,
-            rung,
-            label,
-        }) => format!(in alloc; "no V{clause} segment {segment} rung {rung} label {label}")?,
+        Ok(
+            Verdict::No {
+                clause,
+                segment,
+                rung,
+                label,
+            },
+        ) => format!(in alloc; "no V{clause} segment {segment} rung {rung} label {label}")?,
         Err(InputFault::Refused(refusal)) => {
             let (row, column) = (refusal.row, refusal.column);
             format!(in alloc; "bad-line at line row {row} column {column}")?
@@ -157,7 +171,7 @@ fn says(
 fn valid_certificates(rt: HostRuntime) -> Result<(), Fail> {
     let alloc = rt.alloc();
     let m1 = Inputs::of(alloc, &M1)?;
-    says(&rt, alloc, &m1, &with_lines(alloc, 0, 0, "")?, "yes")?;
+    says(&rt, alloc, &m1, STEADY_PLAN, "yes")?;
     let equal = Case {
         utilities: &[0, 0],
         ..M1
@@ -180,7 +194,7 @@ fn utility_tables(rt: HostRuntime) -> Result<(), Fail> {
     let m1 = Inputs::of(alloc, &M1)?;
     let other = "no V1 segment 0 rung 0 label 0";
     says(&rt, alloc, &table, UTILITY_TABLE, "yes")?;
-    says(&rt, alloc, &table, &with_lines(alloc, 0, 0, "")?, other)?;
+    says(&rt, alloc, &table, STEADY_PLAN, other)?;
     says(&rt, alloc, &m1, UTILITY_TABLE, other)?;
     says(&rt, alloc, &m1, SMALLEST_INPUT, other)
 }
@@ -189,18 +203,11 @@ fn utility_tables(rt: HostRuntime) -> Result<(), Fail> {
 fn changed_certificates(rt: HostRuntime) -> Result<(), Fail> {
     let alloc = rt.alloc();
     let m1 = Inputs::of(alloc, &M1)?;
-    for (row, count, other, wanted) in CHANGED {
-        says(&rt, alloc, &m1, &with_lines(alloc, row, count, other)?, wanted)?;
-    }
-    Ok(())
-}
-
-#[test]
-fn mutated_certificates(rt: HostRuntime) -> Result<(), Fail> {
-    let alloc = rt.alloc();
-    let m1 = Inputs::of(alloc, &M1)?;
-    for (row, count, other, wanted) in MUTATED {
-        says(&rt, alloc, &m1, &with_lines(alloc, row, count, other)?, wanted)?;
+    for table in [CHANGED, MUTATED] {
+        for line in table.lines() {
+            let (text, wanted) = change_of(alloc, line)?;
+            says(&rt, alloc, &m1, &text, wanted)?;
+        }
     }
     Ok(())
 }
@@ -209,11 +216,16 @@ fn mutated_certificates(rt: HostRuntime) -> Result<(), Fail> {
 fn each_prefix(rt: HostRuntime) -> Result<(), Fail> {
     let alloc = rt.alloc();
     let m1 = Inputs::of(alloc, &M1)?;
-    let text = with_lines(alloc, 0, 0, "")?;
     let mut row = 1u32;
-    for (k, byte) in text.as_bytes().iter().enumerate() {
+    for (k, byte) in STEADY_PLAN.as_bytes().iter().enumerate() {
         let wanted = format!(in alloc; "bad-line at line row {row} column 0")?;
-        says(&rt, alloc, &m1, text.get(..k).ok_or("not ASCII")?, &wanted)?;
+        says(
+            &rt,
+            alloc,
+            &m1,
+            STEADY_PLAN.get(..k).ok_or("not ASCII")?,
+            &wanted,
+        )?;
         if *byte == b'\n' {
             row = row.saturating_add(1);
         }
@@ -242,8 +254,7 @@ fn other_bounds(rt: HostRuntime) -> Result<(), Fail> {
     let alloc = rt.alloc();
     let m1 = Inputs::of(alloc, &M1)?;
     assert!(rt; m1.set.fits(&m1.m));
-    let steady = with_lines(alloc, 0, 0, "")?;
-    let certificate = read_certificate(alloc, steady.as_bytes())?;
+    let certificate = read_certificate(alloc, STEADY_PLAN.as_bytes())?;
     let low = check_bound(&m1.m, &m1.clock, &m1.set, &certificate, 28_999);
     let end = "no V5 segment 2 rung 1 label 3";
     assert_eq!(rt; told(alloc, &Ok(low))?.as_str(), end);
@@ -251,7 +262,7 @@ fn other_bounds(rt: HostRuntime) -> Result<(), Fail> {
     assert_eq!(rt; high, Verdict::Yes);
     let live = with_ahead(&rt, alloc, 0, LIVE_EDGE, 28_000)?;
     assert_eq!(rt; live.as_str(), "yes");
-    let early = with_ahead(&rt, alloc, 0, &steady, 29_000)?;
+    let early = with_ahead(&rt, alloc, 0, STEADY_PLAN, 29_000)?;
     assert_eq!(rt; early.as_str(), "no V3 segment 0 rung 0 label 0");
     Ok(())
 }

@@ -97,8 +97,8 @@ pub fn check_bound(
         verdict_of (task_of m.now clock.now set.now all_ahead) (certificate_parts cert.now) bound }
     ensures valid { (result ≡ Yes) ↔
         IsValid (task_of m.now clock.now set.now all_ahead) (certificate_parts cert.now) bound }
-    ensures sound { result ≡ Yes →
-        Certifies (task_of m.now clock.now set.now all_ahead) cert.now.plan.items cert.now.score bound }
+    ensures sound { result ≡ Yes → Certifies (task_of m.now clock.now set.now all_ahead)
+        cert.now.plan.items cert.now.score bound }
 {
     check_from(m, clock, set, ALL_AHEAD, cert, bound)
 }
@@ -108,10 +108,10 @@ pub fn check_bound(
 pub fn check(m: &Manifest, clock: &Clock, set: &Setup, cert: &Certificate) -> Verdict
     requires setup { SetupFits set.now m.now }
     requires form { IsCertificate (certificate_parts cert.now) }
-    ensures verdict { result ≡
-        verdict_of (task_of m.now clock.now set.now all_ahead) (certificate_parts cert.now) cert.now.score }
-    ensures valid { (result ≡ Yes) ↔
-        IsValid (task_of m.now clock.now set.now all_ahead) (certificate_parts cert.now) cert.now.score }
+    ensures verdict { result ≡ verdict_of (task_of m.now clock.now set.now all_ahead)
+        (certificate_parts cert.now) cert.now.score }
+    ensures valid { (result ≡ Yes) ↔ IsValid (task_of m.now clock.now set.now all_ahead)
+        (certificate_parts cert.now) cert.now.score }
     ensures sound { result ≡ Yes → Certifies (task_of m.now clock.now set.now all_ahead)
         cert.now.plan.items cert.now.score cert.now.score }
 {

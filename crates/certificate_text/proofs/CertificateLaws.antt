@@ -242,6 +242,7 @@ pub record TakesChains (segments rungs number count : ℕ) (p : Place) (x : List
   pub chains : AreChains segments rungs number x.0
   pub left : x.1.left + label_count x.0 ≡ p.left
 
+-- chains that were read are of the form and spelled so
 pub chains_take : (segments rungs number count : ℕ) (p : Place) (x : List ChainParts × Place) → chains_at segments rungs number count p ≡ Ok x → TakesChains segments rungs number count p x
 unfolding chains_at
 chains_take segments rungs number zero p x h =
@@ -261,6 +262,7 @@ chains_take segments rungs number (suc more) p x h =
       left = omega (arith, t.left, ts.left);
     })
 
+-- chains of the form are read from their spelling
 pub chains_again : (segments rungs number : ℕ) (cs : List ChainParts) (p : Place) (rest : Text) → 1 ≤ rungs → rungs ≤ 16 → number + length cs ≤ 32000 → p.rest ≡ lines_text (chains_lines segments rungs number cs) ++ rest
     → AreChains segments rungs number cs → label_count cs ≤ p.left → p.left ≤ 1000000 → (q : Place) × (chains_at segments rungs number (length cs) p ≡ Ok (cs, q)) × (q.rest ≡ rest)
 unfolding chains_at

@@ -35,6 +35,7 @@ pub passed_ok : {X : Type 0} (row : ℕ) (b : Bool) (x y : X) → passed row b x
 passed_ok row true x y h = (refl, cc)
 passed_ok row false x y h = absurd cc
 
+-- what an option gave
 pub some_ok : {X : Type 0} (row : ℕ) (o : Option X) (y : X) → some_at row o ≡ Ok y → o ≡ Some y
 some_ok row (Some x) y h = ap Some (ok_is x y h)
 some_ok row None y h = absurd cc
@@ -70,6 +71,7 @@ field_takes row stop bytes x h = go (position (λ b. b == stop) bytes) refl h
         let cut : drop i bytes ≡ stop ∷ drop (i + 1) bytes = rw (add-one, ← byte) (drop-cons bytes i 0 at.0) in
         subst (λ (y : Text × Text). bytes ≡ y.0 ++ stop ∷ y.1) (ok_is (take i bytes, drop (i + 1) bytes) x p) (sym (take-append-drop i bytes) ∙ ap (λ (t : Text). take i bytes ++ t) cut)
 
+-- a field is read from its text
 pub field_again : (row stop : ℕ) (text rest : Text) → is_free stop text ≡ true → field_at row stop (text ++ stop ∷ rest) ≡ Ok (text, rest)
 field_again row stop text rest free =
     let long : length text < length (text ++ stop ∷ rest) = rw (length-append text (stop ∷ rest)) (omega arith) in
@@ -84,12 +86,15 @@ field_again row stop text rest free =
 
 -- ---- a word
 
+-- a text equals itself
 pub same_bytes : (x : Text) → bytes_eq x x ≡ true
 same_bytes x = (bytes_eq-Decides x x).1 refl
 
+-- texts whose bytes are equal are equal
 pub bytes_eq-same : (x y : Text) → bytes_eq x y ≡ true → x ≡ y
 bytes_eq-same x y h = (bytes_eq-Decides x y).0 h
 
+-- a word that was read stands there
 pub word_takes : (row : ℕ) (word : Text) (stop : ℕ) (bytes rest : Text) → word_at row word stop bytes ≡ Ok rest → bytes ≡ word ++ stop ∷ rest
 unfolding word_at
 word_takes row word stop bytes rest h =
@@ -99,6 +104,7 @@ word_takes row word stop bytes rest h =
     let e : f.0.0 ≡ word = bytes_eq-same f.0.0 word p.0 in
     t ∙ rw (e, p.1) refl
 
+-- a word is read from its text
 pub word_again : (row : ℕ) (word : Text) (stop : ℕ) (rest : Text) → is_free stop word ≡ true → word_at row word stop (word ++ stop ∷ rest) ≡ Ok rest
 unfolding word_at
 word_again row word stop rest free = rw (field_again row stop word rest free, same_bytes word) refl
@@ -128,6 +134,7 @@ wide digits n short lt =
 decimal_free : (stop n : ℕ) → IsStop stop → n < 10 ^ 64 → is_free stop (decimal n) ≡ true
 decimal_free stop n low lt = digits_free stop (decimal n) (omega arith) (decimal-spelling n lt).digits
 
+-- a number that was read is short and spelled so
 pub number_takes : (row digits stop : ℕ) (bytes : Text) (x : ℕ × Text) → digits ≤ 64 → number_at row digits stop bytes ≡ Ok x → (bytes ≡ decimal x.0 ++ stop ∷ x.1) × HasDigits digits x.0
 unfolding number_at
 number_takes row digits stop bytes x short h =
@@ -137,11 +144,13 @@ number_takes row digits stop bytes x short h =
     let s = numeral-takes digits f.0.0 n.0 short (some_ok row (numeral digits f.0.0) n.0 n.1) in
     subst (λ (y : ℕ × Text). (bytes ≡ decimal y.0 ++ stop ∷ y.1) × HasDigits digits y.0) (ok_is (n.0, f.0.1) x n.2) (t ∙ ap (λ (w : Text). w ++ stop ∷ f.0.1) s.0, s.1)
 
+-- a short number is read from its spelling
 pub number_again : (row digits stop n : ℕ) (rest : Text) → 1 ≤ digits → digits ≤ 64 → IsStop stop → HasDigits digits n → number_at row digits stop (decimal n ++ stop ∷ rest) ≡ Ok (n, rest)
 unfolding number_at
 number_again row digits stop n rest one short low lt =
     rw (field_again row stop (decimal n) rest (decimal_free stop n low (wide digits n short lt)), numeral-decimal digits n one short lt) refl
 
+-- a known number that was read is spelled so
 pub known_takes : (row known stop : ℕ) (bytes rest : Text) → known_at row known stop bytes ≡ Ok rest → bytes ≡ decimal known ++ stop ∷ rest
 unfolding known_at
 known_takes row known stop bytes rest h =
@@ -151,6 +160,7 @@ known_takes row known stop bytes rest h =
     let e : n.0.0 ≡ known = eqb-true n.0.0 known p.0 in
     t.0 ∙ rw (e, p.1) refl
 
+-- a known number is read from its spelling
 pub known_again : (row known stop : ℕ) (rest : Text) → IsStop stop → HasDigits 7 known → known_at row known stop (decimal known ++ stop ∷ rest) ≡ Ok rest
 unfolding known_at
 known_again row known stop rest low lt = rw (number_again row 7 stop known rest (lit≤ tt) (lit≤ tt) low lt, same_byte known) refl
@@ -211,6 +221,7 @@ signed_free stop digits (pos n) short low fits = decimal_free stop n low (wide d
 signed_free stop digits (negsuc m) short low fits =
     rw (not_stop 45 stop low, decimal_free stop (suc m) low (wide digits (suc m) short (omega (arith, ints, fits.0)))) refl
 
+-- a number with a sign that was read is short and spelled so
 pub signed_takes : (row digits stop : ℕ) (bytes : Text) (x : ℤ × Text) → digits ≤ 64 → signed_at row digits stop bytes ≡ Ok x → (bytes ≡ signed_decimal x.0 ++ stop ∷ x.1) × HasSignedDigits digits x.0
 unfolding signed_at
 signed_takes row digits stop bytes x short h =
@@ -220,6 +231,7 @@ signed_takes row digits stop bytes x short h =
     let s = signed_of_takes row digits f.0.0 z.0 short z.1 in
     subst (λ (y : ℤ × Text). (bytes ≡ signed_decimal y.0 ++ stop ∷ y.1) × HasSignedDigits digits y.0) (ok_is (z.0, f.0.1) x z.2) (t ∙ ap (λ (w : Text). w ++ stop ∷ f.0.1) s.0, s.1)
 
+-- a short number with a sign is read from its spelling
 pub signed_again : (row digits stop : ℕ) (z : ℤ) (rest : Text) → 1 ≤ digits → digits ≤ 64 → IsStop stop → HasSignedDigits digits z → signed_at row digits stop (signed_decimal z ++ stop ∷ rest) ≡ Ok (z, rest)
 unfolding signed_at
 signed_again row digits stop z rest one short low fits =
@@ -227,6 +239,7 @@ signed_again row digits stop z rest one short low fits =
 
 -- ---- numbers to the end of a line
 
+-- what ends a field is no digit
 pub stop_low : (more : ℕ) → IsStop (stop_before more)
 stop_low zero = lit≤ tt
 stop_low (suc more) = lit≤ tt
@@ -247,6 +260,7 @@ pub record TakesNumbers (digits count : ℕ) (bytes : Text) (x : List ℕ × Tex
   pub count_is : length x.0 ≡ count
   pub digits_are : All (HasDigits digits) x.0
 
+-- numbers that were read are short and spelled so
 pub numbers_take : (row digits count : ℕ) (bytes : Text) (x : List ℕ × Text) → digits ≤ 64 → numbers_at row digits count bytes ≡ Ok x → TakesNumbers digits count bytes x
 unfolding numbers_at
 numbers_take row digits zero bytes x short h =
@@ -263,6 +277,7 @@ numbers_take row digits (suc more) bytes x short h =
       digits_are = All-cons (HasDigits digits) n.0.0 ns.0.0 first.1 rest.digits_are;
     })
 
+-- short numbers are read from their spelling
 pub numbers_again : (row digits : ℕ) (ns : List ℕ) (rest : Text) → 1 ≤ digits → digits ≤ 64 → All (HasDigits digits) ns → numbers_at row digits (length ns) (numbers_text ns ++ rest) ≡ Ok (ns, rest)
 unfolding numbers_at
 numbers_again row digits [] rest one short all = refl

@@ -214,6 +214,7 @@ pub record TakesHead (bytes : Text) (x : CertificateParts × Place) : Type 0 whe
   pub head : IsHead x.0
   pub left : x.1.left ≡ 1000000
 
+-- a head that was read is of the form and spelled so
 pub head_takes : (bytes : Text) (x : CertificateParts × Place) → head_at bytes ≡ Ok x → TakesHead bytes x
 unfolding head_at
 head_takes bytes x h =
@@ -236,6 +237,7 @@ head_takes bytes x h =
       left = refl;
     })
 
+-- a head of the form is read from its spelling
 pub head_again : (c : CertificateParts) (rest : Text) → IsHead c → head_at (lines_text (head_lines c) ++ rest) ≡ Ok (without_chains c, first_place c.table rest)
 unfolding head_at
 head_again c rest form =

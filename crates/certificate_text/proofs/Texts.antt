@@ -26,6 +26,7 @@ lists_text c =
     fields_line (codes "score" ∷ signed_decimal c.score ∷ [])
     ++ (fields_line (codes "plan" ∷ map decimal c.plan) ++ fields_line (codes "start" ∷ map decimal c.starts))
 
+-- the text of the head in two parts
 pub head_text : (c : CertificateParts) → lines_text (head_lines c) ≡ counts_text c.table c.segments c.rungs ++ lists_text c
 head_text c =
     let version = fields_line (version_text c.table ∷ []) in
@@ -39,6 +40,7 @@ head_text c =
     ∙ sym (append_assoc version (segments ++ (rungs ++ table)) (lists_text c)
     ∙ ap (λ (t : Text). version ++ t) (append_assoc segments (rungs ++ table) (lists_text c) ∙ ap (λ (t : Text). segments ++ t) (append_assoc rungs table (lists_text c))))
 
+-- a spelling in its parts
 pub spelling_parts : (c : CertificateParts) → spelling c ≡ lines_text (head_lines c) ++ (lines_text (chains_lines c.segments c.rungs 0 c.chains) ++ fields_line (end_text ∷ []))
 unfolding spelling
 spelling_parts c =
@@ -49,22 +51,27 @@ spelling_parts c =
 
 -- ---- the loops
 
+-- the text of the numbers from one on
 pub numbers_from : (ns : List ℕ) (i d : ℕ) → i < length ns → later_fields (map decimal (drop i ns)) ≡ (32 ∷ decimal (get_or ns i d)) ++ later_fields (map decimal (drop (i + 1) ns))
 numbers_from ns i d lt = rw (add-one, drop-cons ns i d) refl
 
+-- behind the last number the line ends
 pub numbers_end : (ns : List ℕ) (i : ℕ) → length ns ≤ i → later_fields (map decimal (drop i ns)) ≡ 10 ∷ []
 numbers_end ns i h = rw (drop_all i ns h) refl
 
+-- the text of the labels from one on
 pub labels_from : (per : ℕ) (ls : List Label) (names : List ℕ) (i : ℕ) (d : Label) → i < length ls
     → lines_text (label_lines per (drop i ls) names) ≡ fields_line (label_fields (get_or ls i d) (take per names)) ++ lines_text (label_lines per (drop (i + 1) ls) (drop per names))
 labels_from per ls names i d lt = rw (add-one, drop-cons ls i d) refl
 
+-- behind the last label is nothing
 pub labels_end : (per : ℕ) (ls : List Label) (names : List ℕ) (i : ℕ) → length ls ≤ i → lines_text (label_lines per (drop i ls) names) ≡ []
 labels_end per ls names i h = rw (drop_all i ls h) refl
 
 chains_cut : (cs : List Chain) (i : ℕ) (c : Chain) → i < length cs → c ≡ get_or cs i c → drop i cs ≡ c ∷ drop (i + 1) cs
 chains_cut cs i c lt is = rw add-one (drop-cons cs i c lt ∙ ap (λ (d : Chain). d ∷ drop (suc i) cs) (sym is))
 
+-- the text of the chains from one on
 pub chains_from : (segments rungs per : ℕ) (cs : List Chain) (i : ℕ) (c : Chain) → i < length cs → c ≡ get_or cs i c → per ≡ names_per segments rungs (i / rungs)
     → lines_text (chain_lines per (i / rungs) (i % rungs) (chain_parts c)) ++ lines_text (chains_lines segments rungs (i + 1) (map chain_parts (drop (i + 1) cs)))
     ≡ lines_text (chains_lines segments rungs i (map chain_parts (drop i cs)))
@@ -75,6 +82,7 @@ chains_from segments rungs per cs i c lt is e =
     ∙ sym (flat_map-append fields_line (chain_lines (names_per segments rungs (i / rungs)) (i / rungs) (i % rungs) (chain_parts c)) later)
     ∙ ap (λ (rest : List ChainParts). lines_text (chains_lines segments rungs i rest)) cut
 
+-- behind the last chain is nothing
 pub chains_end : (segments rungs : ℕ) (cs : List Chain) (i : ℕ) → length cs ≤ i → lines_text (chains_lines segments rungs i (map chain_parts (drop i cs))) ≡ []
 chains_end segments rungs cs i h = rw (drop_all i cs h) refl
 
@@ -86,6 +94,7 @@ chains_form segments rungs cs i c lt is form =
 
 -- ---- a label
 
+-- a label's line is its numbers and its names
 pub label_text : (l : Label) (names : List ℕ) → label_numbers l ++ later_fields (map decimal names) ≡ fields_line (label_fields l names)
 label_text l names =
     let later = later_fields (map decimal names) in

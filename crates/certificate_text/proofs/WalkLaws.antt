@@ -124,6 +124,7 @@ pub record Begins (w : Walk) : Type 0 where
   pub segment : w.segment ≡ 0
   pub standing : w.at ≡ Ok at
 
+-- a walk that has just begun stands behind its head
 pub begins : (bytes : Text) (w : Walk) → begun bytes ≡ Ok w → Begins w
 unfolding begun
 begins bytes w h =
@@ -308,6 +309,7 @@ goes_on w v parts low h =
     quiet (Ok cs) = refl
     quiet (Err e) = refl
 
+-- where a layer came, the walk goes on
 pub walk_on : (w v : Walk) (layer : Option Layer) → w.segment ≤ w.head.segments → true ≡ is_some layer → layer_of w ≡ Ok (layer_parts layer, v) → GoesOn w v
 walk_on w v (Some layer) low is h = goes_on w v (map chain_parts layer.chains.items) low h
 walk_on w v None low is h = absurd cc

@@ -29,9 +29,15 @@ pub struct Lines<'a> {
 impl<'a> Model for Lines<'a> {
     ghost Value = { Walk };
 
-    ghost view = { λ l. record { head = certificate_parts l.head; segment = l.segment; at = standing l.refused l.spot } };
+    ghost view = { λ l. record {
+      head = certificate_parts l.head;
+      segment = l.segment;
+      at = standing l.refused l.spot;
+    } };
 
-    ghost invariant = { λ l. IsWithin 1 2000 l.head.segments × IsWithin 1 16 l.head.rungs × (l.segment ≤ l.head.segments) × (l.spot.row + l.spot.left ≤ 1000010 + 16 * l.segment) };
+    ghost invariant = { λ l. IsWithin 1 2000 l.head.segments × IsWithin 1 16 l.head.rungs
+        × (l.segment ≤ l.head.segments)
+        × (l.spot.row + l.spot.left ≤ 1000010 + 16 * l.segment) };
 }
 
 impl<'a> Lines<'a> {

@@ -24,7 +24,8 @@ fn put_later_number<O: Sink>(out: &mut O, n: u32) -> Result<(), PutErr>
 
 /// The numbers that end a line.
 fn put_numbers<O: Sink>(out: &mut O, numbers: &[u32]) -> Result<(), PutErr>
-    ensures { Puts (O.seen out.old) (later_fields (map decimal numbers.now)) (O.seen out.new) result }
+    ensures { Puts (O.seen out.old) (later_fields (map decimal numbers.now))
+        (O.seen out.new) result }
 {
     for number in numbers {
         put_later_number(out, *number)?;
@@ -44,7 +45,8 @@ fn put_rungs<O: Sink>(out: &mut O, rungs: &[u8]) -> Result<(), PutErr>
 
 /// Puts the line of a rung list: `plan` and its numbers. It takes no memory of its own; after an `Err` a prefix went out.
 pub fn put_plan<O: Sink>(out: &mut O, rungs: &[u8]) -> Result<(), PutErr>
-    ensures { Puts (O.seen out.old) (fields_line (codes "plan" ∷ map decimal rungs.now)) (O.seen out.new) result }
+    ensures { Puts (O.seen out.old) (fields_line (codes "plan" ∷ map decimal rungs.now))
+        (O.seen out.new) result }
 {
     put_text(out, "plan")?;
     put_rungs(out, rungs)
@@ -52,7 +54,8 @@ pub fn put_plan<O: Sink>(out: &mut O, rungs: &[u8]) -> Result<(), PutErr>
 
 /// The line of the starts.
 fn put_starts<O: Sink>(out: &mut O, starts: &[u32]) -> Result<(), PutErr>
-    ensures { Puts (O.seen out.old) (fields_line (codes "start" ∷ map decimal starts.now)) (O.seen out.new) result }
+    ensures { Puts (O.seen out.old) (fields_line (codes "start" ∷ map decimal starts.now))
+        (O.seen out.new) result }
 {
     put_text(out, "start")?;
     put_numbers(out, starts)
@@ -60,7 +63,8 @@ fn put_starts<O: Sink>(out: &mut O, starts: &[u32]) -> Result<(), PutErr>
 
 /// The first line.
 fn put_version<O: Sink>(out: &mut O, table: bool) -> Result<(), PutErr>
-    ensures { Puts (O.seen out.old) (fields_line (version_text table ∷ [])) (O.seen out.new) result }
+    ensures { Puts (O.seen out.old) (fields_line (version_text table ∷ []))
+        (O.seen out.new) result }
 {
     if table {
         put_line(out, "abrlab certificate 2")
@@ -71,15 +75,16 @@ fn put_version<O: Sink>(out: &mut O, table: bool) -> Result<(), PutErr>
 
 /// A line of a word and a count.
 fn put_count<O: Sink>(out: &mut O, word: &str, count: u16) -> Result<(), PutErr>
-    ensures { Puts (O.seen out.old) (fields_line (word.now ∷ decimal count ∷ [])) (O.seen out.new) result }
+    ensures { Puts (O.seen out.old) (fields_line (word.now ∷ decimal count ∷ []))
+        (O.seen out.new) result }
 {
     put_fields(out, &[Word(word), Number(count as i128)])
 }
 
 /// The line of the score.
 fn put_score<O: Sink>(out: &mut O, plan: &Plan) -> Result<(), PutErr>
-    ensures { Puts (O.seen out.old) (fields_line (codes "score" ∷ signed_decimal plan.now.score ∷ []))
-        (O.seen out.new) result }
+    ensures { Puts (O.seen out.old)
+        (fields_line (codes "score" ∷ signed_decimal plan.now.score ∷ [])) (O.seen out.new) result }
 {
     put_fields(out, &[Word("score"), Number(plan.score)])
 }
@@ -137,7 +142,8 @@ fn put_numbers_of_label<O: Sink>(out: &mut O, label: Label) -> Result<(), PutErr
 
 /// The line of a label.
 fn put_label<O: Sink>(out: &mut O, label: Label, names: &[u32]) -> Result<(), PutErr>
-    ensures { Puts (O.seen out.old) (fields_line (label_fields label names.now)) (O.seen out.new) result }
+    ensures { Puts (O.seen out.old) (fields_line (label_fields label names.now))
+        (O.seen out.new) result }
 {
     put_numbers_of_label(out, label)?;
     put_numbers(out, names)
@@ -188,8 +194,8 @@ fn put_chain<O: Sink>(
     chain: &Chain,
 ) -> Result<(), PutErr>
     requires { length chain.now.names.items ≡ length chain.now.labels.items * per }
-    ensures { Puts (O.seen out.old) (lines_text (chain_lines per segment rung (chain_parts chain.now)))
-        (O.seen out.new) result }
+    ensures { Puts (O.seen out.old)
+        (lines_text (chain_lines per segment rung (chain_parts chain.now))) (O.seen out.new) result }
 {
     let labels = chain.labels.as_slice();
     put_layer(out, segment, rung, labels.len())?;
@@ -207,7 +213,8 @@ fn put_chains<O: Sink>(
     requires segments { segments ≤ 2000 }
     requires count { length chains.now ≡ segments * rungs }
     requires chains { AreChains segments rungs 0 (map chain_parts chains.now) }
-    ensures { Puts (O.seen out.old) (lines_text (chains_lines segments rungs 0 (map chain_parts chains.now)))
+    ensures { Puts (O.seen out.old)
+        (lines_text (chains_lines segments rungs 0 (map chain_parts chains.now)))
         (O.seen out.new) result }
 {
     for (number, chain) in chains.iter().enumerate() {
