@@ -168,5 +168,7 @@ fn start(text: &str, count: usize) -> &str {
     text.get(..count).unwrap_or(text)
 }
 
+mod compare;
+mod demo;
 mod rules;
 mod simulate;
