@@ -25,7 +25,7 @@ use Rattle.abrlab_top.specs.Stages.{WritesRows}
 use Rattle.abrlab_top.proofs.RowByRow.{rows_as, rows_failed, rows_more, rows_put}
 
 -- what holds of each image holds of each element by its image
-all_mapped : {A B : Type 0} (P : B → Type 0) (f : A → B) (xs : List A) → All P (map f xs) → All (λ x. P (f x)) xs
+pub all_mapped : {A B : Type 0} (P : B → Type 0) (f : A → B) (xs : List A) → All P (map f xs) → All (λ x. P (f x)) xs
 all_mapped P f xs h = λ k d lt. let count = length-map xs f in subst P (get_or-map f xs k d (f d) lt) (h k (f d) (omega (arith, count)))
 
 -- the numbers of each rule are within their limits

@@ -4,9 +4,16 @@ use Rattle.std.specs.List.{flat_map}
 use Rattle.std.specs.Fmt.{decimal, signed_decimal}
 use Rattle.lab_io.specs.Piece.{fields_line}
 use Rattle.lab_io.specs.Sink.{Text}
+use Rattle.lab_model.specs.declared.trace.Period.{Period}
 use Rattle.lab_model.specs.Rules.{RuleKind, bola, fixed, mpc, throughput}
 use Rattle.lab_words.specs.Command.{CommandWords}
+use Rattle.player_core.specs.Available.{all_ahead}
+use Rattle.frontier_planner.specs.Frontier.{frontier}
+use Rattle.frontier_planner.specs.Labels.{Task, task_of}
+use Rattle.frontier_planner.specs.Read.{SpentAt}
+use Rattle.demo_case.specs.declared.case.DemoCase.{DemoCase}
 use Rattle.demo_case.specs.Case.{demo_film, demo_periods, demo_setup, demo_task}
+use Rattle.demo_case.specs.Laws.{demo_budget}
 use Rattle.abrlab_top.specs.Answer.{Answer, printed}
 use Rattle.abrlab_top.specs.Plan.{certificate_on, labels_on}
 use Rattle.abrlab_top.specs.Rows.{BenchValue, row_of}
@@ -29,13 +36,28 @@ abbrev pub demo_plan : ℤ → ℕ → Text
 demo_plan score labels =
     fields_line (codes "plan" ∷ codes "score" ∷ signed_decimal score ∷ codes "labels" ∷ decimal labels ∷ [])
 
+-- the line of a number
+abbrev pub demo_line : ℕ → Text
+demo_line n = fields_line (codes "demo" ∷ decimal n ∷ [])
+
+-- the two lines of a task: its plan, and that the plan's certificate is valid
+abbrev pub plan_report : Task → Text
+plan_report g = demo_plan (certificate_on g).score (labels_on g) ++ fields_line (codes "check" ∷ codes "yes" ∷ [])
+
 -- the text of the demo of a number
 unfoldable pub demo_text : ℕ → Text
-demo_text n =
-    fields_line (codes "demo" ∷ decimal n ∷ [])
-    ++ (flat_map (row_of (demo_bench n)) demo_rules
-    ++ (demo_plan (certificate_on (demo_task n)).score (labels_on (demo_task n)) ++ fields_line (codes "check" ∷ codes "yes" ∷ [])))
+demo_text n = demo_line n ++ (flat_map (row_of (demo_bench n)) demo_rules ++ plan_report (demo_task n))
 
 -- what `demo` answers, by its words
 abbrev pub demo : CommandWords → Answer
 demo c = printed (demo_text c.number)
+
+-- ---- cases
+
+-- the planner's task of a case on this network
+abbrev pub task_in : DemoCase → List Period → Task
+task_in c periods = task_of c.manifest periods c.setup all_ahead
+
+-- a plan of the task does not spend the budget of the demo
+abbrev pub FitsBudget : Task → Type 0
+FitsBudget g = (segment : ℕ) → SpentAt g (frontier g) demo_budget segment → ⊥

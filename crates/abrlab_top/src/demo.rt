@@ -1,14 +1,22 @@
 //! `demo`: everything on one made case.
 
+<<<<<<< HEAD
 ghost use Rattle.std.specs.Prelude.{◌≡◌, ◌≤◌, ◌∷◌, [], IfOk, codes, map};
 ghost use Rattle.std.specs.Fmt.{decimal, signed_decimal};
 ghost use Rattle.lab_io.specs.Piece.{fields_line};
+=======
+ghost use Rattle.std.specs.Prelude.{◌≡◌, ◌≤◌, IfOk, map};
+>>>>>>> b5af66e85fa6b416cd598a20d700c351d964f1b2
 ghost use Rattle.lab_io.specs.Shelf.{Shelved};
 ghost use Rattle.lab_io.specs.Sink.{Puts};
 ghost use Rattle.lab_words.specs.declared.Verb.TheVariants.{Demo};
 ghost use Rattle.lab_words.specs.Command.{named, view};
 ghost use Rattle.lab_words.specs.Limits.{IsWithinLimits};
-ghost use Rattle.abrlab_top.specs.Demo.{demo_plan, demo_rules, demo_text};
+ghost use Rattle.lab_words.specs.Rules.{spoken};
+ghost use Rattle.frontier_planner.specs.Labels.{IsTask};
+ghost use Rattle.frontier_planner.specs.Parts.{plan_parts};
+ghost use Rattle.certificate_text.specs.Form.{certificate_parts};
+ghost use Rattle.abrlab_top.specs.Demo.{FitsBudget, demo_line, demo_plan, demo_rules, demo_text, plan_report, task_in};
 ghost use Rattle.abrlab_top.specs.Stages.{Ends, WritesRows};
 
 use crate::ending::ending_of;
@@ -20,6 +28,7 @@ use frontier_planner::{Plan, PlanErr, plan};
 use lab_inputs::Ending;
 use lab_io::Piece::{Number, Word};
 use lab_io::{PutErr, Sink, put_fields};
+use lab_model::Manifest;
 use lab_words::{Command, NamedRule, RuleWords};
 use network_clock::Clock;
 use std::alloc::{AllocError, Global};
@@ -28,7 +37,9 @@ use std::alloc::{AllocError, Global};
 const BUDGET: u32 = 200_000;
 
 /// A rule and its name.
-fn named_rule(alloc: Global, name: &str, rule: RuleWords) -> Result<NamedRule, AllocError> {
+fn named_rule(alloc: Global, name: &str, rule: RuleWords) -> Result<NamedRule, AllocError>
+    ensures { IfOk result (λ r. named r ≡ (name.now, spoken rule)) }
+{
     Ok(NamedRule {
         name: String::from_str(alloc, name)?,
         rule,
@@ -50,12 +61,14 @@ fn demo_rules(alloc: Global) -> Result<Vec<NamedRule>, AllocError>
     Ok(rules)
 }
 
-/// The certificate of a plan for the made case.
-fn certificate_of(case: &DemoCase, plan: Plan) -> Certificate {
+/// The certificate of a plan for a film.
+fn certificate_of(m: &Manifest, plan: Plan) -> Certificate
+    ensures { certificate_parts result ≡ plan_parts m.now plan }
+{
     Certificate {
         table: plan.table,
-        segments: case.manifest.segments(),
-        rungs: case.manifest.rungs(),
+        segments: m.segments(),
+        rungs: m.rungs(),
         score: plan.score,
         plan: plan.rungs,
         starts: plan.starts,
@@ -81,18 +94,21 @@ fn put_plan<O: Sink>(out: &mut O, score: i128, labels: u32) -> Result<(), PutErr
 
 /// Writes the line of the number.
 fn put_demo<O: Sink>(out: &mut O, number: u32) -> Result<(), PutErr>
-    ensures { Puts (O.seen out.old) (fields_line (codes "demo" ∷ decimal number ∷ [])) (O.seen out.new) result }
+    ensures { Puts (O.seen out.old) (demo_line number) (O.seen out.new) result }
 {
     put_fields(out, &[Word("demo"), Number(number as i128)])
 }
 
-/// Plans the made case, checks the plan's certificate and writes the two lines of both.
+/// Plans a case, checks the plan's certificate and writes the two lines of both.
 fn write_plan<O: Sink>(
     alloc: Global,
     case: &DemoCase,
     clock: &Clock,
     out: &mut O,
 ) -> Result<(), PutErr>
+    requires task { IsTask (task_in case.now clock.now) }
+    requires budget { FitsBudget (task_in case.now clock.now) }
+    ensures { WritesRows (O.seen out.old) (plan_report (task_in case.now clock.now)) result (O.seen out.new) }
 {
     let plan = match plan(alloc, &case.manifest, clock, &case.setup, BUDGET) {
         Ok(plan) => plan,
@@ -100,7 +116,7 @@ fn write_plan<O: Sink>(
         Err(PlanErr::BudgetSpent { .. }) => unreachable!(),
     };
     put_plan(out, plan.score, plan.labels)?;
-    let certificate = certificate_of(case, plan);
+    let certificate = certificate_of(&case.manifest, plan);
     match check(&case.manifest, clock, &case.setup, &certificate) {
         Verdict::Yes => put_fields(out, &[Word("check"), Word("yes")]),
         Verdict::No { .. } => unreachable!(),

@@ -224,5 +224,7 @@ fn waves(alloc: Global) -> Result<String, AllocError> {
 mod check;
 mod memory;
 mod plan;
+mod compare;
+mod demo;
 mod rules;
 mod simulate;
