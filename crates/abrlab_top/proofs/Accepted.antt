@@ -42,7 +42,7 @@ use Rattle.certificate_text.specs.Reading as text
 use Rattle.certificate_text.specs.Spelling.{spelling}
 use Rattle.certificate_text.specs.declared.certificate.Verdict.TheVariants.{Yes}
 use Rattle.certificate_text.proofs.HeadLaws.{certificate_again}
-use Rattle.abrlab_top.proofs.Stub.{spelling_fits}
+use Rattle.certificate_text.proofs.Length.{spelling_fits}
 use Rattle.certificate_text.proofs.PlanText.{read_has_text}
 use Rattle.certificate_check.specs.Verdict.{verdict_of}
 use Rattle.certificate_check.proofs.Verdicts.{valid_yes}
