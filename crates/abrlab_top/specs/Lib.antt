@@ -9,4 +9,5 @@ pub mod Demo
 pub mod Outcome
 pub mod Causes
 pub mod Headline
+pub mod Accepts
 pub mod Stages

@@ -6,3 +6,4 @@ pub mod CertificateLaws
 pub mod HeadLaws
 pub mod WalkLaws
 pub mod PlanText
+pub mod Length
