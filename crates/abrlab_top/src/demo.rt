@@ -1,12 +1,6 @@
 //! `demo`: everything on one made case.
 
-<<<<<<< HEAD
-ghost use Rattle.std.specs.Prelude.{◌≡◌, ◌≤◌, ◌∷◌, [], IfOk, codes, map};
-ghost use Rattle.std.specs.Fmt.{decimal, signed_decimal};
-ghost use Rattle.lab_io.specs.Piece.{fields_line};
-=======
 ghost use Rattle.std.specs.Prelude.{◌≡◌, ◌≤◌, IfOk, map};
->>>>>>> b5af66e85fa6b416cd598a20d700c351d964f1b2
 ghost use Rattle.lab_io.specs.Shelf.{Shelved};
 ghost use Rattle.lab_io.specs.Sink.{Puts};
 ghost use Rattle.lab_words.specs.declared.Verb.TheVariants.{Demo};

@@ -222,9 +222,9 @@ fn waves(alloc: Global) -> Result<String, AllocError> {
 }
 
 mod check;
-mod memory;
-mod plan;
 mod compare;
 mod demo;
+mod memory;
+mod plan;
 mod rules;
 mod simulate;
