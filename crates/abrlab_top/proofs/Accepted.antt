@@ -51,7 +51,7 @@ use Rattle.abrlab_top.specs.Accepts.{ChecksFor, PlansAreAccepted, PlansCertifica
 use Rattle.abrlab_top.specs.Check.{check, check_inputs, told_verdict, verdict_text}
 use Rattle.abrlab_top.specs.Outcome.{answer_by, answer_of}
 use Rattle.abrlab_top.specs.Plan.{certificate_on, labels_on, plan, plan_text, spent_on, task_on, unless_spent}
-use Rattle.abrlab_top.proofs.InLimits.{InLimits, in_limits}
+use Rattle.abrlab_top.proofs.Headlines.{is_task, one_of}
 use Rattle.abrlab_top.proofs.Judged.{judged_answer}
 
 -- ---- what `plan` answered
@@ -107,12 +107,6 @@ ready_parts p files i h =
     fitting j None h = (ok_same (Ok j) j i refl h, refl)
     fitting j (Some setting) h = cc
 
--- a list of one
-one_of : {A : Type 0} (xs : List A) → length xs ≡ 1 → (x : A) × (xs ≡ x ∷ [])
-one_of [] h = absurd (omega (arith, h))
-one_of (x ∷ []) h = (x, refl)
-one_of (x ∷ y ∷ xs) h = absurd (omega (arith, h))
-
 -- all that `plan` went through to its answer
 record Planned (p : CommandWords) (files : Files) (a : Answer) : Type 0 where
   i : InputValues
@@ -131,19 +125,10 @@ was_planned p files a asked h =
     let r = ready_parts p files x.0 x.1 in
     let counts = subst (λ v. AreCounted v (length p.traces) (length p.rules)) asked.verb asked.limits.counts in
     let own = one_of x.0.traces (ready_traces p files x.0 x.1 ∙ counts.0) in
-    let within = in_limits p.manifest (later_files p) x.0 files r.0 in
-    let fits = all_fits (setup_of p) (kinds_of p) x.0.film r.1 in
     let budget = (subst (λ v. HasItsOwn v p) asked.verb asked.limits.own).1 in
-    let traces : All IsTrace (own.0 ∷ []) = subst (All IsTrace) own.1 within.traces in
-    let task : IsTask (task_on p x.0 own.0) = record {
-      film = within.film;
-      trace = traces 0 own.0 (omega arith);
-      setup = fits.0;
-      weights = asked.limits.weights (subst HasFilm (sym asked.verb) tt);
-      ahead = omega arith;
-    } in
+    let task = is_task p files x.0 own.0 asked.limits (subst HasFilm (sym asked.verb) tt) x.1 own.1 in
     let said = planned p x.0 own.0 a asked.as_certificate own.1 x.2 in
-    let few = within_budget (task_on p x.0 own.0) p.budget within.film.segments.0 said.0 in
+    let few = within_budget (task_on p x.0 own.0) p.budget task.film.segments.0 said.0 in
     record { i = x.0; periods = own.0; inputs = r.0; fits = r.1; one = own.1; task = task; few = omega (arith, few, budget); text = said.1 }
 
 -- ---- its certificate

@@ -71,7 +71,8 @@ done_by words old new ending.NoMemory r h s c files asked t = let k = h.status i
 by_verb : (v : Verb) (c : CommandWords) (files : Files) (a : Answer) → c.verb ≡ v → answer_of c files ≡ Ok a → answer_by v c files ≡ Ok a
 by_verb v c files a e h = subst (λ w. answer_by w c files ≡ Ok a) e h
 
-one_of : {A : Type 0} (xs : List A) → length xs ≡ 1 → (x : A) × (xs ≡ x ∷ [])
+-- a list of one has one
+pub one_of : {A : Type 0} (xs : List A) → length xs ≡ 1 → (x : A) × (xs ≡ x ∷ [])
 one_of [] e = absurd (omega arith)
 one_of (x ∷ []) e = (x, refl)
 one_of (x ∷ y ∷ xs) e = absurd (omega arith)
