@@ -1,5 +1,5 @@
 -- What the files of a command hold is within the limits of films and networks.
-use Rattle.std.proofs.Common.{Bool, true, false, ◌≡◌, ◌∙◌, ◌*◌, ◌≤◌, ℕ, List, [], ◌∷◌, ◌++◌, Result, Ok, Err, refl, sym, ap, subst, arith, cond, length, ◌==◌}
+use Rattle.std.proofs.Common.{Bool, true, false, ◌≡◌, ◌*◌, ◌≤◌, ℕ, List, [], ◌∷◌, Result, Ok, Err, refl, ap, subst, arith, length}
 use Rattle.std.specs.Prelude.{if◌then◌else◌, nat_lt}
 use Rattle.std.specs.List.{All}
 use Rattle.std.proofs.lemmas.Bool.Decides.{nat_tests}
@@ -8,10 +8,8 @@ use Rattle.json_fields.specs.Fields.{◌>>=◌, value_of}
 use Rattle.csv_records.specs.Table.{table_of}
 use Rattle.csv_records.proofs.Each as csv
 use Rattle.json_fields.proofs.Answers as json
-use Rattle.serde_json.specs.Data.{Data}
 use Rattle.lab_io.specs.Sink.{Text}
 use Rattle.lab_model.specs.declared.fault.Refusal.{Refusal}
-use Rattle.lab_model.specs.declared.fault.Kind.TheVariants as kind
 use Rattle.lab_model.specs.declared.fault.Key.TheVariants as key
 use Rattle.lab_model.specs.declared.trace.Period.{Period}
 use Rattle.lab_model.specs.Cycle.{IsPeriod, IsTrace, cycle_bits, cycle_ms}
@@ -28,7 +26,6 @@ use Rattle.seek_script.specs.Script.{seeks_of}
 use Rattle.lab_inputs.specs.declared.stop.Role.{Role}
 use Rattle.lab_inputs.specs.declared.stop.Role.TheVariants as role
 use Rattle.lab_inputs.specs.declared.stop.FileFault.{FileFault}
-use Rattle.lab_inputs.specs.declared.stop.Stop.{Stop}
 use Rattle.lab_inputs.specs.Files.{Files, NamedFile, bytes_of, is_csv}
 use Rattle.lab_inputs.specs.Inputs.{InputValues, at_role, film_alone, film_in, inputs_from, read_as, result_map, trace_of, with_bytes, with_certificate, with_file, with_files, with_film, with_seeks, with_trace}
 use Rattle.lab_inputs.proofs.Steps.{bind_ok, ok_same}
