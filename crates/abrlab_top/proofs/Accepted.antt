@@ -1,5 +1,5 @@
 -- `check` says yes to the certificate that `plan` answers.
-use Rattle.std.proofs.Common.{◌≡◌, ◌∙◌, ℕ, zero, suc, ◌+◌, ◌-◌, ◌<◌, ◌≤◌, ⊎_elim, Bool, true, false, List, [], ◌∷◌, ◌++◌, length, Option, Some, None, Result, Ok, Err, refl, sym, ap, ap₂, subst, arith, append_assoc, append-nil}
+use Rattle.std.proofs.Common.{◌≡◌, ◌∙◌, ℕ, zero, suc, ◌+◌, ◌-◌, ◌<◌, ◌≤◌, ⊎_elim, Bool, true, false, List, [], ◌∷◌, ◌++◌, length, Option, Some, None, Result, Ok, refl, sym, ap, ap₂, subst, arith, append_assoc, append-nil}
 use Rattle.std.specs.Prelude.{nat_lt, if◌then◌else◌}
 use Rattle.std.specs.List.{All, find, range_with_len}
 use Rattle.std.proofs.lemmas.Bool.{cases_lt}
@@ -9,17 +9,13 @@ use Rattle.lab_model.specs.declared.trace.Period.{Period}
 use Rattle.lab_model.specs.declared.setup.Setup.{Setup}
 use Rattle.lab_model.specs.Cycle.{IsTrace}
 use Rattle.lab_model.specs.Film.{segments_of}
-use Rattle.lab_model.specs.Fit.{SetupFits}
-use Rattle.lab_model.specs.Weighing.{IsWeighing}
-use Rattle.lab_words.specs.declared.Verb.{Verb}
 use Rattle.lab_words.specs.declared.Verb.TheVariants.{Plan, Check}
 use Rattle.lab_words.specs.Command.{CommandWords}
-use Rattle.lab_words.specs.Limits.{AreCounted, HasFilm, HasItsOwn, IsWithinLimits}
-use Rattle.lab_inputs.specs.declared.stop.FileFault.{FileFault}
+use Rattle.lab_words.specs.Limits.{AreCounted, HasFilm, HasItsOwn}
 use Rattle.lab_inputs.specs.declared.stop.Role.TheVariants as role
 use Rattle.lab_inputs.specs.declared.stop.Setting.{Setting}
 use Rattle.lab_inputs.specs.declared.stop.Stop.{Stop}
-use Rattle.lab_inputs.specs.Files.{Files, NamedFile, later_files, optional_file, trace_files, traces_from}
+use Rattle.lab_inputs.specs.Files.{Files, later_files, optional_file, trace_files, traces_from}
 use Rattle.lab_inputs.specs.Inputs.{◌>>=◌, InputValues, inputs_from, inputs_of, with_certificate, with_file}
 use Rattle.lab_inputs.specs.Settings.{kinds_of, misfit_of, ready_of, settled, setup_of, unless_misfit}
 use Rattle.lab_inputs.proofs.Fits.{all_fits}
@@ -30,7 +26,6 @@ use Rattle.frontier_planner.specs.Grid.{exact}
 use Rattle.frontier_planner.specs.Grown.{grown}
 use Rattle.frontier_planner.specs.Labels.{IsTask, Task, task_of}
 use Rattle.frontier_planner.specs.Parts.{CertificateParts}
-use Rattle.frontier_planner.specs.Planned.{IsShortCertificate}
 use Rattle.frontier_planner.specs.Read.{labels_before, labels_in}
 use Rattle.frontier_planner.proofs.Rounds.{exact_fits}
 use Rattle.frontier_planner.proofs.Same.{before_same, certificate_same}
@@ -48,10 +43,15 @@ use Rattle.certificate_check.specs.Verdict.{verdict_of}
 use Rattle.certificate_check.proofs.Verdicts.{valid_yes}
 use Rattle.abrlab_top.specs.Answer.{Answer, printed}
 use Rattle.abrlab_top.specs.Accepts.{ChecksFor, PlansAreAccepted, PlansCertificate}
-use Rattle.abrlab_top.specs.Check.{check, check_inputs, told_verdict, verdict_text}
+use Rattle.abrlab_top.specs.Check.{check, check_inputs, told_verdict}
 use Rattle.abrlab_top.specs.Outcome.{answer_by, answer_of}
+<<<<<<< HEAD
 use Rattle.abrlab_top.specs.Plan.{certificate_on, labels_on, plan, plan_text, spent_on, task_on, unless_spent}
 use Rattle.abrlab_top.proofs.Headlines.{is_task, one_of}
+=======
+use Rattle.abrlab_top.specs.Plan.{certificate_on, plan, plan_text, spent_on, task_on, unless_spent}
+use Rattle.abrlab_top.proofs.InLimits.{in_limits}
+>>>>>>> e1325dd94290fc02f5e583a3ba2dd63d31e912ea
 use Rattle.abrlab_top.proofs.Judged.{judged_answer}
 
 -- ---- what `plan` answered
@@ -199,6 +199,10 @@ plans_accepted p c name files a plans checks answered there =
     let fits : misfit_of c done.i.film ≡ None = rw (checks.rules, setup) done.fits in
     let short : length a.text ≤ 536870912 = subst (λ t. length t ≤ 536870912) (sym done.text) (spelling_fits cert form) in
     let read : inputs_of c files ≡ Ok all =
-    ap₂ (λ m l. inputs_from m l files) checks.manifest (one_more p c name plans checks) ∙ inputs_one_more p.manifest done.i all (later_files p) (role.Certificate, name) files done.inputs (certificate_read done.i name a.text files there short) in
-    (cert, form, done.text, judged_answer c files checks.verb ∙ check_answers c files all _ read (checked c all done.periods cert (ap text.certificate_of done.text ∙ certificate_again cert form) fits done.one
-    (ap (λ t. verdict_of t cert cert.score) task ∙ says_yes g done.task)))
+    ap₂ (λ m l. inputs_from m l files) checks.manifest (one_more p c name plans checks) ∙ inputs_one_more p.manifest done.i all (later_files p) (role.Certificate, name) files done.inputs (certificate_read done.i name a.text files there short) in (
+      cert,
+      form,
+      done.text,
+      judged_answer c files checks.verb ∙ check_answers c files all _ read (checked c all done.periods cert (ap text.certificate_of done.text ∙ certificate_again cert form) fits done.one
+          (ap (λ t. verdict_of t cert cert.score) task ∙ says_yes g done.task)),
+    )

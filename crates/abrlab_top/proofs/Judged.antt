@@ -9,7 +9,7 @@ use Rattle.lab_model.specs.declared.trace.Period.{Period}
 use Rattle.lab_model.specs.Reading.{Fails}
 use Rattle.lab_words.specs.declared.Verb.TheVariants.{Check}
 use Rattle.lab_words.specs.Command.{CommandWords}
-use Rattle.lab_words.specs.Limits.{HasFilm, HasItsOwn, IsWithinLimits}
+use Rattle.lab_words.specs.Limits.{HasFilm}
 use Rattle.lab_inputs.specs.declared.stop.Halt.TheVariants as halt
 use Rattle.lab_inputs.specs.declared.stop.FileFault.TheVariants as fault
 use Rattle.lab_inputs.specs.declared.stop.Role.TheVariants as role

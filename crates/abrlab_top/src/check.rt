@@ -106,11 +106,7 @@ fn judge_inputs(alloc: Global, command: &Command, inputs: &Inputs) -> Result<Jud
 }
 
 /// The verdict on the certificate that the files of a command hold.
-fn judge_files<F: Shelf>(
-    alloc: Global,
-    command: &Command,
-    shelf: &mut F,
-) -> Result<Judgement, Halt>
+fn judge_files<F: Shelf>(alloc: Global, command: &Command, shelf: &mut F) -> Result<Judgement, Halt>
     requires limits { IsWithinLimits (view command.now) }
     requires verb { (view command.now).verb ≡ Check }
     ensures { Comes (files_of (view command.now)) judged (check (view command.now))

@@ -6,8 +6,7 @@ use std::alloc::{AllocError, Global};
 use std::process::Abort;
 use std::test::Fail;
 
-const CHECK: &str =
-    "check --manifest m --trace t --utilities 0,10 --buffer 10000 --certificate c";
+const CHECK: &str = "check --manifest m --trace t --utilities 0,10 --buffer 10000 --certificate c";
 
 const CERTIFICATE: [&str; 27] = [
     "abrlab certificate 1",
@@ -75,9 +74,21 @@ fn bad_line(alloc: Global, row: usize) -> Result<String, AllocError> {
 fn steady_plan(rt: HostRuntime) -> Result<(), Fail> {
     let alloc = rt.alloc();
     let text = with_lines(alloc, &[])?;
-    answers(&rt, alloc, CHECK, ("c", &text), (0, "yes score 29000\n", ""))?;
+    answers(
+        &rt,
+        alloc,
+        CHECK,
+        ("c", &text),
+        (0, "yes score 29000\n", ""),
+    )?;
     let small = "check --manifest=m --trace=t --utilities=0,10 --buffer=2000 --certificate=c";
-    answers(&rt, alloc, small, ("c", &text), (0, "yes score 29000\n", ""))
+    answers(
+        &rt,
+        alloc,
+        small,
+        ("c", &text),
+        (0, "yes score 29000\n", ""),
+    )
 }
 
 #[test]
@@ -90,7 +101,13 @@ fn other_order(rt: HostRuntime) -> Result<(), Fail> {
         (19, "1500 500 49500"),
     ];
     let text = with_lines(alloc, &order)?;
-    answers(&rt, alloc, CHECK, ("c", &text), (0, "yes score 29000\n", ""))
+    answers(
+        &rt,
+        alloc,
+        CHECK,
+        ("c", &text),
+        (0, "yes score 29000\n", ""),
+    )
 }
 
 #[test]
@@ -98,10 +115,22 @@ fn tampered_certificates(rt: HostRuntime) -> Result<(), Fail> {
     let alloc = rt.alloc();
     let table = [
         (6, "start 0 1", "no V2 segment 0 rung 1 label 0\n"),
-        (13, "1500 1000 109000 2 4", "no V2 segment 1 rung 0 label 1\n"),
-        (10, "1001 1000 109000 1 1", "no V3 segment 0 rung 1 label 0\n"),
+        (
+            13,
+            "1500 1000 109000 2 4",
+            "no V2 segment 1 rung 0 label 1\n",
+        ),
+        (
+            10,
+            "1001 1000 109000 1 1",
+            "no V3 segment 0 rung 1 label 0\n",
+        ),
         (8, "500 500 49501 0 0", "no V4 segment 0 rung 0 label 0\n"),
-        (16, "2000 1000 119001 3 3", "no V4 segment 1 rung 1 label 1\n"),
+        (
+            16,
+            "2000 1000 119001 3 3",
+            "no V4 segment 1 rung 1 label 1\n",
+        ),
         (4, "score 28999", "no V5 segment 2 rung 1 label 3\n"),
         (4, "score 29001", "no V6 segment 0 rung 0 label 0\n"),
     ];
@@ -159,7 +188,13 @@ fn truncated_certificate(rt: HostRuntime) -> Result<(), Fail> {
     let mut row = 1;
     for (count, byte) in text.bytes().enumerate() {
         let note = bad_line(alloc, row)?;
-        answers(&rt, alloc, CHECK, ("c", start(&text, count)), (3, "", &note))?;
+        answers(
+            &rt,
+            alloc,
+            CHECK,
+            ("c", start(&text, count)),
+            (3, "", &note),
+        )?;
         if byte == b'\n' {
             row += 1;
         }
@@ -283,10 +318,16 @@ fn long_certificate(rt: HostRuntime) -> Result<(), Fail> {
     let files = vec![in alloc;
         file(alloc, "m", FILM.as_bytes())?,
         file(alloc, "t", C2000.as_bytes())?,
-        (String::from_str(alloc, "c")?, vec![in alloc; b'a'; 536_870_913]?),
+        (
+            String::from_str(alloc, "c")?,
+            vec![in alloc; b'a'; 536_870_913]?
+        ),
     ]?;
     let ran = ran_over(alloc, CHECK, files, NONE)?;
-    assert_eq!(rt; ran.err.written(), b"abrlab: certificate file: too long\n".as_slice());
+    assert_eq!(rt;
+        ran.err.written(),
+        b"abrlab: certificate file: too long\n".as_slice()
+    );
     assert_eq!(rt; ran.status, 3);
     Ok(())
 }

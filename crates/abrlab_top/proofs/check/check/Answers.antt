@@ -1,7 +1,5 @@
-use Rattle.std.proofs.Common.{ap, subst, sym}
 use Rattle.lab_words.specs.Command.{view}
-use Rattle.abrlab_top.specs.Stages.{Ends, ending_of}
-use Rattle.abrlab_top.proofs.Judged.{judged_ends, stopped_ends}
+use Rattle.abrlab_top.proofs.Judged.{judged_ends}
 use Rattle.abrlab_top.proofs.check.check.Goals as goal
 
 pub returns-in-Ok : goal.returns-in-Ok

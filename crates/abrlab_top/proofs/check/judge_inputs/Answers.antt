@@ -1,4 +1,4 @@
-use Rattle.std.proofs.Common.{◌∙◌, Err, ap, subst, sym}
+use Rattle.std.proofs.Common.{◌∙◌, Err, subst, sym}
 use Rattle.lab_model.specs.Fit.{SetupFits}
 use Rattle.lab_words.specs.Command.{view}
 use Rattle.lab_inputs.specs.Settings.{kinds_of, setup_of}

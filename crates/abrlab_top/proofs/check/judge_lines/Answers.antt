@@ -1,4 +1,4 @@
-use Rattle.std.proofs.Common.{◌≡◌, ◌∙◌, Err, ap, ap₂, rules, subst, sym}
+use Rattle.std.proofs.Common.{◌∙◌, Err, ap₂, rules, subst, sym}
 use mir.Val.{SFits}
 use Rattle.std.specs.Int.{w128}
 use Rattle.std.proofs.lemmas.Int.{to_z-of_z}

@@ -1,4 +1,4 @@
-use Rattle.std.proofs.Common.{ap, codes, subst, sym}
+use Rattle.std.proofs.Common.{codes, subst, sym}
 use Rattle.lab_io.specs.Piece.{fields_line}
 use Rattle.lab_io.specs.Sink.{Puts}
 use Rattle.lab_io.proofs.Puts.{puts_failed, puts_more}
