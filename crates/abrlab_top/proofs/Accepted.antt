@@ -45,13 +45,8 @@ use Rattle.abrlab_top.specs.Answer.{Answer, printed}
 use Rattle.abrlab_top.specs.Accepts.{ChecksFor, PlansAreAccepted, PlansCertificate}
 use Rattle.abrlab_top.specs.Check.{check, check_inputs, told_verdict}
 use Rattle.abrlab_top.specs.Outcome.{answer_by, answer_of}
-<<<<<<< HEAD
-use Rattle.abrlab_top.specs.Plan.{certificate_on, labels_on, plan, plan_text, spent_on, task_on, unless_spent}
-use Rattle.abrlab_top.proofs.Headlines.{is_task, one_of}
-=======
 use Rattle.abrlab_top.specs.Plan.{certificate_on, plan, plan_text, spent_on, task_on, unless_spent}
-use Rattle.abrlab_top.proofs.InLimits.{in_limits}
->>>>>>> e1325dd94290fc02f5e583a3ba2dd63d31e912ea
+use Rattle.abrlab_top.proofs.Headlines.{is_task, one_of}
 use Rattle.abrlab_top.proofs.Judged.{judged_answer}
 
 -- ---- what `plan` answered
