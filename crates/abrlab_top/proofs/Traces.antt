@@ -1,5 +1,5 @@
 -- The traces of `compare`, each with its line and its rows.
-use Rattle.std.proofs.Common.{◌≡◌, ℕ, ◌+◌, ◌<◌, ◌≤◌, ◌++◌, List, [], ◌∷◌, length, get_or, map, take, drop, String, string_bytes, Result, Ok, Err, ap, sym, ◌∙◌, refl, arith, subst, add-one, drop-cons}
+use Rattle.std.proofs.Common.{◌≡◌, ℕ, ◌+◌, ◌<◌, ◌≤◌, ◌++◌, List, [], ◌∷◌, length, get_or, map, drop, String, string_bytes, Result, Ok, Err, ap, ◌∙◌, refl, arith, subst, add-one, drop-cons}
 use Rattle.std.specs.Prelude.{codes}
 use Rattle.std.specs.List.{All, flat_map}
 use Rattle.std.specs.Result.{IsErrAnd}
