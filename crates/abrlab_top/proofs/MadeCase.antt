@@ -1,7 +1,7 @@
 -- What `demo` writes of a made case: its rows, its plan, and the verdict on the plan's certificate.
-use Rattle.std.proofs.Common.{◌≡◌, ◌∙◌, ℕ, ◌+◌, ◌≤◌, ◌++◌, List, [], ◌∷◌, map, Result, Ok, Err, ap, sym, refl, subst, inl, arith}
+use Rattle.std.proofs.Common.{◌≡◌, ◌∙◌, ℕ, ◌≤◌, ◌++◌, List, [], ◌∷◌, map, Result, Ok, Err, ap, sym, refl, subst, inl, arith}
 use Rattle.std.specs.Prelude.{ℤ, codes, pos}
-use Rattle.std.specs.Fmt.{decimal, signed_decimal}
+use Rattle.std.specs.Fmt.{signed_decimal}
 use Rattle.std.specs.List.{All, flat_map}
 use Rattle.std.specs.Result.{IsErrAnd}
 use Rattle.std.proofs.lemmas.List.Elements.{All-cons, All-nil}

@@ -1,5 +1,5 @@
 -- The traces of `compare`, each with its line and its rows.
-use Rattle.std.proofs.Common.{◌≡◌, ℕ, ◌+◌, ◌<◌, ◌≤◌, ◌++◌, List, [], ◌∷◌, length, get_or, map, take, drop, String, string_bytes, Result, Ok, Err, ap, sym, ◌∙◌, refl, arith, subst, add-one, drop-cons}
+use Rattle.std.proofs.Common.{◌≡◌, ℕ, ◌+◌, ◌<◌, ◌≤◌, ◌++◌, List, [], ◌∷◌, length, get_or, map, drop, String, string_bytes, Result, Ok, Err, ap, ◌∙◌, refl, arith, subst, add-one, drop-cons}
 use Rattle.std.specs.Prelude.{codes}
 use Rattle.std.specs.List.{All, flat_map}
 use Rattle.std.specs.Result.{IsErrAnd}
@@ -35,7 +35,6 @@ rules_within rules seen e h = rw e (all_mapped (λ (r : Text × RuleKind). IsRul
 -- each rule can be asked about the film
 pub rules_fit : (rules seen : List NamedRule) (f : Film) (b : BenchValue) → seen ≡ rules → b.film ≡ f → All (λ kind. KindFits kind f) (map (λ (r : Text × RuleKind). r.1) (map named rules)) → All (λ (rule : NamedRule). KindFits (spoken rule.rule) b.film) seen
 rules_fit rules seen f b e p h = rw (e, p) (all_mapped (λ (r : Text × RuleKind). KindFits r.1 f) named rules (all_mapped (λ kind. KindFits kind f) (λ (r : Text × RuleKind). r.1) (map named rules) h))
-
 
 -- the line of a trace did not go out
 pub trace_failed : (c : CommandWords) (i : InputValues) (name : Text) (periods : List Period) (old new : Seen) (r q : Result (Unit {0}) PutErr) (e : PutErr) → r ≡ Err e → IsErrAnd q (λ y. y ≡ e)

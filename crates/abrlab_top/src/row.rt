@@ -44,8 +44,12 @@ impl<'a> Bench<'a> {
     pub fn new(m: &'a Manifest, clock: &'a Clock, set: &'a Setup, seeks: &'a [Seek]) -> Bench<'a>
         requires setup { SetupFits set.now m.now }
         requires seeks { SeeksFit seeks.now (segments_of m.now) }
-        ensures { result ≡ record { film = m.entry.now; periods = clock.entry.now;
-            setup = set.entry.now; seeks = seeks.entry.now } }
+        ensures { result ≡ record {
+          film = m.entry.now;
+          periods = clock.entry.now;
+          setup = set.entry.now;
+          seeks = seeks.entry.now;
+        } }
     {
         Bench {
             m,

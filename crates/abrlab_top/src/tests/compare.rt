@@ -49,19 +49,40 @@ const LADDER: [(&str, [(u32, &str); 5]); 3] = [
     (
         "c2000.json",
         [
-            (9, "startup 1000 stall 0 stalls 0 seeking 0 wasted 0 end 4000 score 29000"),
-            (12, "startup 500 stall 0 stalls 0 seeking 0 wasted 0 end 3500 score 19500"),
-            (13, "startup 500 stall 0 stalls 0 seeking 0 wasted 0 end 3500 score 9500"),
-            (32, "startup 500 stall 0 stalls 0 seeking 0 wasted 0 end 3500 score -500"),
+            (
+                9,
+                "startup 1000 stall 0 stalls 0 seeking 0 wasted 0 end 4000 score 29000",
+            ),
+            (
+                12,
+                "startup 500 stall 0 stalls 0 seeking 0 wasted 0 end 3500 score 19500",
+            ),
+            (
+                13,
+                "startup 500 stall 0 stalls 0 seeking 0 wasted 0 end 3500 score 9500",
+            ),
+            (
+                32,
+                "startup 500 stall 0 stalls 0 seeking 0 wasted 0 end 3500 score -500",
+            ),
             (32, ""),
         ],
     ),
     (
         "c500.json",
         [
-            (9, "startup 4000 stall 6000 stalls 2 seeking 0 wasted 0 end 13000 score -574000"),
-            (12, "startup 2000 stall 6000 stalls 2 seeking 0 wasted 0 end 11000 score -582000"),
-            (32, "startup 2000 stall 2000 stalls 2 seeking 0 wasted 0 end 7000 score -202000"),
+            (
+                9,
+                "startup 4000 stall 6000 stalls 2 seeking 0 wasted 0 end 13000 score -574000",
+            ),
+            (
+                12,
+                "startup 2000 stall 6000 stalls 2 seeking 0 wasted 0 end 11000 score -582000",
+            ),
+            (
+                32,
+                "startup 2000 stall 2000 stalls 2 seeking 0 wasted 0 end 7000 score -202000",
+            ),
             (32, ""),
             (32, ""),
         ],
@@ -69,9 +90,18 @@ const LADDER: [(&str, [(u32, &str); 5]); 3] = [
     (
         "c200.json",
         [
-            (9, "startup 10000 stall 18000 stalls 2 seeking 0 wasted 0 end 31000 score -1780000"),
-            (12, "startup 5000 stall 18000 stalls 2 seeking 0 wasted 0 end 26000 score -1785000"),
-            (32, "startup 5000 stall 8000 stalls 2 seeking 0 wasted 0 end 16000 score -805000"),
+            (
+                9,
+                "startup 10000 stall 18000 stalls 2 seeking 0 wasted 0 end 31000 score -1780000",
+            ),
+            (
+                12,
+                "startup 5000 stall 18000 stalls 2 seeking 0 wasted 0 end 26000 score -1785000",
+            ),
+            (
+                32,
+                "startup 5000 stall 8000 stalls 2 seeking 0 wasted 0 end 16000 score -805000",
+            ),
             (32, ""),
             (32, ""),
         ],
@@ -133,7 +163,9 @@ fn weights(alloc: Global, last: u32) -> Result<String, AllocError> {
 fn rules_32_by_traces_3(rt: HostRuntime) -> Result<(), Fail> {
     let alloc = rt.alloc();
     let rules = weights(alloc, 32)?;
-    let line = format!(in alloc; "compare --manifest m --rules {rules} --utilities 0,10 --buffer 10000 c2000.json c500.json c200.json")?;
+    let line = format!(in alloc;
+        "compare --manifest m --rules {rules} --utilities 0,10 --buffer 10000 c2000.json c500.json c200.json"
+    )?;
     let mut text = String::new(alloc);
     for (trace, steps) in &LADDER {
         text.push_str(&format!(in alloc; "trace {trace}\n")?)?;
@@ -168,7 +200,9 @@ fn refused_words(rt: HostRuntime) -> Result<(), Fail> {
         answers(&rt, alloc, line, (2, "", note))?;
     }
     let rules = weights(alloc, 33)?;
-    let many = format!(in alloc; "compare --manifest m --rules {rules} --utilities 0,10 c2000.json")?;
+    let many = format!(in alloc;
+        "compare --manifest m --rules {rules} --utilities 0,10 c2000.json"
+    )?;
     answers(&rt, alloc, &many, (2, "", note))
 }
 
@@ -178,11 +212,16 @@ fn refused_settings(rt: HostRuntime) -> Result<(), Fail> {
         ("fixed:1/fixed:2 --utilities 0,10 --buffer 1000", "rule 2"),
         ("fixed:1/list:1,1 --utilities 0,10 --buffer 1000", "rule 2"),
         ("fixed:1/fixed:2 --utilities 0,10 --buffer 999", "buffer"),
-        ("fixed:1/fixed:2 --utilities 0,10,20 --buffer 1000", "utilities"),
+        (
+            "fixed:1/fixed:2 --utilities 0,10,20 --buffer 1000",
+            "utilities",
+        ),
     ];
     let alloc = rt.alloc();
     for (options, setting) in table {
-        let line = format!(in alloc; "compare --manifest m --rules {options} c2000.json c500.json")?;
+        let line = format!(in alloc;
+            "compare --manifest m --rules {options} c2000.json c500.json"
+        )?;
         let note = format!(in alloc; "abrlab: settings: {setting}\n")?;
         answers(&rt, alloc, &line, (3, "", &note))?;
     }
@@ -199,7 +238,9 @@ fn missing_second_trace(rt: HostRuntime) -> Result<(), Fail> {
         ("--manifest x c2000.json y", "manifest"),
     ];
     for (words, role) in table {
-        let line = format!(in alloc; "compare --rules fixed:1/fixed:0 --utilities 0,10 --buffer 1000 {words}")?;
+        let line = format!(in alloc;
+            "compare --rules fixed:1/fixed:0 --utilities 0,10 --buffer 1000 {words}"
+        )?;
         let note = format!(in alloc; "abrlab: {role} file: not read\n")?;
         answers(&rt, alloc, &line, (4, "", &note))?;
     }

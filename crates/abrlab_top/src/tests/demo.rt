@@ -87,12 +87,7 @@ fn refused_numbers(rt: HostRuntime) -> Result<(), Fail> {
 fn failing_output(rt: HostRuntime) -> Result<(), Fail> {
     let alloc = rt.alloc();
     for put in [1, 4, 5, 100, 165] {
-        let ran = ran_over(
-            alloc,
-            "demo 1",
-            Vec::new(alloc),
-            failing(&[1], &[put], &[]),
-        )?;
+        let ran = ran_over(alloc, "demo 1", Vec::new(alloc), failing(&[1], &[put], &[]))?;
         assert_eq!(rt; (ran.status, ran.out.faults()), (5, 1));
         assert_eq!(rt; ran.err.written(), b"abrlab: output failed\n".as_slice());
         assert!(rt; ONE_TEXT.as_bytes().starts_with(ran.out.written()));
