@@ -191,7 +191,7 @@ yes_said c files old new v d =
     let traces = one_of k.inputs.traces (ready_traces c files k.inputs k.read ∙ (counts_of c verb.Check d.limits v).0) in
     let g = task_on c k.inputs traces.0 in
     let said : told_verdict k.certificate.score (verdict_of g k.certificate k.certificate.score) ≡ d.answer =
-      ap (check_traces c k.inputs k.certificate) (sym traces.1) ∙ k.answer in
+    ap (check_traces c k.inputs k.certificate) (sym traces.1) ∙ k.answer in
     let yes = is_yes (verdict_of g k.certificate k.certificate.score) (ap (λ (a : Answer). a.status) said ∙ d.status) in
     let is = is_task c files k.inputs traces.0 d.limits (subst HasFilm (sym v) tt) k.read traces.1 in
     let sure = yes_certifies g k.certificate k.certificate.score is (certificate_takes k.inputs.certificate k.certificate k.spelled).0 yes in

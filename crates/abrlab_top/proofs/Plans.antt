@@ -77,8 +77,7 @@ one_planned c i periods e = rw e refl
 planned_whole : (c : CommandWords) (i : InputValues) (periods : List Period) (p : Plan) → i.traces ≡ periods ∷ [] → IsTask (task_on c i periods) → IsPlanOf exact (task_on c i periods) (frontier (task_on c i periods)) c.budget p p.score → Plans c i (Ok p)
 planned_whole c i periods p e is h =
     let few = never_spent (task_on c i periods) c.budget (let most = h.within in let same = h.labels in omega (arith, most, same)) in
-    let text = ap (λ (q : CertificateParts). parts_text c.as_certificate q (labels_on (task_on c i periods))) (sym h.parts) ∙ ap (parts_text c.as_certificate (plan_parts i.film p)) (sym h.labels) in
-    (
+    let text = ap (λ (q : CertificateParts). parts_text c.as_certificate q (labels_on (task_on c i periods))) (sym h.parts) ∙ ap (parts_text c.as_certificate (plan_parts i.film p)) (sym h.labels) in (
       plan_has_text exact (task_on c i periods) (frontier (task_on c i periods)) c.budget p p.score is h,
       one_planned c i periods e ∙ ap (unless_spent c.as_certificate (task_on c i periods)) few ∙ ap (λ said. Ok (printed said)) text,
     )

@@ -73,13 +73,19 @@ fn budget_edge(rt: HostRuntime) -> Result<(), Fail> {
 #[test]
 fn smallest_input(rt: HostRuntime) -> Result<(), Fail> {
     let alloc = rt.alloc();
-    let film =
-        r#"{"segment_duration_ms": 1, "bitrates_kbps": [1], "segment_sizes_bits": [[1]]}"#;
+    let film = r#"{"segment_duration_ms": 1, "bitrates_kbps": [1], "segment_sizes_bits": [[1]]}"#;
     let trace = r#"[{"duration_ms": 1, "bandwidth_kbps": 1, "latency_ms": 0}]"#;
     let line = "plan --manifest m --trace t --utilities 0 --buffer 1";
-    prints(&rt, alloc, line, [film, trace], "score -1\nlabels 1\nplan 0\n")?;
+    prints(
+        &rt,
+        alloc,
+        line,
+        [film, trace],
+        "score -1\nlabels 1\nplan 0\n",
+    )?;
     let line = format!(in alloc; "{line} --as-certificate")?;
-    let text = "abrlab certificate 1\nsegments 1\nrungs 1\nscore -1\nplan 0\nstart 0\nlayer 0 0 1\n1 1 99\nend\n";
+    let text =
+        "abrlab certificate 1\nsegments 1\nrungs 1\nscore -1\nplan 0\nstart 0\nlayer 0 0 1\n1 1 99\nend\n";
     prints(&rt, alloc, &line, [film, trace], text)
 }
 
@@ -109,7 +115,8 @@ fn sixteen_rungs(rt: HostRuntime) -> Result<(), Fail> {
         periods.push((1000 + 900 * (7 * i % 11), 20 + 10 * i))?;
     }
     let trace = trace_of(alloc, 4000, &periods)?;
-    let line = "plan --manifest m --trace t --utilities 0,1,2,3,4,5,6,7,8,9,10,11,12,13,14,15 --stall 4 --switch 200 --buffer 8000";
+    let line =
+        "plan --manifest m --trace t --utilities 0,1,2,3,4,5,6,7,8,9,10,11,12,13,14,15 --stall 4 --switch 200 --buffer 8000";
     let text = "score 73290\nlabels 25758\nplan 15 12 12 13 13 15\n";
     prints(&rt, alloc, line, [&film, &trace], text)
 }
@@ -134,7 +141,14 @@ fn refused_settings(rt: HostRuntime) -> Result<(), Fail> {
 
 // A plan: the segment's ms, the bitrates, hundredths of them by segment, the periods with their ms, kbps and latency, the options,
 // and the text.
-type Row = (u64, &'static [u64], &'static [u64], &'static [(u64, u64, u64)], &'static str, &'static str);
+type Row = (
+    u64,
+    &'static [u64],
+    &'static [u64],
+    &'static [(u64, u64, u64)],
+    &'static str,
+    &'static str,
+);
 
 #[rattlefmt::skip]
 const SMALL: [Row; 30] = [
