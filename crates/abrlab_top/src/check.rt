@@ -59,8 +59,10 @@ fn judge_lines(
     requires setup { SetupFits setup.now inputs.now.manifest }
     requires lines { IsBegun lines }
     // It is what a command with this setup judges whose settings fit.
-    ensures { (c : CommandWords) → setup.now ≡ setup_of c → misfit_of c inputs.now.manifest ≡ None
-        → begun inputs.now.certificate.items ≡ Ok lines.entry → Judges c (values_of inputs.now) result }
+    ensures { (c : CommandWords) → setup.now ≡ setup_of c
+        → misfit_of c inputs.now.manifest ≡ None
+        → begun inputs.now.certificate.items ≡ Ok lines.entry
+        → Judges c (values_of inputs.now) result }
 {
     let [trace] = inputs.traces.as_slice() else {
         unreachable!()

@@ -30,7 +30,8 @@ fn write_trace<O: Sink>(
     requires limits { IsWithinLimits (view command.now) }
     requires ready { IsReady (view command.now) ready.now }
     ensures { WritesRows (O.seen out.old)
-        (trace_rows (view command.now) (values_of ready.now.inputs) name.now trace.now) result (O.seen out.new) }
+        (trace_rows (view command.now) (values_of ready.now.inputs) name.now trace.now)
+        result (O.seen out.new) }
 {
     put_fields(out, &[Word("trace"), Word(name)])?;
     let Ok(clock) = Clock::new(alloc, trace) else {
@@ -50,8 +51,9 @@ fn write_comparison<O: Sink>(
 ) -> Result<(), PutErr>
     requires limits { IsWithinLimits (view command.now) }
     requires ready { IsReady (view command.now) ready.now }
-    ensures { WritesRows (O.seen out.old) (compare (view command.now) (values_of ready.now.inputs)).text result
-        (O.seen out.new) }
+    ensures { WritesRows (O.seen out.old)
+        (compare (view command.now) (values_of ready.now.inputs)).text
+        result (O.seen out.new) }
 {
     for (place, trace) in ready.inputs.traces.iter().enumerate() {
         write_trace(alloc, command, ready, &command.traces[place], trace, out)?;

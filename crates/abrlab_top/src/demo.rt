@@ -102,7 +102,8 @@ fn write_plan<O: Sink>(
 ) -> Result<(), PutErr>
     requires task { IsTask (task_in case.now clock.now) }
     requires budget { FitsBudget (task_in case.now clock.now) }
-    ensures { WritesRows (O.seen out.old) (plan_report (task_in case.now clock.now)) result (O.seen out.new) }
+    ensures { WritesRows (O.seen out.old)
+        (plan_report (task_in case.now clock.now)) result (O.seen out.new) }
 {
     let plan = match plan(alloc, &case.manifest, clock, &case.setup, BUDGET) {
         Ok(plan) => plan,
@@ -138,7 +139,8 @@ fn write_demo<O: Sink>(alloc: Global, number: u32, out: &mut O) -> Result<(), Pu
 pub(crate) fn demo<O: Sink>(alloc: Global, command: &Command, out: &mut O) -> Ending
     requires limits { IsWithinLimits (view command.now) }
     requires verb { (view command.now).verb ≡ Demo }
-    ensures { (shelf : Shelved) → Ends (view command.now) shelf (O.seen out.old) result shelf (O.seen out.new) }
+    ensures { (shelf : Shelved)
+        → Ends (view command.now) shelf (O.seen out.old) result shelf (O.seen out.new) }
 {
     ending_of(Ending::Done, write_demo(alloc, command.number, out))
 }

@@ -64,7 +64,8 @@ pub fn run<F: Shelf, O: Sink, E: Sink>(
         (world (F.shelved shelf.old) (O.seen out.old) (E.seen err.old))
         result
         (world (F.shelved shelf.new) (O.seen out.new) (E.seen err.new)) }
-    ensures shelf { LeavesShelf (map string_bytes words.now) result (F.shelved shelf.old) (F.shelved shelf.new) }
+    ensures shelf { LeavesShelf (map string_bytes words.now)
+        result (F.shelved shelf.old) (F.shelved shelf.new) }
 {
     let ending = run_command(alloc, words, shelf, out);
     tell(err, ending);

@@ -22,7 +22,8 @@ pub struct Printed {
 ///
 /// The status is the one that words and files ask for, or 9 where memory was wanting; after 0 just the text stands on `out`.
 pub fn run_in_memory(alloc: Global, words: &[String], files: Vec<(String, Vec<u8>)>) -> Printed
-    ensures status { IsStatus (map string_bytes words.now) (file_of (told_files files.items)) result.status }
+    ensures status { IsStatus (map string_bytes words.now)
+        (file_of (told_files files.items)) result.status }
     ensures text { result.status ≡ 0 →
         result.out.written ≡ text (map string_bytes words.now) (file_of (told_files files.items)) }
 {

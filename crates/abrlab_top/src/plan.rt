@@ -31,7 +31,8 @@ use std::alloc::Global;
 
 /// Writes the line of the score.
 fn put_score<O: Sink>(out: &mut O, plan: &Plan) -> Result<(), PutErr>
-    ensures { Puts (O.seen out.old) (fields_line (codes "score" ∷ signed_decimal plan.now.score ∷ []))
+    ensures { Puts (O.seen out.old)
+        (fields_line (codes "score" ∷ signed_decimal plan.now.score ∷ []))
         (O.seen out.new) result }
 {
     put_fields(out, &[Word("score"), Number(plan.score)])
@@ -63,7 +64,8 @@ fn put_answer<O: Sink>(
     as_certificate: bool,
 ) -> Result<(), PutErr>
     requires { IsCertificate (plan_parts m.now plan.now) }
-    ensures { Puts (O.seen out.old) (parts_text as_certificate (plan_parts m.now plan.now) plan.now.labels)
+    ensures { Puts (O.seen out.old)
+        (parts_text as_certificate (plan_parts m.now plan.now) plan.now.labels)
         (O.seen out.new) result }
 {
     if as_certificate {

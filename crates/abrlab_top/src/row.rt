@@ -34,9 +34,11 @@ pub(crate) struct Bench<'a> {
 impl<'a> Model for Bench<'a> {
     ghost Value = { BenchValue };
 
-    ghost view = { λ b. record { film = b.m.now; periods = b.clock.now; setup = b.set.now; seeks = b.seeks.now } };
+    ghost view = { λ b.
+        record { film = b.m.now; periods = b.clock.now; setup = b.set.now; seeks = b.seeks.now } };
 
-    ghost invariant = { λ b. SetupFits b.set.now b.m.now × SeeksFit b.seeks.now (segments_of b.m.now) };
+    ghost invariant = { λ b. SetupFits b.set.now b.m.now
+        × SeeksFit b.seeks.now (segments_of b.m.now) };
 }
 
 impl<'a> Bench<'a> {
@@ -68,7 +70,8 @@ impl<'a> Bench<'a> {
     ) -> Result<(), PutErr>
         requires within { IsRuleWithin (spoken rule.now.rule) }
         requires fits { KindFits (spoken rule.now.rule) self.now.film }
-        ensures { WritesRows (O.seen out.old) (row_of self.now (named rule.now)) result (O.seen out.new) }
+        ensures { WritesRows (O.seen out.old)
+            (row_of self.now (named rule.now)) result (O.seen out.new) }
     {
         let Ok(played) = any_rule(alloc, &rule.rule) else {
             return Err(PutErr::Memory);
@@ -88,8 +91,9 @@ impl<'a> Bench<'a> {
     ) -> Result<(), PutErr>
         requires within { All (λ rule. IsRuleWithin (spoken rule.rule)) rules.now }
         requires fits { All (λ rule. KindFits (spoken rule.rule) self.now.film) rules.now }
-        ensures { WritesRows (O.seen out.old) (flat_map (row_of self.now) (map named rules.now)) result
-            (O.seen out.new) }
+        ensures { WritesRows (O.seen out.old)
+            (flat_map (row_of self.now) (map named rules.now))
+            result (O.seen out.new) }
     {
         for rule in rules {
             self.write_row(alloc, rule, out)?;

@@ -28,7 +28,8 @@ fn write_simulation<O: Sink>(
     requires limits { IsWithinLimits (view command.now) }
     requires verb { (view command.now).verb ≡ Simulate }
     requires ready { IsReady (view command.now) ready.now }
-    ensures { Writes (view command.now).verb (simulate (view command.now) (values_of ready.now.inputs)).text
+    ensures { Writes (view command.now).verb
+        (simulate (view command.now) (values_of ready.now.inputs)).text
         (O.seen out.old) result (O.seen out.new) }
 {
     let ([trace], [rule]) = (ready.inputs.traces.as_slice(), command.rules.as_slice()) else {

@@ -113,7 +113,8 @@ fn name_ranges(segment: u16, rung: u8, chain: &Chain, next: &[Chain], place: usi
     requires count { length chain.now.labels.items ≤ 1000000 }
     requires next { length next.now ≤ 16 }
     requires place { place < length chain.now.labels.items }
-    requires names { length chain.now.names.items ≡ length chain.now.labels.items * length next.now }
+    requires names { length chain.now.names.items
+        ≡ length chain.now.labels.items * length next.now }
     ensures { result ≡ name_ranges (length next.now) segment rung (chain_parts chain.now)
         (layer_of next.now) place }
 {
@@ -132,7 +133,8 @@ fn range_verdict(segment: u16, rung: u8, chain: &Chain, next: &[Chain], place: u
     requires count { length chain.now.labels.items ≤ 1000000 }
     requires next { length next.now ≤ 16 }
     requires place { place < length chain.now.labels.items }
-    requires names { length chain.now.names.items ≡ length chain.now.labels.items * length next.now }
+    requires names { length chain.now.names.items
+        ≡ length chain.now.labels.items * length next.now }
     ensures { result ≡ range_verdict (length next.now) segment rung (chain_parts chain.now)
         (layer_of next.now) place }
 {
@@ -147,7 +149,8 @@ fn range_verdict(segment: u16, rung: u8, chain: &Chain, next: &[Chain], place: u
 fn range_of_chain(segment: u16, rung: u8, chain: &Chain, next: &[Chain]) -> Verdict
     requires count { length chain.now.labels.items ≤ 1000000 }
     requires next { length next.now ≤ 16 }
-    requires names { length chain.now.names.items ≡ length chain.now.labels.items * length next.now }
+    requires names { length chain.now.names.items
+        ≡ length chain.now.labels.items * length next.now }
     ensures { result ≡ first_no (range_verdict (length next.now) segment rung
         (chain_parts chain.now) (layer_of next.now)) (length chain.now.labels.items) }
 {

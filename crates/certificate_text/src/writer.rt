@@ -195,7 +195,8 @@ fn put_chain<O: Sink>(
 ) -> Result<(), PutErr>
     requires { length chain.now.names.items ≡ length chain.now.labels.items * per }
     ensures { Puts (O.seen out.old)
-        (lines_text (chain_lines per segment rung (chain_parts chain.now))) (O.seen out.new) result }
+        (lines_text (chain_lines per segment rung (chain_parts chain.now)))
+        (O.seen out.new) result }
 {
     let labels = chain.labels.as_slice();
     put_layer(out, segment, rung, labels.len())?;

@@ -66,9 +66,10 @@ fn successors(
     requires case { CanPlan grid (task_of m.now clock.now set.now ahead) }
     requires seg { (1 ≤ seg) × (seg < segments_of m.now) }
     requires rung { rung < rungs_of m.now }
-    requires before { before.now ≡ grown_labels grid (task_of m.now clock.now set.now ahead) (seg - 1) }
-    ensures { IfOk result (λ v. v.items
-        ≡ map (λ c. rounded grid (next_label (task_of m.now clock.now set.now ahead) seg c.0 c.1 rung))
+    requires before { before.now
+        ≡ grown_labels grid (task_of m.now clock.now set.now ahead) (seg - 1) }
+    ensures { IfOk result (λ v. v.items ≡ map
+        (λ c. rounded grid (next_label (task_of m.now clock.now set.now ahead) seg c.0 c.1 rung))
         before.now) }
 {
     let mut made = Vec::with_capacity(alloc, before.len())?;
@@ -94,8 +95,10 @@ fn frontier(
     requires case { CanPlan grid (task_of m.now clock.now set.now ahead) }
     requires seg { seg < segments_of m.now }
     requires rung { rung < rungs_of m.now }
-    requires before { 0 < seg → before.now ≡ grown_labels grid (task_of m.now clock.now set.now ahead) (seg - 1) }
-    ensures { IfOk result (λ v. v.items ≡ grown grid (task_of m.now clock.now set.now ahead) seg rung) }
+    requires before { 0 < seg
+        → before.now ≡ grown_labels grid (task_of m.now clock.now set.now ahead) (seg - 1) }
+    ensures { IfOk result (λ v. v.items
+        ≡ grown grid (task_of m.now clock.now set.now ahead) seg rung) }
 {
     if seg == 0 {
         let start = start_from(m, clock, set, ahead, rung);
@@ -118,7 +121,8 @@ pub struct Layer {
 
 /// Adds the labels of a chain with their rung.
 fn add_chain(labels: &mut Vec<(u8, Label)>, rung: u8, chain: &[Label]) -> Result<(), AllocError>
-    ensures { IfOk result (λ _. labels.new.items ≡ labels.old.items ++ map (λ l. (rung, l)) chain.now) }
+    ensures { IfOk result (λ _. labels.new.items
+        ≡ labels.old.items ++ map (λ l. (rung, l)) chain.now) }
 {
     for l in chain {
         labels.push((rung, *l))?;
@@ -141,7 +145,8 @@ fn grown_layer(
 ) -> Result<Layer, PlanErr>
     requires case { CanPlan grid (task_of m.now clock.now set.now ahead) }
     requires seg { seg < segments_of m.now }
-    requires before { 0 < seg → before.now ≡ grown_labels grid (task_of m.now clock.now set.now ahead) (seg - 1) }
+    requires before { 0 < seg
+        → before.now ≡ grown_labels grid (task_of m.now clock.now set.now ahead) (seg - 1) }
     ensures { LayerAnswer grid (task_of m.now clock.now set.now ahead) seg left result }
 {
     let mut labels = Vec::new(alloc);

@@ -30,7 +30,8 @@ pub fn starts(
 ) -> Result<Vec<u32>, AllocError>
     requires { HoldPlan grid (task_of m.now clock.now set.now ahead) layers.now }
     ensures { IfOk result (λ v. v.items
-        ≡ starts_of (task_of m.now clock.now set.now ahead) (grown grid (task_of m.now clock.now set.now ahead))) }
+        ≡ starts_of (task_of m.now clock.now set.now ahead)
+        (grown grid (task_of m.now clock.now set.now ahead))) }
 {
     let mut starts = Vec::new(alloc);
     for rung in 0..m.rungs() {
@@ -56,7 +57,8 @@ fn name_label(
     requires layers { HoldPlan grid (task_of m.now clock.now set.now ahead) layers.now }
     requires levels { AreOver layers.now (seg + 1) levels.now }
     requires seg { seg + 1 < segments_of m.now }
-    requires reached { Contains (grown_labels grid (task_of m.now clock.now set.now ahead) seg) reached }
+    requires reached { Contains
+        (grown_labels grid (task_of m.now clock.now set.now ahead) seg) reached }
     ensures { IfOk result (λ _. names.new.items
         ≡ names.old.items ++ names_read grid (task_of m.now clock.now set.now ahead) seg reached) }
 {
@@ -152,7 +154,8 @@ fn add_named(
     requires layers { HoldPlan grid (task_of m.now clock.now set.now ahead) layers.now }
     requires seg { seg < segments_of m.now }
     ensures { IfOk result (λ _. map chain_parts chains.new.items
-        ≡ map chain_parts chains.old.items ++ chains_read grid (task_of m.now clock.now set.now ahead) seg) }
+        ≡ map chain_parts chains.old.items
+        ++ chains_read grid (task_of m.now clock.now set.now ahead) seg) }
 {
     let levels = next_levels(alloc, layers, seg)?;
     for rung in 0..m.rungs() {
@@ -176,7 +179,8 @@ pub fn chains(
 ) -> Result<Vec<Chain>, AllocError>
     requires { HoldPlan grid (task_of m.now clock.now set.now ahead) layers.now }
     ensures { IfOk result (λ v. map chain_parts v.items
-        ≡ chain_list (task_of m.now clock.now set.now ahead) (grown grid (task_of m.now clock.now set.now ahead))) }
+        ≡ chain_list (task_of m.now clock.now set.now ahead)
+        (grown grid (task_of m.now clock.now set.now ahead))) }
 {
     let mut chains = Vec::new(alloc);
     for seg in 0..m.segments() {

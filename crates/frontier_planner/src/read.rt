@@ -33,8 +33,11 @@ pub fn best_end(
     last: &[(u8, Label)],
 ) -> (u8, Label)
     requires case { CanPlan grid (task_of m.now clock.now set.now ahead) }
-    requires last { last.now ≡ grown_labels grid (task_of m.now clock.now set.now ahead) (segments_of m.now - 1) }
-    ensures { result ≡ end_of_plan (task_of m.now clock.now set.now ahead) (grown grid (task_of m.now clock.now set.now ahead)) }
+    requires last { last.now
+        ≡ grown_labels grid (task_of m.now clock.now set.now ahead) (segments_of m.now - 1) }
+    ensures { result
+        ≡ end_of_plan (task_of m.now clock.now set.now ahead)
+        (grown grid (task_of m.now clock.now set.now ahead)) }
 {
     let mut best = last[0];
     for reached in last {
@@ -58,10 +61,12 @@ fn parent(
 ) -> Option<(u8, Label)>
     requires case { CanPlan grid (task_of m.now clock.now set.now ahead) }
     requires seg { (1 ≤ seg) × (seg < segments_of m.now) }
-    requires before { before.now ≡ grown_labels grid (task_of m.now clock.now set.now ahead) (seg - 1) }
-    requires reached { Contains (grown_labels grid (task_of m.now clock.now set.now ahead) seg) reached }
-    ensures { result
-        ≡ find (λ b. leads_to grid (task_of m.now clock.now set.now ahead) seg b reached) before.now }
+    requires before { before.now
+        ≡ grown_labels grid (task_of m.now clock.now set.now ahead) (seg - 1) }
+    requires reached { Contains
+        (grown_labels grid (task_of m.now clock.now set.now ahead) seg) reached }
+    ensures { result ≡ find
+        (λ b. leads_to grid (task_of m.now clock.now set.now ahead) seg b reached) before.now }
 {
     for old in before {
         let next = next_from(m, clock, set, ahead, seg, old.0, old.1, reached.0);
@@ -87,8 +92,10 @@ pub fn rungs_to(
     requires case { CanPlan grid (task_of m.now clock.now set.now ahead) }
     requires seg { (seg < segments_of m.now) × (seg < length layers.now) }
     requires layers { HoldAll grid (task_of m.now clock.now set.now ahead) layers.now }
-    requires reached { Contains (grown_labels grid (task_of m.now clock.now set.now ahead) seg) reached }
-    ensures { IfOk result (λ v. v.items ≡ rungs_read grid (task_of m.now clock.now set.now ahead) seg reached) }
+    requires reached { Contains
+        (grown_labels grid (task_of m.now clock.now set.now ahead) seg) reached }
+    ensures { IfOk result (λ v. v.items
+        ≡ rungs_read grid (task_of m.now clock.now set.now ahead) seg reached) }
 {
     if seg == 0 {
         let mut rungs = Vec::with_capacity(alloc, layers.len())?;
@@ -107,7 +114,8 @@ pub fn rungs_to(
 /// What the labels along a rung list end at.
 pub fn value_of_list(m: &Manifest, clock: &Clock, set: &Setup, ahead: u32, rungs: &[u8]) -> i128
     requires task { IsTask (task_of m.now clock.now set.now ahead) }
-    requires rungs { AreRungs (task_of m.now clock.now set.now ahead) (segments_of m.now) rungs.now }
+    requires rungs { AreRungs
+        (task_of m.now clock.now set.now ahead) (segments_of m.now) rungs.now }
     ensures { result ≡ list_value (task_of m.now clock.now set.now ahead) rungs.now }
 {
     let mut label = start_from(m, clock, set, ahead, rungs[0]);

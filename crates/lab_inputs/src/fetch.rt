@@ -61,7 +61,8 @@ pub(crate) fn fetch_file<F: Shelf>(
     role: Role,
     name: &str,
 ) -> Result<Vec<u8>, FileErr>
-    ensures { Reads (role, name.now) (λ bytes. bytes.items) (λ files. bytes_of role (files name.now))
+    ensures { Reads (role, name.now) (λ bytes. bytes.items)
+        (λ files. bytes_of role (files name.now))
         (F.shelved shelf.old) result (F.shelved shelf.new) }
 {
     let limit = limit_of(role);

@@ -70,8 +70,9 @@ fn push_named<'a>(
     role: Role,
     name: &'a Option<String>,
 ) -> Result<(), AllocError>
-    ensures { OnOk result (map file_of files.new.items ≡
-        map file_of files.old.items ++ optional_file role (option_map string_bytes name.entry.now)) }
+    ensures { OnOk result (map file_of files.new.items
+        ≡ map file_of files.old.items
+        ++ optional_file role (option_map string_bytes name.entry.now)) }
 {
     if let Some(name) = name {
         files.push(FileName { role, name })?;
@@ -81,7 +82,8 @@ fn push_named<'a>(
 
 /// The files that come behind the manifest, in the order of refusals.
 fn later_files(alloc: Global, command: &Command) -> Result<Vec<FileName<'_>>, AllocError>
-    ensures { IfOk result (λ later. map file_of later.items ≡ later_files (view command.entry.now)) }
+    ensures { IfOk result (λ later. map file_of later.items
+        ≡ later_files (view command.entry.now)) }
 {
     let mut later = trace_files(alloc, command)?;
     push_named(&mut later, Role::Seeks, &command.seeks)?;
@@ -149,7 +151,8 @@ impl Inputs {
     /// Takes a seek script.
     fn take_seeks(&mut self, alloc: Global, bytes: &[u8]) -> Result<(), InputFault>
         ensures values { Gives (λ done. values_of self.new) result
-            (result_map (with_seeks (values_of self.old)) (seeks_of bytes.now (segments_of self.old.manifest))) }
+            (result_map (with_seeks (values_of self.old))
+            (seeks_of bytes.now (segments_of self.old.manifest))) }
         ensures traces { self.new.traces ≡ self.old.traces }
         ensures sound { IsSound self.old → IsSound self.new }
     {
@@ -176,7 +179,8 @@ impl Inputs {
     ) -> Result<(), InputFault>
         ensures values { Gives (λ done. values_of self.new) result
             (with_bytes role name.now (values_of self.old) bytes.items) }
-        ensures count { OnOk result (vec_len self.new.traces ≡ vec_len self.old.traces + trace_count role) }
+        ensures count { OnOk result
+            (vec_len self.new.traces ≡ vec_len self.old.traces + trace_count role) }
         ensures sound { IsSound self.old → IsSound self.new }
     {
         match role {
@@ -199,8 +203,10 @@ impl Inputs {
         name: &str,
     ) -> Result<(), FileErr>
         ensures values { Reads (role, name.now) (λ done. values_of self.new)
-            (with_file (values_of self.old) (role, name.now)) (F.shelved shelf.old) result (F.shelved shelf.new) }
-        ensures count { OnOk result (vec_len self.new.traces ≡ vec_len self.old.traces + trace_count role) }
+            (with_file (values_of self.old) (role, name.now))
+            (F.shelved shelf.old) result (F.shelved shelf.new) }
+        ensures count { OnOk result
+            (vec_len self.new.traces ≡ vec_len self.old.traces + trace_count role) }
         ensures sound { IsSound self.old → IsSound self.new }
     {
         let bytes = fetch_file(alloc, shelf, role, name)?;
@@ -225,8 +231,8 @@ pub fn read_inputs<F: Shelf>(
     command: &Command,
 ) -> Result<Inputs, Halt>
     requires film { HasFilm (view command.now).verb }
-    ensures inputs { Comes (files_of (view command.now)) (λ i. values_of i) (inputs_of (view command.now))
-        (F.shelved shelf.old) result (F.shelved shelf.new) }
+    ensures inputs { Comes (files_of (view command.now)) (λ i. values_of i)
+        (inputs_of (view command.now)) (F.shelved shelf.old) result (F.shelved shelf.new) }
     ensures sound { IfOk result (λ i. IsSound i) }
     ensures traces { IfOk result (λ i. vec_len i.traces ≡ length (view command.now).traces) }
 {

@@ -110,7 +110,8 @@ fn put_fault<E: Sink>(err: &mut E, fault: FileFault) -> Result<(), PutErr>
 
 /// Says which rule does not fit.
 fn put_rule<E: Sink>(err: &mut E, place: u8) -> Result<(), PutErr>
-    ensures { Puts (E.seen err.old) (fields_line (setting_fields (Setting.Rule place))) (E.seen err.new) result }
+    ensures { Puts (E.seen err.old) (fields_line (setting_fields (Setting.Rule place)))
+        (E.seen err.new) result }
 {
     put_fields(err, &[Word("rule"), Number(place as i128)])
 }

@@ -116,8 +116,8 @@ pub fn settings_on(alloc: Global, command: &Command, m: &Manifest) -> Result<Set
 pub fn prepare<F: Shelf>(alloc: Global, shelf: &mut F, command: &Command) -> Result<Ready, Halt>
     requires limits { IsWithinLimits (view command.now) }
     requires film { HasFilm (view command.now).verb }
-    ensures ready { Comes (files_of (view command.now)) (λ r. values_of r.inputs) (ready_of (view command.now))
-        (F.shelved shelf.old) result (F.shelved shelf.new) }
+    ensures ready { Comes (files_of (view command.now)) (λ r. values_of r.inputs)
+        (ready_of (view command.now)) (F.shelved shelf.old) result (F.shelved shelf.new) }
     ensures fits { IfOk result (λ r. IsReady (view command.now) r) }
 {
     let inputs = read_inputs(alloc, shelf, command)?;

@@ -62,7 +62,8 @@ fn cause(error: &io::Error) -> FetchErr
 // error. Where what is left isn't known, the length is at most `most` all the same.
 fn first_bytes<I: Read + Drop>(alloc: Global, input: I, most: u64) -> Result<Vec<u8>, FetchErr>
     ensures bound { IfOk result (λ bytes. length bytes.items ≤ most) }
-    ensures bytes { IfOk result (λ bytes. IfSome (I.remaining input) (λ left. bytes.items ≡ take most left)) }
+    ensures bytes { IfOk result (λ bytes. IfSome (I.remaining input)
+        (λ left. bytes.items ≡ take most left)) }
 {
     let mut bytes = Vec::new(alloc);
     input
@@ -86,8 +87,10 @@ impl<'r, R: Files> Shelf for FileShelf<'r, R> {
 
     /// The count rises exactly at an `Err`, whichever it is.
     fn fetch(&mut self, alloc: Global, name: &str, most: u64) -> Result<Vec<u8>, FetchErr>
-        ensures fetches { Fetches (file_shelved self.old) name.now most (file_shelved self.new) (fetched_as result) }
-        ensures counts { self.new.failures ≡ (if is_err result then one_more self.old.failures else self.old.failures) }
+        ensures fetches { Fetches (file_shelved self.old) name.now most
+            (file_shelved self.new) (fetched_as result) }
+        ensures counts { self.new.failures
+            ≡ (if is_err result then one_more self.old.failures else self.old.failures) }
     {
         let answer = if note_call(alloc, &mut self.asked, name, most) {
             read_file(self.rt, alloc, name, most)

@@ -66,6 +66,7 @@ pub trait Sink {
     /// of faults of a sure one stays. An empty piece always gives `Ok`.
     fn put(&mut self, bytes: &[u8]) -> Result<(), PutErr>
         ensures puts { Puts (seen self.old) bytes.now (seen self.new) result }
-        ensures memory { IsErrOf result PutErr.Memory → (seen self.new).written ≡ (seen self.old).written }
+        ensures memory { IsErrOf result PutErr.Memory
+            → (seen self.new).written ≡ (seen self.old).written }
         ensures empty { bytes.now ≡ [] → IsOk result };
 }

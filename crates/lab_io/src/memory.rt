@@ -66,7 +66,9 @@ pub(crate) fn note_call(
     name: &str,
     most: u64,
 ) -> bool
-    ensures { told_calls asked.new.items ≡ (if result then told_calls asked.old.items ++ (name.now, most) ∷ [] else told_calls asked.old.items) }
+    ensures { told_calls asked.new.items
+        ≡ (if result then told_calls asked.old.items ++ (name.now, most) ∷ []
+        else told_calls asked.old.items) }
 {
     let Ok(name) = String::from_str(alloc, name) else {
         return false;
@@ -102,7 +104,8 @@ impl Shelf for MemShelf {
     /// a name that it lacks all other calls for such names are added. Where `failing` is empty it is sure of just
     /// the names that it holds, else of none.
     fn fetch(&mut self, alloc: Global, name: &str, most: u64) -> Result<Vec<u8>, FetchErr>
-        ensures fetches { Fetches (mem_shelved self.old) name.now most (mem_shelved self.new) (fetched_as result) }
+        ensures fetches { Fetches (mem_shelved self.old) name.now most
+            (mem_shelved self.new) (fetched_as result) }
         ensures exact { MemFetches self.old name.now most self.new (fetched_as result) }
     {
         if !note_call(alloc, &mut self.asked, name, most) {
@@ -123,7 +126,8 @@ impl Shelf for MemShelf {
 
 // Whether memory sufficed for the bytes, which then stand at the end.
 fn append(written: &mut Vec<u8>, bytes: &[u8]) -> bool
-    ensures { written.new.items ≡ (if result then written.old.items ++ bytes.now else written.old.items) }
+    ensures { written.new.items
+        ≡ (if result then written.old.items ++ bytes.now else written.old.items) }
 {
     written.extend_from_slice(bytes).is_ok()
 }
@@ -148,7 +152,8 @@ impl Model for MemSink {
 impl MemSink {
     /// A sink with nothing in it, whose calls with a number in `failing` fail. It takes no memory.
     pub fn new(alloc: Global, failing: Vec<u64>) -> MemSink
-        ensures { result ≡ record { written = []; failing = failing.items; calls = 0; faults = 0; wants = 0 } }
+        ensures { result
+            ≡ record { written = []; failing = failing.items; calls = 0; faults = 0; wants = 0 } }
     {
         MemSink {
             written: Vec::new(alloc),
@@ -181,7 +186,8 @@ impl Sink for MemSink {
     /// writes nothing. Else it writes all, or answers that memory was lacking.
     fn put(&mut self, bytes: &[u8]) -> Result<(), PutErr>
         ensures puts { Puts (mem_seen self.old) bytes.now (mem_seen self.new) result }
-        ensures memory { IsErrOf result PutErr.Memory → (mem_seen self.new).written ≡ (mem_seen self.old).written }
+        ensures memory { IsErrOf result PutErr.Memory
+            → (mem_seen self.new).written ≡ (mem_seen self.old).written }
         ensures empty { bytes.now ≡ [] → IsOk result }
         ensures exact { MemPuts self.old bytes.now self.new result }
     {
@@ -239,7 +245,8 @@ impl Sink for SureSink {
     /// It writes all, or answers that memory was lacking.
     fn put(&mut self, bytes: &[u8]) -> Result<(), PutErr>
         ensures puts { Puts (sure_seen self.old) bytes.now (sure_seen self.new) result }
-        ensures memory { IsErrOf result PutErr.Memory → (sure_seen self.new).written ≡ (sure_seen self.old).written }
+        ensures memory { IsErrOf result PutErr.Memory
+            → (sure_seen self.new).written ≡ (sure_seen self.old).written }
         ensures empty { bytes.now ≡ [] → IsOk result }
         ensures exact { SurePuts self.old bytes.now self.new result }
     {

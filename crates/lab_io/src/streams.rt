@@ -32,13 +32,15 @@ pub struct StreamSink<W: Write + Drop> {
 impl<W: Write + Drop> Model for StreamSink<W> {
     ghost Value = { Stream W };
 
-    ghost view = { λ s. record { stream = s.stream; waiting = s.waiting.items; failures = s.failures } };
+    ghost view = { λ s.
+        record { stream = s.stream; waiting = s.waiting.items; failures = s.failures } };
 }
 
 // Writes the bytes, and answers how many of them the stream took: fewer than all only where it failed.
 fn bytes_taken<W: Write>(stream: &mut W, bytes: &[u8]) -> usize
     ensures count { result ≤ length bytes.now }
-    ensures written { Appends (W.contents stream.old) (W.contents stream.new) (take result bytes.now) }
+    ensures written { Appends (W.contents stream.old) (W.contents stream.new)
+        (take result bytes.now) }
 {
     let mut taken = 0;
     for _ in 0..MOST_WRITES {
@@ -111,9 +113,11 @@ impl<W: Write + Drop> Sink for StreamSink<W> {
     /// of it after `Failed`. Nothing waits after the `Ok` of a piece that ends in a newline.
     fn put(&mut self, bytes: &[u8]) -> Result<(), PutErr>
         ensures puts { Puts (stream_seen self.old) bytes.now (stream_seen self.new) result }
-        ensures memory { IsErrOf result PutErr.Memory → (stream_seen self.new).written ≡ (stream_seen self.old).written }
+        ensures memory { IsErrOf result PutErr.Memory
+            → (stream_seen self.new).written ≡ (stream_seen self.old).written }
         ensures empty { bytes.now ≡ [] → IsOk result }
-        ensures counts { self.new.failures ≡ (if is_err result then one_more self.old.failures else self.old.failures) }
+        ensures counts { self.new.failures
+            ≡ (if is_err result then one_more self.old.failures else self.old.failures) }
         ensures stream { StreamPuts W.contents self.old bytes.now self.new result }
     {
         if bytes.is_empty() {

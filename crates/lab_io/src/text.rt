@@ -64,7 +64,8 @@ pub fn put_pieces<O: Sink>(out: &mut O, pieces: &[Piece<'_>]) -> Result<(), PutE
 
 // The fields that follow the first, each behind one space, and the newline.
 fn put_later_fields<O: Sink>(out: &mut O, fields: &[Piece<'_>]) -> Result<(), PutErr>
-    ensures { Puts (O.seen out.old) (later_fields (map piece_text fields.now)) (O.seen out.new) result }
+    ensures { Puts (O.seen out.old) (later_fields (map piece_text fields.now))
+        (O.seen out.new) result }
 {
     for field in fields {
         put_text(out, " ")?;
@@ -75,7 +76,8 @@ fn put_later_fields<O: Sink>(out: &mut O, fields: &[Piece<'_>]) -> Result<(), Pu
 
 /// Puts a line of fields, which are parted by one space. It takes no memory of its own.
 pub fn put_fields<O: Sink>(out: &mut O, fields: &[Piece<'_>]) -> Result<(), PutErr>
-    ensures { Puts (O.seen out.old) (fields_line (map piece_text fields.now)) (O.seen out.new) result }
+    ensures { Puts (O.seen out.old) (fields_line (map piece_text fields.now))
+        (O.seen out.new) result }
 {
     match fields {
         [] => put_text(out, "\n"),

@@ -82,7 +82,8 @@ impl Manifest {
     /// The manifest of these parts: the segment duration in ms, the bitrates in kbps, and the sizes in bits,
     /// segment by segment and in each rung by rung. `None` exactly where a limit is broken.
     pub fn from_parts(seg_ms: u32, bitrates: Vec<u32>, sizes: Vec<u32>) -> Option<Manifest>
-        ensures some { IfSome result (λ m. (m ≡ film seg_ms bitrates.items sizes.items) × IsFilm m) }
+        ensures some { IfSome result (λ m. (m ≡ film seg_ms bitrates.items sizes.items)
+            × IsFilm m) }
         ensures none { IfNone result (IsFilm (film seg_ms bitrates.items sizes.items) → ⊥) }
     {
         if !is_film(seg_ms, &bitrates, &sizes) {

@@ -44,7 +44,8 @@ fn compare_matches<'a>(alloc: Global, words: &'a [String]) -> Result<ArgMatches<
 
 /// The texts without repeats, each at its first place.
 fn distinct<'a>(alloc: Global, texts: &[&'a str]) -> Result<IndexSet<&'a str>, AllocFailed<&'a str>>
-    ensures { IfOk result (λ set. map (λ text. text.now) set.keys ≡ distinct (map (λ text. text.now) texts.now)) }
+    ensures { IfOk result (λ set. map (λ text. text.now) set.keys
+        ≡ distinct (map (λ text. text.now) texts.now)) }
 {
     let mut set = IndexSet::new(alloc);
     for text in texts {
@@ -56,7 +57,8 @@ fn distinct<'a>(alloc: Global, texts: &[&'a str]) -> Result<IndexSet<&'a str>, A
 /// At most so many texts without repeats, each at its first place.
 #[tactic(auto, unfolding(crate::specs::Compare::few))]
 fn few<'a>(alloc: Global, texts: &[&'a str], most: usize) -> Result<IndexSet<&'a str>, WordsErr>
-    ensures { Gives (λ set. map (λ text. text.now) set.keys) result (few most (map (λ text. text.now) texts.now)) }
+    ensures { Gives (λ set. map (λ text. text.now) set.keys) result
+        (few most (map (λ text. text.now) texts.now)) }
 {
     let set = distinct(alloc, texts)?;
     if set.len() > most {
@@ -67,7 +69,8 @@ fn few<'a>(alloc: Global, texts: &[&'a str], most: usize) -> Result<IndexSet<&'a
 
 /// What stands between the slashes of a text.
 fn pieces_of<'a>(alloc: Global, text: &'a str) -> Result<Vec<&'a str>, AllocError>
-    ensures { IfOk result (λ pieces. map (λ piece. piece.now) pieces.items ≡ slice_split (λ b. b == 47) text.entry.now) }
+    ensures { IfOk result (λ pieces. map (λ piece. piece.now) pieces.items
+        ≡ slice_split (λ b. b == 47) text.entry.now) }
 {
     text.split('/').collect(alloc)
 }
@@ -84,7 +87,8 @@ fn named_rule(alloc: Global, text: &str) -> Result<NamedRule, WordsErr>
 
 /// The rule of each text.
 fn named_rules(alloc: Global, texts: &[&str]) -> Result<Vec<NamedRule>, WordsErr>
-    ensures { Gives (λ rules. map named rules.items) result (named_rules (map (λ text. text.now) texts.now)) }
+    ensures { Gives (λ rules. map named rules.items) result
+        (named_rules (map (λ text. text.now) texts.now)) }
 {
     let mut rules = Vec::new(alloc);
     for text in texts {
@@ -96,7 +100,8 @@ fn named_rules(alloc: Global, texts: &[&str]) -> Result<Vec<NamedRule>, WordsErr
 /// The rules, joined by `/`.
 #[tactic(auto, unfolding(crate::specs::Compare::rules_in))]
 fn rules_in(alloc: Global, matches: &ArgMatches<'_>) -> Result<Vec<NamedRule>, WordsErr>
-    ensures { Gives (λ rules. map named rules.items) result (rules_in (rows_of (found_of matches.now))) }
+    ensures { Gives (λ rules. map named rules.items) result
+        (rules_in (rows_of (found_of matches.now))) }
 {
     let pieces = pieces_of(alloc, required(matches, "rules")?)?;
     let names = few(alloc, &pieces, MOST_RULES)?;
@@ -105,7 +110,8 @@ fn rules_in(alloc: Global, matches: &ArgMatches<'_>) -> Result<Vec<NamedRule>, W
 
 /// The texts, owned.
 fn owned(alloc: Global, texts: &[&str]) -> Result<Vec<String>, AllocError>
-    ensures { IfOk result (λ names. map string_bytes names.items ≡ map (λ text. text.now) texts.now) }
+    ensures { IfOk result (λ names. map string_bytes names.items
+        ≡ map (λ text. text.now) texts.now) }
 {
     let mut names = Vec::new(alloc);
     for text in texts {
@@ -117,7 +123,8 @@ fn owned(alloc: Global, texts: &[&str]) -> Result<Vec<String>, AllocError>
 /// The traces.
 #[tactic(auto, unfolding(crate::specs::Compare::traces_in))]
 fn traces_in(alloc: Global, matches: &ArgMatches<'_>) -> Result<Vec<String>, WordsErr>
-    ensures { Gives (λ names. map string_bytes names.items) result (traces_in (rows_of (found_of matches.now))) }
+    ensures { Gives (λ names. map string_bytes names.items) result
+        (traces_in (rows_of (found_of matches.now))) }
 {
     let names = few(alloc, several(matches, "trace")?, MOST_TRACES)?;
     Ok(owned(alloc, names.as_slice())?)

@@ -201,7 +201,8 @@ fn asked_of(alloc: Global, verb: Verb, words: &[String]) -> Result<Command, Word
 pub fn read_words(alloc: Global, words: &[String]) -> Result<Command, WordsErr>
     ensures read { Gives view result (command_of (map string_bytes words.now)) }
     ensures limits { IfOk result (λ command. IsWithinLimits (view command)) }
-    ensures no_command { begins_with_verb (map string_bytes words.now) ≡ false → result ≡ Err WordsErr.Usage }
+    ensures no_command { begins_with_verb (map string_bytes words.now) ≡ false
+        → result ≡ Err WordsErr.Usage }
 {
     let Some((first, others)) = words.split_first() else {
         return Err(WordsErr::Usage);

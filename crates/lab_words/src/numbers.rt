@@ -57,7 +57,8 @@ pub(crate) fn small_number_of(text: &str, least: u8, most: u8) -> Option<u8>
 
 /// What stands between the commas of a text.
 fn pieces_of<'a>(alloc: Global, text: &'a str) -> Result<Vec<&'a str>, AllocError>
-    ensures { IfOk result (λ pieces. map (λ piece. piece.now) pieces.items ≡ pieces_of text.entry.now) }
+    ensures { IfOk result (λ pieces. map (λ piece. piece.now) pieces.items
+        ≡ pieces_of text.entry.now) }
 {
     text.split(',').collect(alloc)
 }

@@ -36,7 +36,8 @@ pub(crate) struct Settings {
 /// The utilities that have to be given.
 #[tactic(auto, unfolding(crate::specs::Settings::utilities_in))]
 fn utilities_in(alloc: Global, matches: &ArgMatches<'_>) -> Result<Vec<u32>, WordsErr>
-    ensures { Gives (λ utilities. utilities.items) result (utilities_in (rows_of (found_of matches.now))) }
+    ensures { Gives (λ utilities. utilities.items) result
+        (utilities_in (rows_of (found_of matches.now))) }
 {
     utilities_of(alloc, required(matches, "utilities")?)
 }

@@ -60,7 +60,8 @@ fn with_words<'a>(
     command: Command<'a>,
     table: &[Word],
 ) -> Result<Command<'a>, AllocError>
-    ensures { IfOk result (λ c. app_of c ≡ with_words (app_of command.entry) (map entry_of table.now)) }
+    ensures { IfOk result (λ c. app_of c
+        ≡ with_words (app_of command.entry) (map entry_of table.now)) }
 {
     let mut command = command;
     for word in table {
@@ -77,7 +78,8 @@ fn table_command<'a>(
     own: &[Word],
     shared: &[Word],
 ) -> Result<Command<'a>, AllocError>
-    ensures { IfOk result (λ c. app_of c ≡ table_app name.entry.now (map entry_of own.now) (map entry_of shared.now)) }
+    ensures { IfOk result (λ c. app_of c
+        ≡ table_app name.entry.now (map entry_of own.now) (map entry_of shared.now)) }
 {
     let command = with_words(alloc, plain_command(alloc, name), own)?;
     with_words(alloc, command, shared)
@@ -91,9 +93,11 @@ pub(crate) fn table_matches<'a>(
     shared: &[Word],
     words: &'a [String],
 ) -> Result<ArgMatches<'a>, WordsErr>
-    requires { is_simple_and_free (table_app name.now (map entry_of own.now) (map entry_of shared.now)) ≡ true }
+    requires { is_simple_and_free
+        (table_app name.now (map entry_of own.now) (map entry_of shared.now)) ≡ true }
     ensures { Gives (λ m. rows_of (found_of m)) result
-        (accepted (table_app name.entry.now (map entry_of own.now) (map entry_of shared.now)) (map string_bytes words.entry.now)) }
+        (accepted (table_app name.entry.now (map entry_of own.now) (map entry_of shared.now))
+        (map string_bytes words.entry.now)) }
 {
     let Ok(command) = table_command(alloc, name, own, shared) else {
         return Err(WordsErr::Memory);

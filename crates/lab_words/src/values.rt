@@ -23,7 +23,8 @@ fn is_stray(text: &str) -> bool
 }
 
 fn text_of<'a>(matches: &ArgMatches<'a>, name: &str) -> Option<&'a str>
-    ensures { option_map (λ text. text.now) result ≡ first_of name.now (rows_of (found_of matches.now)) }
+    ensures { option_map (λ text. text.now) result
+        ≡ first_of name.now (rows_of (found_of matches.now)) }
 {
     matches.get_str(name)
 }
@@ -34,7 +35,8 @@ pub(crate) fn optional<'a>(
     matches: &ArgMatches<'a>,
     name: &str,
 ) -> Result<Option<&'a str>, WordsErr>
-    ensures { Gives (option_map (λ text. text.now)) result (optional name.now (rows_of (found_of matches.now))) }
+    ensures { Gives (option_map (λ text. text.now)) result
+        (optional name.now (rows_of (found_of matches.now))) }
 {
     match text_of(matches, name) {
         Some(text) if is_stray(text) => Err(WordsErr::Usage),
@@ -67,7 +69,8 @@ pub(crate) fn optional_file_name(
     matches: &ArgMatches<'_>,
     name: &str,
 ) -> Result<Option<String>, WordsErr>
-    ensures { Gives (option_map string_bytes) result (optional name.now (rows_of (found_of matches.now))) }
+    ensures { Gives (option_map string_bytes) result
+        (optional name.now (rows_of (found_of matches.now))) }
 {
     match optional(matches, name)? {
         Some(text) => Ok(Some(text.to_string(alloc)?)),
@@ -84,7 +87,8 @@ pub(crate) fn number_in(
     least: u32,
     most: u32,
 ) -> Result<u32, WordsErr>
-    ensures { Gives (λ number. number) result (number_in default least most name.now (rows_of (found_of matches.now))) }
+    ensures { Gives (λ number. number) result
+        (number_in default least most name.now (rows_of (found_of matches.now))) }
 {
     match optional(matches, name)? {
         Some(text) => number_of(text, least, most).ok_or(WordsErr::Usage),
@@ -93,7 +97,8 @@ pub(crate) fn number_in(
 }
 
 fn all_of<'m, 'a>(matches: &'m ArgMatches<'a>, name: &str) -> Option<&'m [&'a str]>
-    ensures { option_map (λ texts. map (λ text. text.now) texts.now) result ≡ all_of name.now (rows_of (found_of matches.now)) }
+    ensures { option_map (λ texts. map (λ text. text.now) texts.now) result
+        ≡ all_of name.now (rows_of (found_of matches.now)) }
 {
     matches.get_strs(name)
 }
@@ -113,7 +118,8 @@ fn has_stray(texts: &[&str]) -> bool
 
 /// The values, of which there is one and none is stray.
 fn some_plain<'m, 'a>(texts: &'m [&'a str]) -> Result<&'m [&'a str], WordsErr>
-    ensures { Gives (λ texts. map (λ text. text.now) texts.now) result (some_plain (map (λ text. text.now) texts.entry.now)) }
+    ensures { Gives (λ texts. map (λ text. text.now) texts.now) result
+        (some_plain (map (λ text. text.now) texts.entry.now)) }
 {
     match texts {
         [_, ..] if !has_stray(texts) => Ok(texts),
@@ -127,7 +133,8 @@ pub(crate) fn several<'m, 'a>(
     matches: &'m ArgMatches<'a>,
     name: &str,
 ) -> Result<&'m [&'a str], WordsErr>
-    ensures { Gives (λ texts. map (λ text. text.now) texts.now) result (several name.now (rows_of (found_of matches.now))) }
+    ensures { Gives (λ texts. map (λ text. text.now) texts.now) result
+        (several name.now (rows_of (found_of matches.now))) }
 {
     match all_of(matches, name) {
         Some(texts) => some_plain(texts),

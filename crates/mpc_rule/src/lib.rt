@@ -52,9 +52,11 @@ impl Model for RobustMpc {
 
     ghost Value = { Recall };
 
-    ghost view = { λ r. record { horizon = r.horizon; rates = r.rates.items; errors = r.errors.items } };
+    ghost view = { λ r.
+        record { horizon = r.horizon; rates = r.rates.items; errors = r.errors.items } };
 
-    ghost invariant = { λ r. IsWithin 1 5 r.horizon × IsRing 1 10000000000 r.rates × IsRing 0 10000000000000 r.errors };
+    ghost invariant = { λ r. IsWithin 1 5 r.horizon × IsRing 1 10000000000 r.rates
+        × IsRing 0 10000000000000 r.errors };
 }
 
 impl RobustMpc {

@@ -14,7 +14,8 @@ use std::marker::Model;
 /// The sums of the milliseconds up to the beginning of each period, and of all.
 fn starts_of(alloc: Global, periods: &[Period]) -> Result<Vec<u64>, AllocError>
     requires { IsTrace periods.now }
-    ensures { IfOk result (λ v. AreSums (λ p. p.duration_ms) periods.now (length periods.now) v.items) }
+    ensures { IfOk result (λ v. AreSums (λ p. p.duration_ms) periods.now
+        (length periods.now) v.items) }
 {
     let mut starts = Vec::new(alloc);
     let mut sum = 0u64;
@@ -29,7 +30,8 @@ fn starts_of(alloc: Global, periods: &[Period]) -> Result<Vec<u64>, AllocError>
 /// The sums of the thousandths of a bit up to the beginning of each period, and of all.
 fn sums_of(alloc: Global, periods: &[Period]) -> Result<Vec<u64>, AllocError>
     requires { IsTrace periods.now }
-    ensures { IfOk result (λ v. AreSums (λ p. p.duration_ms * p.bandwidth) periods.now (length periods.now) v.items) }
+    ensures { IfOk result (λ v. AreSums (λ p. p.duration_ms * p.bandwidth) periods.now
+        (length periods.now) v.items) }
 {
     let mut sums = Vec::new(alloc);
     let mut sum = 0u64;
@@ -198,7 +200,8 @@ impl Meter {
     /// thousandths of a bit.
     pub fn carried_since(&self, place: Place, instant: u64) -> u64
         requires { Touches self.now place instant }
-        ensures value { place.cycles * cycle_bits self.now + result ≡ flow carried_in self.now instant }
+        ensures value { place.cycles * cycle_bits self.now + result
+            ≡ flow carried_in self.now instant }
         ensures least { cycle_bits (take place.period self.now) ≤ result }
         ensures most { result ≤ 1000000000000000000 }
     {
@@ -253,7 +256,8 @@ impl Meter {
         requires more { cycle_bits (take from.period self.now) < wanted }
         requires soon { from.cycles * cycle_bits self.now + wanted
             ≤ flow carried_in self.now 3000000000000000 }
-        ensures reaches { Reaches self.now (from.cycles * cycle_bits self.now + wanted) result.instant }
+        ensures reaches { Reaches self.now
+            (from.cycles * cycle_bits self.now + wanted) result.instant }
         ensures some { 1 ≤ result.instant }
         ensures last { Touches self.now result.place (result.instant - 1) }
         ensures end { Touches self.now result.place result.instant }

@@ -80,12 +80,19 @@ impl Body {
         rule: &mut T,
     ) -> Result<(), NoMemory>
         requires case { IsCase (case_of m.now clock.now set.now seeks.now ahead (T.kind rule.old)) }
-        requires stands { StandsAt (case_of m.now clock.now set.now seeks.now ahead (T.kind rule.old)) self.old }
-        requires told { T.stands_for rule.old (player_after (case_of m.now clock.now set.now seeks.now ahead (T.kind rule.old)) self.old.t).history }
+        requires stands { StandsAt
+            (case_of m.now clock.now set.now seeks.now ahead (T.kind rule.old)) self.old }
+        requires told { T.stands_for rule.old
+            (player_after (case_of m.now clock.now set.now seeks.now ahead (T.kind rule.old))
+            self.old.t).history }
         ensures kind { T.kind rule.new ≡ T.kind rule.old }
         ensures instant { IfOk result (λ _. self.new.t ≡ self.old.t) }
-        ensures left { IfOk result (λ _. LeftAt (case_of m.now clock.now set.now seeks.now ahead (T.kind rule.old)) self.new) }
-        ensures told { IfOk result (λ _. T.stands_for rule.new (instant (case_of m.now clock.now set.now seeks.now ahead (T.kind rule.old)) (player_after (case_of m.now clock.now set.now seeks.now ahead (T.kind rule.old)) self.old.t)).history) }
+        ensures left { IfOk result (λ _. LeftAt
+            (case_of m.now clock.now set.now seeks.now ahead (T.kind rule.old)) self.new) }
+        ensures told { IfOk result (λ _. T.stands_for rule.new
+            (instant (case_of m.now clock.now set.now seeks.now ahead (T.kind rule.old))
+            (player_after (case_of m.now clock.now set.now seeks.now ahead (T.kind rule.old))
+            self.old.t)).history) }
     {
         self.stop(m, rule)?;
         if self.mode.is_ended() {
@@ -96,10 +103,14 @@ impl Body {
 
     /// What an instant begins with: the arrival, and then the end.
     fn stop<T: Rule>(&mut self, m: &Manifest, rule: &mut T) -> Result<(), NoMemory>
-        requires ready { IfSome self.old.download (λ d. d.job.left ≡ 0 → CanLoad m.now (seen self.old []) (download_of d)) }
+        requires ready { IfSome self.old.download (λ d. d.job.left ≡ 0
+            → CanLoad m.now (seen self.old []) (download_of d)) }
         ensures kind { T.kind rule.new ≡ T.kind rule.old }
-        ensures stops { IfOk result (λ _. (c : Case) → c.film ≡ m.now → Step (stopped c) self.old self.new) }
-        ensures told { IfOk result (λ _. (c : Case) → c.film ≡ m.now → (history : List ℕ) → T.stands_for rule.old history → T.stands_for rule.new (stopped c (seen self.old history)).history) }
+        ensures stops { IfOk result (λ _. (c : Case) → c.film ≡ m.now
+            → Step (stopped c) self.old self.new) }
+        ensures told { IfOk result (λ _. (c : Case) → c.film ≡ m.now
+            → (history : List ℕ) → T.stands_for rule.old history
+            → T.stands_for rule.new (stopped c (seen self.old history)).history) }
     {
         self.arrive(m, rule)?;
         self.finish(m)
@@ -116,12 +127,19 @@ impl Body {
         rule: &mut T,
     ) -> Result<(), NoMemory>
         requires case { IsCase (case_of m.now clock.now set.now seeks.now ahead (T.kind rule.old)) }
-        requires sound { Sound (case_of m.now clock.now set.now seeks.now ahead (T.kind rule.old)) self.old.t (seen self.old []) }
+        requires sound { Sound
+            (case_of m.now clock.now set.now seeks.now ahead (T.kind rule.old))
+            self.old.t (seen self.old []) }
         requires instant { self.old.t < 1000000000000000 }
         requires timed { IsTimed m.now clock.now self.old.download }
         ensures kind { T.kind rule.new ≡ T.kind rule.old }
-        ensures goes { IfOk result (λ _. (history : List ℕ) → T.stands_for rule.old history → GoesOn (case_of m.now clock.now set.now seeks.now ahead (T.kind rule.old)) history self.old self.new) }
-        ensures told { IfOk result (λ _. (history : List ℕ) → T.stands_for rule.old history → T.stands_for rule.new (gone_on (case_of m.now clock.now set.now seeks.now ahead (T.kind rule.old)) (seen self.old history)).history) }
+        ensures goes { IfOk result (λ _. (history : List ℕ) → T.stands_for rule.old history
+            → GoesOn (case_of m.now clock.now set.now seeks.now ahead (T.kind rule.old))
+            history self.old self.new) }
+        ensures told { IfOk result (λ _. (history : List ℕ) → T.stands_for rule.old history
+            → T.stands_for rule.new
+            (gone_on (case_of m.now clock.now set.now seeks.now ahead (T.kind rule.old))
+            (seen self.old history)).history) }
         ensures timed { IfOk result (λ _. IsTimed m.now clock.now self.new.download) }
     {
         self.abandon(m, set, rule)?;
@@ -131,10 +149,14 @@ impl Body {
 
     /// 1. Arrival: a download of which nothing is left.
     fn arrive<T: Rule>(&mut self, m: &Manifest, rule: &mut T) -> Result<(), NoMemory>
-        requires ready { IfSome self.old.download (λ d. d.job.left ≡ 0 → CanLoad m.now (seen self.old []) (download_of d)) }
+        requires ready { IfSome self.old.download (λ d. d.job.left ≡ 0
+            → CanLoad m.now (seen self.old []) (download_of d)) }
         ensures kind { T.kind rule.new ≡ T.kind rule.old }
-        ensures arrives { IfOk result (λ _. (c : Case) → c.film ≡ m.now → Step (arrival c) self.old self.new) }
-        ensures told { IfOk result (λ _. (c : Case) → c.film ≡ m.now → (history : List ℕ) → T.stands_for rule.old history → T.stands_for rule.new (arrival c (seen self.old history)).history) }
+        ensures arrives { IfOk result (λ _. (c : Case) → c.film ≡ m.now
+            → Step (arrival c) self.old self.new) }
+        ensures told { IfOk result (λ _. (c : Case) → c.film ≡ m.now
+            → (history : List ℕ) → T.stands_for rule.old history
+            → T.stands_for rule.new (arrival c (seen self.old history)).history) }
     {
         match self.download {
             Some(d) if d.job.left == 0 => self.load(m, &d, rule),
@@ -146,8 +168,11 @@ impl Body {
     fn load<T: Rule>(&mut self, m: &Manifest, d: &Running, rule: &mut T) -> Result<(), NoMemory>
         requires ready { CanLoad m.now (seen self.old []) (download_of d.now) }
         ensures kind { T.kind rule.new ≡ T.kind rule.old }
-        ensures loads { IfOk result (λ _. (c : Case) → c.film ≡ m.now → Step (λ p. loads c p (download_of d.now)) self.old self.new) }
-        ensures told { IfOk result (λ _. (history : List ℕ) → T.stands_for rule.old history → T.stands_for rule.new (history ++ sample_of m.now self.old.t (download_of d.now) ∷ [])) }
+        ensures loads { IfOk result (λ _. (c : Case) → c.film ≡ m.now
+            → Step (λ p. loads c p (download_of d.now)) self.old self.new) }
+        ensures told { IfOk result (λ _. (history : List ℕ) → T.stands_for rule.old history
+            → T.stands_for rule.new
+            (history ++ sample_of m.now self.old.t (download_of d.now) ∷ [])) }
     {
         let sample = d.sample(m, self.t);
         self.events.push(Event::Arrive {
@@ -172,7 +197,8 @@ impl Body {
 
     /// 2. End: all is played.
     fn finish(&mut self, m: &Manifest) -> Result<(), NoMemory>
-        ensures { IfOk result (λ _. (c : Case) → c.film ≡ m.now → Step (finish c) self.old self.new) }
+        ensures { IfOk result (λ _. (c : Case) → c.film ≡ m.now
+            → Step (finish c) self.old self.new) }
     {
         let all_ms = m.segments() as u32 * m.seg_ms();
         if self.mode.is_playing() && self.x == all_ms {
@@ -187,8 +213,11 @@ impl Body {
         requires judge { IfSome self.old.download (λ d. CanJudge m.now self.old.t (download_of d)) }
         requires wasted { self.old.wasted ≤ 1000000000000000 }
         ensures kind { T.kind rule.new ≡ T.kind rule.old }
-        ensures abandons { IfOk result (λ _. (c : Case) → c.film ≡ m.now → c.setup ≡ set.now → Step (abandon c) self.old self.new) }
-        ensures told { IfOk result (λ _. (c : Case) → c.film ≡ m.now → c.setup ≡ set.now → (history : List ℕ) → T.stands_for rule.old history → T.stands_for rule.new (abandon c (seen self.old history)).history) }
+        ensures abandons { IfOk result (λ _. (c : Case) → c.film ≡ m.now → c.setup ≡ set.now
+            → Step (abandon c) self.old self.new) }
+        ensures told { IfOk result (λ _. (c : Case) → c.film ≡ m.now → c.setup ≡ set.now
+            → (history : List ℕ) → T.stands_for rule.old history
+            → T.stands_for rule.new (abandon c (seen self.old history)).history) }
     {
         if !set.abandon {
             return Ok(());
@@ -214,8 +243,11 @@ impl Body {
         requires first { 1 ≤ bit_ms_of self.old.t (download_of d.now) }
         requires wasted { self.old.wasted ≤ 1000000000000000 }
         ensures kind { T.kind rule.new ≡ T.kind rule.old }
-        ensures gives_up { IfOk result (λ _. (c : Case) → c.film ≡ m.now → Step (λ p. gives_up c p (download_of d.now) (Some to)) self.old self.new) }
-        ensures told { IfOk result (λ _. (history : List ℕ) → T.stands_for rule.old history → T.stands_for rule.new (history ++ sample_of m.now self.old.t (download_of d.now) ∷ [])) }
+        ensures gives_up { IfOk result (λ _. (c : Case) → c.film ≡ m.now
+            → Step (λ p. gives_up c p (download_of d.now) (Some to)) self.old self.new) }
+        ensures told { IfOk result (λ _. (history : List ℕ) → T.stands_for rule.old history
+            → T.stands_for rule.new
+            (history ++ sample_of m.now self.old.t (download_of d.now) ∷ [])) }
     {
         let got = d.got(m);
         self.events.push(Event::Abandon {
@@ -234,12 +266,14 @@ impl Body {
 
     /// 4. Seek.
     fn seek(&mut self, m: &Manifest, seeks: &[Seek]) -> Result<(), NoMemory>
-        requires running { IfSome self.old.download (λ d. (d.segment < segments_of m.now) × (d.rung < rungs_of m.now)) }
+        requires running { IfSome self.old.download (λ d. (d.segment < segments_of m.now)
+            × (d.rung < rungs_of m.now)) }
         requires loaded { All (IsOf m.now) self.old.loaded.items }
         requires room { length self.old.loaded.items ≤ 2000 }
         requires wasted { self.old.wasted ≤ 1000000000000000 }
         requires targets { All (λ s. s.to < segments_of m.now) seeks.now }
-        ensures { IfOk result (λ _. (c : Case) → c.film ≡ m.now → c.seeks ≡ seeks.now → Step (seek c) self.old self.new) }
+        ensures { IfOk result (λ _. (c : Case) → c.film ≡ m.now → c.seeks ≡ seeks.now
+            → Step (seek c) self.old self.new) }
     {
         let Some(s) = seek_at(seeks, self.t) else {
             return Ok(());
@@ -264,7 +298,8 @@ impl Body {
 
     /// The bits that a seek wastes now: those of a running download, and the loaded segments that haven't begun.
     fn wasted_by(&self, m: &Manifest) -> u64
-        requires running { IfSome self.now.download (λ d. (d.segment < segments_of m.now) × (d.rung < rungs_of m.now)) }
+        requires running { IfSome self.now.download (λ d. (d.segment < segments_of m.now)
+            × (d.rung < rungs_of m.now)) }
         requires loaded { All (IsOf m.now) self.now.loaded.items }
         requires room { length self.now.loaded.items ≤ 2000 }
         ensures value { result ≡ wasted_by m.now (seen self.now []) }
@@ -287,8 +322,12 @@ impl Body {
         rule: &T,
     ) -> Result<(), NoMemory>
         requires ready { CanRequest m.now set.now (T.kind rule.now) (seen self.old []) }
-        ensures requests { IfOk result (λ _. (c : Case) (history : List ℕ) → c.film ≡ m.now → c.setup ≡ set.now → c.ahead ≡ ahead → c.rule ≡ T.kind rule.now → T.stands_for rule.now history → seen self.new history ≡ request c (seen self.old history)) }
-        ensures timed { IfOk result (λ _. IsTimed m.now clock.now self.old.download → IsTimed m.now clock.now self.new.download) }
+        ensures requests { IfOk result (λ _. (c : Case) (history : List ℕ) → c.film ≡ m.now
+            → c.setup ≡ set.now → c.ahead ≡ ahead → c.rule ≡ T.kind rule.now
+            → T.stands_for rule.now history
+            → seen self.new history ≡ request c (seen self.old history)) }
+        ensures timed { IfOk result (λ _. IsTimed m.now clock.now self.old.download
+            → IsTimed m.now clock.now self.new.download) }
     {
         if !self.can_ask(m, set, ahead) {
             return Ok(());
@@ -302,7 +341,8 @@ impl Body {
     fn can_ask(&self, m: &Manifest, set: &Setup, ahead: u32) -> bool
         requires position { self.now.x ≤ self.now.y }
         requires end { self.now.y ≤ 120000000 }
-        ensures asks { (c : Case) → c.film ≡ m.now → c.setup ≡ set.now → c.ahead ≡ ahead → result ≡ can_ask c (seen self.now []) }
+        ensures asks { (c : Case) → c.film ≡ m.now → c.setup ≡ set.now → c.ahead ≡ ahead
+            → result ≡ can_ask c (seen self.now []) }
         ensures next { result ≡ true → self.now.k < segments_of m.now }
         ensures room { result ≡ true → self.now.y - self.now.x ≤ set.now.buffer_ms - m.now.seg_ms }
     {
@@ -327,7 +367,9 @@ impl Body {
     /// The rung that is asked for: the forced one, or else the rule's choice.
     fn rung_for<T: Rule>(&self, m: &Manifest, set: &Setup, rule: &T) -> u8
         requires choose { CanChoose m.now set.now (T.kind rule.now) (seen self.now []) }
-        ensures value { (c : Case) (history : List ℕ) → c.film ≡ m.now → c.setup ≡ set.now → c.rule ≡ T.kind rule.now → T.stands_for rule.now history → result ≡ rung_for c (seen self.now history) }
+        ensures value { (c : Case) (history : List ℕ) → c.film ≡ m.now → c.setup ≡ set.now
+            → c.rule ≡ T.kind rule.now → T.stands_for rule.now history
+            → result ≡ rung_for c (seen self.now history) }
         ensures rung { result < rungs_of m.now }
     {
         match self.forced {
@@ -341,7 +383,8 @@ impl Body {
         requires next { self.old.k < segments_of m.now }
         requires rung { rung < rungs_of m.now }
         requires instant { self.old.t ≤ 1000000000000000 }
-        ensures asks { IfOk result (λ _. (c : Case) → c.film ≡ m.now → Follows (λ p. asks c p rung) self.old self.new) }
+        ensures asks { IfOk result (λ _. (c : Case) → c.film ≡ m.now
+            → Follows (λ p. asks c p rung) self.old self.new) }
         ensures timed { IfOk result (λ _. IsTimed m.now clock.now self.new.download) }
     {
         let bits = m.size(self.k, rung);
@@ -368,8 +411,10 @@ impl Body {
     pub fn pass(&mut self, m: &Manifest, clock: &Clock) -> Result<(), NoMemory>
         requires ready { CanPass (seen self.old []) }
         requires takes { IfSome self.old.download (CanTake clock.now self.old.t) }
-        ensures passes { IfOk result (λ _. (c : Case) → c.film ≡ m.now → c.periods ≡ clock.now → Follows (pass_ms c) self.old self.new) }
-        ensures timed { IfOk result (λ _. IsTimed m.now clock.now self.old.download → IsTimed m.now clock.now self.new.download) }
+        ensures passes { IfOk result (λ _. (c : Case) → c.film ≡ m.now → c.periods ≡ clock.now
+            → Follows (pass_ms c) self.old self.new) }
+        ensures timed { IfOk result (λ _. IsTimed m.now clock.now self.old.download
+            → IsTimed m.now clock.now self.new.download) }
     {
         self.take(clock);
         self.pass_in_mode(m)?;
@@ -381,9 +426,12 @@ impl Body {
     fn take(&mut self, clock: &Clock)
         requires instant { self.old.t ≤ 1000000000000000 }
         requires takes { IfSome self.old.download (CanTake clock.now self.old.t) }
-        ensures takes { (c : Case) → c.periods ≡ clock.now → Follows (λ p. record p { download = option_map (takes c p.t) p.download }) self.old self.new }
+        ensures takes { (c : Case) → c.periods ≡ clock.now
+            → Follows (λ p. record p { download = option_map (takes c p.t) p.download })
+            self.old self.new }
         ensures ready { CanPass (seen self.old []) → CanPass (seen self.new []) }
-        ensures timed { (f : Film) → IsTimed f clock.now self.old.download → IsTimed f clock.now self.new.download }
+        ensures timed { (f : Film) → IsTimed f clock.now self.old.download
+            → IsTimed f clock.now self.new.download }
     {
         if let Some(d) = self.download {
             self.download = Some(d.take_ms(clock, self.t));
@@ -393,7 +441,8 @@ impl Body {
     /// A millisecond of the mode.
     fn pass_in_mode(&mut self, m: &Manifest) -> Result<(), NoMemory>
         requires ready { CanPass (seen self.old []) }
-        ensures passes { IfOk result (λ _. (c : Case) → c.film ≡ m.now → Follows (λ p. passes_in c p p.mode) self.old self.new) }
+        ensures passes { IfOk result (λ _. (c : Case) → c.film ≡ m.now
+            → Follows (λ p. passes_in c p p.mode) self.old self.new) }
         ensures same { IfOk result (λ _. SameDownload self.old self.new) }
     {
         match self.mode {
@@ -416,7 +465,8 @@ impl Body {
     /// A millisecond of play.
     fn play(&mut self, m: &Manifest) -> Result<(), NoMemory>
         requires { self.old.x < 120000000 }
-        ensures plays { IfOk result (λ _. (c : Case) → c.film ≡ m.now → Follows (plays c) self.old self.new) }
+        ensures plays { IfOk result (λ _. (c : Case) → c.film ≡ m.now
+            → Follows (plays c) self.old self.new) }
         ensures same { IfOk result (λ _. SameDownload self.old self.new) }
     {
         if self.x % m.seg_ms() == 0 {

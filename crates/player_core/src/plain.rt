@@ -30,7 +30,8 @@ pub fn play_from<T: Rule + Drop>(
     requires seeks { SeeksFit seeks.now (segments_of m.now) }
     requires ahead { ahead ≤ 120000000 }
     requires told { T.stands_for rule [] }
-    ensures { IfOk result (λ s. shown s ≡ session_of (case_of m.now clock.now set.now seeks.now ahead (T.kind rule))) }
+    ensures { IfOk result (λ s. shown s
+        ≡ session_of (case_of m.now clock.now set.now seeks.now ahead (T.kind rule))) }
 {
     prove!(m.segments() > 0);
     prove!(!clock.periods().is_empty());

@@ -67,8 +67,10 @@ pub fn play_from<T: Rule + Drop>(
     requires seeks { SeeksFit seeks.now (segments_of m.now) }
     requires ahead { ahead ≤ 120000000 }
     requires told { T.stands_for rule [] }
-    ensures session { IfOk result (λ s. shown s ≡ session_of (case_of m.now clock.now set.now seeks.now ahead (T.kind rule))) }
-    ensures rungs { IfOk result (λ s. All (λ p. (p.rung < rungs_of m.now) × (p.segment < segments_of m.now)) s.played.items) }
+    ensures session { IfOk result (λ s. shown s
+        ≡ session_of (case_of m.now clock.now set.now seeks.now ahead (T.kind rule))) }
+    ensures rungs { IfOk result (λ s. All
+        (λ p. (p.rung < rungs_of m.now) × (p.segment < segments_of m.now)) s.played.items) }
     ensures count { IfOk result (λ s. length s.played.items ≤ 34000) }
     ensures ends { IfOk result (λ s. s.end < 1000000000000000) }
     ensures times { IfOk result (λ s. s.startup_ms + s.stall_ms + s.seek_ms ≤ s.end) }
@@ -100,8 +102,10 @@ pub fn play<T: Rule + Drop>(
     requires rule { KindFits (T.kind rule) m.now }
     requires seeks { SeeksFit seeks.now (segments_of m.now) }
     requires told { T.stands_for rule [] }
-    ensures session { IfOk result (λ s. shown s ≡ session_of (case_of m.now clock.now set.now seeks.now all_ahead (T.kind rule))) }
-    ensures rungs { IfOk result (λ s. All (λ p. (p.rung < rungs_of m.now) × (p.segment < segments_of m.now)) s.played.items) }
+    ensures session { IfOk result (λ s. shown s
+        ≡ session_of (case_of m.now clock.now set.now seeks.now all_ahead (T.kind rule))) }
+    ensures rungs { IfOk result (λ s. All
+        (λ p. (p.rung < rungs_of m.now) × (p.segment < segments_of m.now)) s.played.items) }
     ensures count { IfOk result (λ s. length s.played.items ≤ 34000) }
     ensures ends { IfOk result (λ s. s.end < 1000000000000000) }
     ensures times { IfOk result (λ s. s.startup_ms + s.stall_ms + s.seek_ms ≤ s.end) }

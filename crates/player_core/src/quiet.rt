@@ -22,9 +22,13 @@ impl Body {
     fn request_in(&self, m: &Manifest, set: &Setup, ahead: u32) -> u64
         requires position { self.now.x ≤ self.now.y }
         requires end { self.now.y ≤ 120000000 }
-        requires waits { self.now.k < segments_of m.now → (set.now.buffer_ms < self.now.y - self.now.x + m.now.seg_ms) ⊎ (self.now.t < available_at m.now ahead self.now.k) }
+        requires waits { self.now.k < segments_of m.now
+            → (set.now.buffer_ms < self.now.y - self.now.x + m.now.seg_ms)
+            ⊎ (self.now.t < available_at m.now ahead self.now.k) }
         ensures some { 1 ≤ result }
-        ensures asks { self.now.k < segments_of m.now → (set.now.buffer_ms + result ≤ self.now.y - self.now.x + m.now.seg_ms) ⊎ (self.now.t + result ≤ available_at m.now ahead self.now.k) }
+        ensures asks { self.now.k < segments_of m.now
+            → (set.now.buffer_ms + result ≤ self.now.y - self.now.x + m.now.seg_ms)
+            ⊎ (self.now.t + result ≤ available_at m.now ahead self.now.k) }
     {
         if self.k >= m.segments() {
             return LATEST_MS;
@@ -40,7 +44,8 @@ impl Body {
     /// The milliseconds until a segment begins or play stalls.
     fn begin_in(&self, m: &Manifest) -> u64
         ensures some { 1 ≤ result }
-        ensures plays { is_playing (mode_of self.now.mode) ≡ true → self.now.x < self.now.y → self.now.x % m.now.seg_ms + result ≤ m.now.seg_ms }
+        ensures plays { is_playing (mode_of self.now.mode) ≡ true → self.now.x < self.now.y
+            → self.now.x % m.now.seg_ms + result ≤ m.now.seg_ms }
     {
         if self.mode.is_playing() && self.x < self.y {
             (m.seg_ms() - self.x % m.seg_ms()) as u64
@@ -55,7 +60,10 @@ impl Body {
         requires { CanRest m.now set.now ahead self.now }
         ensures some { 1 ≤ result }
         ensures limit { result ≤ 1000000000000000 }
-        ensures quiet { (c : Case) (history : List ℕ) → c.film ≡ m.now → c.setup ≡ set.now → c.seeks ≡ seeks.now → c.ahead ≡ ahead → IsTimed c.film c.periods self.now.download → IsQuiet c (seen self.now history) result }
+        ensures quiet { (c : Case) (history : List ℕ) → c.film ≡ m.now → c.setup ≡ set.now
+            → c.seeks ≡ seeks.now → c.ahead ≡ ahead
+            → IsTimed c.film c.periods self.now.download
+            → IsQuiet c (seen self.now history) result }
     {
         let wait = match self.download {
             Some(d) => d.quiet_ms(self.t, set),
@@ -67,8 +75,11 @@ impl Body {
     /// So many milliseconds pass at once, in which nothing begins.
     fn glide(&mut self, clock: &Clock, ms: u64)
         requires { CanGlide self.old ms }
-        ensures glides { (c : Case) → c.periods ≡ clock.now → IsTimed c.film c.periods self.old.download → Follows (glides c ms) self.old self.new }
-        ensures timed { (f : Film) → IsTimed f clock.now self.old.download → IsTimed f clock.now self.new.download }
+        ensures glides { (c : Case) → c.periods ≡ clock.now
+            → IsTimed c.film c.periods self.old.download
+            → Follows (glides c ms) self.old self.new }
+        ensures timed { (f : Film) → IsTimed f clock.now self.old.download
+            → IsTimed f clock.now self.new.download }
         ensures instant { self.new.t ≡ self.old.t + ms }
     {
         if let Some(d) = self.download {
@@ -94,7 +105,10 @@ impl Body {
         ahead: u32,
     ) -> Result<(), NoMemory>
         requires { CanWait m.now clock.now set.now seeks.now ahead self.old }
-        ensures { IfOk result (λ _. (kind : RuleKind) → IsCase (case_of m.now clock.now set.now seeks.now ahead kind) → LeftAt (case_of m.now clock.now set.now seeks.now ahead kind) self.old → Waits (case_of m.now clock.now set.now seeks.now ahead kind) self.old self.new) }
+        ensures { IfOk result (λ _. (kind : RuleKind)
+            → IsCase (case_of m.now clock.now set.now seeks.now ahead kind)
+            → LeftAt (case_of m.now clock.now set.now seeks.now ahead kind) self.old
+            → Waits (case_of m.now clock.now set.now seeks.now ahead kind) self.old self.new) }
     {
         let quiet = self.quiet_ms(m, set, seeks, ahead);
         self.pass(m, clock)?;

@@ -66,7 +66,8 @@ impl Running {
         requires segment { self.now.segment < segments_of m.now }
         requires rung { self.now.rung < rungs_of m.now }
         requires first { 1 ≤ bit_ms_of t (download_of self.now) }
-        requires pace { got_of m.now (download_of self.now) ≤ 10000000 * bit_ms_of t (download_of self.now) }
+        requires pace { got_of m.now (download_of self.now)
+            ≤ 10000000 * bit_ms_of t (download_of self.now) }
         ensures { result.rate ≡ sample_of m.now t (download_of self.now) }
     {
         Sample::of(self.got(m), self.bit_ms(t))
@@ -75,7 +76,8 @@ impl Running {
     /// The rung for which the download is given up at an instant, if it is.
     pub fn rung_instead(&self, m: &Manifest, t: u64) -> Option<u8>
         requires judge { CanJudge m.now t (download_of self.now) }
-        ensures value { result ≡ abandonment m.now self.now.segment self.now.rung (progress_of m.now t (download_of self.now)) }
+        ensures value { result ≡ abandonment m.now self.now.segment self.now.rung
+            (progress_of m.now t (download_of self.now)) }
         ensures waited { IfSome result (λ _. 1 ≤ bit_ms_of t (download_of self.now)) }
     {
         let now = Progress {
@@ -93,7 +95,8 @@ impl Running {
         requires short { self.now.done ≤ self.now.asked + 300010000 }
         ensures some { 1 ≤ result }
         ensures arrives { t + result ≤ self.now.done }
-        ensures judges { set.now.abandon ≡ true → (self.now.rung ≡ 0) ⊎ ((m : ℕ) → t < m → m < t + result → is_due_ms (m - self.now.asked) ≡ false) }
+        ensures judges { set.now.abandon ≡ true → (self.now.rung ≡ 0)
+            ⊎ ((m : ℕ) → t < m → m < t + result → is_due_ms (m - self.now.asked) ≡ false) }
     {
         let left = self.done - t;
         if set.abandon && self.rung > 0 {
@@ -105,7 +108,8 @@ impl Running {
 
     /// The first instant spent on bits, once a millisecond has passed.
     fn first_after(&self, t: u64) -> Option<u64>
-        ensures { result ≡ (if is_some self.now.first then self.now.first else (if t == self.now.begins then Some t else None)) }
+        ensures { result ≡ (if is_some self.now.first then self.now.first
+            else (if t == self.now.begins then Some t else None)) }
     {
         match self.first {
             Some(first) => Some(first),
@@ -119,8 +123,10 @@ impl Running {
         requires instant { t ≤ 1000000000000000 }
         requires credit { self.now.job.credit ≤ 100000000 }
         requires left { self.now.job.left ≤ 200000000000 }
-        requires begins { self.now.first ≡ None → is_spent clock.now t self.now.job ≡ (t == self.now.begins) }
-        ensures takes { (c : Case) → c.periods ≡ clock.now → download_of result ≡ takes c t (download_of self.now) }
+        requires begins { self.now.first ≡ None
+            → is_spent clock.now t self.now.job ≡ (t == self.now.begins) }
+        ensures takes { (c : Case) → c.periods ≡ clock.now
+            → download_of result ≡ takes c t (download_of self.now) }
         ensures same { SameRequest self.now result }
     {
         Running {
@@ -135,7 +141,10 @@ impl Running {
         requires instant { t + ms ≤ 2000000000000000 }
         requires credit { self.now.job.credit ≤ 100000000 }
         requires left { self.now.job.left ≤ 200000000000 }
-        ensures takes { (c : Case) → c.periods ≡ clock.now → self.now.begins ≡ first_at c.periods self.now.asked (size_of c.film self.now.segment self.now.rung) → download_of result ≡ taken_ms c t ms (download_of self.now) }
+        ensures takes { (c : Case) → c.periods ≡ clock.now
+            → self.now.begins ≡ first_at c.periods self.now.asked
+            (size_of c.film self.now.segment self.now.rung)
+            → download_of result ≡ taken_ms c t ms (download_of self.now) }
         ensures same { SameRequest self.now result }
     {
         let to = t + ms;

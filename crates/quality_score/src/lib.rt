@@ -28,9 +28,11 @@ impl Model for Tally {
 
     ghost Value = { Tallied };
 
-    ghost view = { λ t. record { utilities = t.utilities; changes = t.changes; last = t.last; count = t.count } };
+    ghost view = { λ t.
+        record { utilities = t.utilities; changes = t.changes; last = t.last; count = t.count } };
 
-    ghost invariant = { λ t. IsSmall (record { utilities = t.utilities; changes = t.changes; last = t.last; count = t.count }) };
+    ghost invariant = { λ t. IsSmall
+        (record { utilities = t.utilities; changes = t.changes; last = t.last; count = t.count }) };
 }
 
 fn weighed(w: &Weights, changes: u64, stall_ms: u64, startup_ms: u64) -> u128

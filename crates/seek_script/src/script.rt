@@ -31,7 +31,8 @@ fn is_header(record: &ByteRecord) -> bool
 
 /// The records behind the header.
 fn behind_header(rows: &[ByteRecord]) -> Result<&[ByteRecord], InputFault>
-    ensures rows { Gives (λ v. map fields_of v.now) result (behind_header (map fields_of rows.now)) }
+    ensures rows { Gives (λ v. map fields_of v.now) result
+        (behind_header (map fields_of rows.now)) }
     ensures count { IfOk result (λ v. length rows.now ≡ length v.now + 1) }
 {
     match rows {
@@ -127,7 +128,8 @@ fn seek_in(
 
 /// The seeks of the records behind the header.
 fn all_seeks(alloc: Global, rows: &[ByteRecord], segments: u16) -> Result<Vec<Seek>, InputFault>
-    ensures seeks { Gives (λ v. v.items) result (each_after (seek_in segments) None 2 (map fields_of rows.now)) }
+    ensures seeks { Gives (λ v. v.items) result
+        (each_after (seek_in segments) None 2 (map fields_of rows.now)) }
     ensures few { OnOk result (length rows.now ≤ 16) }
 {
     let mut seeks = Vec::new(alloc);

@@ -16,7 +16,9 @@ fn put_on_rung<O: Sink>(
     segment: u16,
     rung: u8,
 ) -> Result<(), PutErr>
-    ensures { Puts (O.seen out.old) (fields_line (decimal at ∷ word.now ∷ decimal segment ∷ decimal rung ∷ [])) (O.seen out.new) result }
+    ensures { Puts (O.seen out.old)
+        (fields_line (decimal at ∷ word.now ∷ decimal segment ∷ decimal rung ∷ []))
+        (O.seen out.new) result }
 {
     let (segment, rung) = (segment as i128, rung as i128);
     put_fields(
@@ -38,7 +40,9 @@ fn put_arrival<O: Sink>(
     first: u64,
     rate: u64,
 ) -> Result<(), PutErr>
-    ensures { Puts (O.seen out.old) (fields_line (event_fields (Event.Arrive at segment rung first rate))) (O.seen out.new) result }
+    ensures { Puts (O.seen out.old)
+        (fields_line (event_fields (Event.Arrive at segment rung first rate)))
+        (O.seen out.new) result }
 {
     put_fields(
         out,
@@ -63,7 +67,9 @@ fn put_abandonment<O: Sink>(
     to: u8,
     got: u32,
 ) -> Result<(), PutErr>
-    ensures { Puts (O.seen out.old) (fields_line (event_fields (Event.Abandon at segment rung to got))) (O.seen out.new) result }
+    ensures { Puts (O.seen out.old)
+        (fields_line (event_fields (Event.Abandon at segment rung to got)))
+        (O.seen out.new) result }
 {
     put_fields(
         out,
@@ -81,7 +87,8 @@ fn put_abandonment<O: Sink>(
 }
 
 fn put_seek<O: Sink>(out: &mut O, at: u64, to: u16, wasted: u64) -> Result<(), PutErr>
-    ensures { Puts (O.seen out.old) (fields_line (event_fields (Event.Seek at to wasted))) (O.seen out.new) result }
+    ensures { Puts (O.seen out.old) (fields_line (event_fields (Event.Seek at to wasted)))
+        (O.seen out.new) result }
 {
     let (to, wasted) = (to as i128, wasted as i128);
     put_fields(

@@ -26,7 +26,8 @@ pub struct Total {
 impl Total {
     /// The total of no pair: all is 0.
     pub fn start() -> Total
-        ensures zero { result ≡ record { score = pos 0; best = pos 0; regret = pos 0; worst = pos 0; count = 0 } }
+        ensures zero { result
+            ≡ record { score = pos 0; best = pos 0; regret = pos 0; worst = pos 0; count = 0 } }
         ensures stands { StandsFor [] result }
     {
         Total {
@@ -44,7 +45,8 @@ impl Total {
         requires pair { AreScores (score, best) }
         requires room { self.old.count < 64 }
         requires list { (ps : List Scores) × StandsFor ps self.old }
-        ensures { (ps : List Scores) → StandsFor ps self.old → StandsFor (ps ++ (score, best) ∷ []) self.new }
+        ensures { (ps : List Scores) → StandsFor ps self.old
+            → StandsFor (ps ++ (score, best) ∷ []) self.new }
     {
         let regret = best - score;
         self.score += score;

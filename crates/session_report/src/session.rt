@@ -14,7 +14,8 @@ use player_core::{Event, Session};
 use quality_score::score;
 
 fn put_events<O: Sink>(out: &mut O, events: &[Event]) -> Result<(), PutErr>
-    ensures { Puts (O.seen out.old) (flat_map (λ e. fields_line (event_fields e)) events.now) (O.seen out.new) result }
+    ensures { Puts (O.seen out.old) (flat_map (λ e. fields_line (event_fields e)) events.now)
+        (O.seen out.new) result }
 {
     for event in events {
         put_event(out, *event)?;
@@ -24,7 +25,8 @@ fn put_events<O: Sink>(out: &mut O, events: &[Event]) -> Result<(), PutErr>
 
 // A line for each word and its number.
 fn put_counters<O: Sink>(out: &mut O, counters: &[[Piece<'_>; 2]]) -> Result<(), PutErr>
-    ensures { Puts (O.seen out.old) (flat_map (λ c. fields_line (map piece_text c)) counters.now) (O.seen out.new) result }
+    ensures { Puts (O.seen out.old) (flat_map (λ c. fields_line (map piece_text c)) counters.now)
+        (O.seen out.new) result }
 {
     for counter in counters {
         put_fields(out, counter)?;
@@ -42,7 +44,9 @@ fn score_of(s: &Session, w: &Weights) -> i128
 
 fn put_summary<O: Sink>(out: &mut O, s: &Session, w: &Weights) -> Result<(), PutErr>
     requires { CanReport (shown s.now) w.now }
-    ensures { Puts (O.seen out.old) (counter_lines (shown s.now) (session_score (shown s.now) w.now)) (O.seen out.new) result }
+    ensures { Puts (O.seen out.old)
+        (counter_lines (shown s.now) (session_score (shown s.now) w.now))
+        (O.seen out.new) result }
 {
     put_counters(
         out,
@@ -77,7 +81,8 @@ pub fn write_session<O: Sink>(s: &Session, w: &Weights, out: &mut O) -> Result<(
 /// The conditions are those of `write_session`. After an `Err` a prefix of the row went out. It takes no memory of its own.
 pub fn compare_row<O: Sink>(name: &str, s: &Session, w: &Weights, out: &mut O) -> Result<(), PutErr>
     requires { CanReport (shown s.now) w.now }
-    ensures { Puts (O.seen out.old) (comparison_row name.now (shown s.now) w.now) (O.seen out.new) result }
+    ensures { Puts (O.seen out.old) (comparison_row name.now (shown s.now) w.now)
+        (O.seen out.new) result }
 {
     put_fields(
         out,

@@ -56,7 +56,8 @@ fn is_header(fields: &ByteRecord) -> bool
 
 /// The records behind the header.
 fn behind_header(rows: &[ByteRecord]) -> Result<&[ByteRecord], InputFault>
-    ensures rows { Gives (λ v. map fields_of v.now) result (behind_header (map fields_of rows.now)) }
+    ensures rows { Gives (λ v. map fields_of v.now) result
+        (behind_header (map fields_of rows.now)) }
     ensures count { IfOk result (λ v. length rows.now ≡ length v.now + 1) }
 {
     match rows {
@@ -128,7 +129,8 @@ fn period_in_row(fields: &ByteRecord, row: u32) -> Result<Period, InputFault>
 
 /// The periods of the records behind the header.
 fn all_rows(alloc: Global, rows: &[ByteRecord]) -> Result<Vec<Period>, InputFault>
-    ensures periods { Gives (λ v. v.items) result (each_from period_in_row 2 (map fields_of rows.now)) }
+    ensures periods { Gives (λ v. v.items) result
+        (each_from period_in_row 2 (map fields_of rows.now)) }
     ensures few { OnOk result (length rows.now ≤ 100000) }
 {
     let mut periods = Vec::new(alloc);
