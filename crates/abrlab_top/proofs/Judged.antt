@@ -144,6 +144,7 @@ module _ (c : CommandWords) (i : InputValues) (old new : Shelved) (film : HasFil
   late (stop.File (role.TraceAt place) why) l h = absurd l
   late (stop.File role.Seeks why) l h = absurd l
 
+  -- the check of the command's files comes to what judging gave: its answer, or the stop that comes first
   pub judged_comes : (r : Result Judgement Halt) → Judges c i r → Comes (files_of c) judged (check c) old r new
   judged_comes (Ok j) h = (asks, comes_to (Ok (judged j)) h)
   judged_comes (Err (halt.Stopped why)) h = late why h.0 h.1
@@ -167,6 +168,7 @@ module _ (c : CommandWords) (j : Judgement) (old new : Shelved) (out out2 : Seen
   said Yes e w = (asks, answers _ _ (rw (← e) refl) w)
   said (No clause segment rung label) e w = (asks, answers _ _ (rw (← e) refl) w, verb)
 
+  -- once the answer was put out, or failed to be, the command ends as the verdict and the sink say
   pub judged_ends : (r : Result (Unit {0}) PutErr) → Puts out (judged j).text out2 r → Ends c old out (ending_of (verdict_ending j.verdict) r) new out2
   judged_ends (Ok done) p = said j.verdict refl p.answered
   judged_ends (Err put.Failed) p = (asks, record { rose = p.answered.1; steady = p.steady }, answers IsWritten _ (written j.verdict) p.answered.0)

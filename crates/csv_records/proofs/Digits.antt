@@ -51,14 +51,17 @@ capped least most n h = elim (cases_lt n (2 ^ 64 - 1)) [
     above : (m : ℕ) → most < m → in_range least most m ≡ Err fault.OutOfRange
     above m lt = none (nat_le least m) (nat_le m most) m (grind (arith, nat_tests))
 
+-- for digits, their value, cut off at 2 ^ 64 - 1, passes or fails the range as the whole number does
 pub whole-read : (least most : ℕ) (field : List ℕ) (n : ℕ) → most < 2 ^ 32 → are_digits field ≡ true → n ≡ min (digits_value 10 field) (2 ^ 64 - 1) → in_range least most n ≡ whole_number least most field
 unfolding whole_number
 whole-read least most field n h d e = ap (in_range least most) e ∙ capped least most (digits_value 10 field) (omega arith) ∙ rw d refl
 
+-- a field that isn't all digits is refused as a whole number for how it is spelled
 pub whole-other : (least most : ℕ) (field : List ℕ) → are_digits field ≡ false → Err (spelling_fault field) ≡ whole_number least most field
 unfolding whole_number
 whole-other least most field d = rw d refl
 
+-- for digits, a thousand times their value, cut off at 2 ^ 64 - 1, passes or fails the range as the field does
 pub thousandths-whole : (least most : ℕ) (field : List ℕ) (n value : ℕ) → most < 2 ^ 32 → are_digits field ≡ true → value ≡ min (digits_value 10 field) (2 ^ 64 - 1) → n ≡ min (value * 1000) (2 ^ 64 - 1)
     → in_range (1000 * least) (1000 * most) n ≡ thousandths least most field
 unfolding thousandths
@@ -66,12 +69,14 @@ thousandths-whole least most field n value h d v e =
     let m : n ≡ min (1000 * digits_value 10 field) (2 ^ 64 - 1) = omega arith in
     ap (in_range (1000 * least) (1000 * most)) m ∙ capped (1000 * least) (1000 * most) (1000 * digits_value 10 field) (omega arith) ∙ rw d refl
 
+-- for digits with up to three more behind a point, the thousandths, cut off at 2 ^ 64 - 1, pass or fail as the field does
 pub thousandths-read : (least most : ℕ) (field : List ℕ) (n : ℕ) → most < 2 ^ 32 → are_digits field ≡ false → is_in_thousandths field ≡ true → n ≡ min (thousandths_of field) (2 ^ 64 - 1)
     → in_range (1000 * least) (1000 * most) n ≡ thousandths least most field
 unfolding thousandths
 thousandths-read least most field n h d t e =
     ap (in_range (1000 * least) (1000 * most)) e ∙ capped (1000 * least) (1000 * most) (thousandths_of field) (omega arith) ∙ rw (d, t) refl
 
+-- any other field is refused as thousandths for how it is spelled
 pub thousandths-other : (least most : ℕ) (field : List ℕ) → are_digits field ≡ false → is_in_thousandths field ≡ false → Err (spelling_fault field) ≡ thousandths least most field
 unfolding thousandths
 thousandths-other least most field d t = rw (d, t) refl

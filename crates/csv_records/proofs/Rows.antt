@@ -113,6 +113,7 @@ pub record Stands (xs : List ℕ) (rows : List Fields) (s : State) (y : List ℕ
   pub between : ends_at_end s ≡ false
   pub rest : records default_config xs ≡ rows ++ records_from default_config fuel s y
 
+-- at the start of a text no row was read
 pub stands_start : (xs : List ℕ) → Stands xs [] st.StartRecord xs
 stands_start xs = record { fuel = length xs + 1; enough = omega arith; between = refl; rest = refl }
 
@@ -138,9 +139,11 @@ more xs rows s (c ∷ y) p (suc n) lt b r e =
       rest = r ∙ ap (λ (t : List Fields). rows ++ t) (next_of n s (c ∷ y) p e) ∙ sym (append_assoc rows (p.0 ∷ []) (records_from default_config n p.1 p.2));
     }
 
+-- the next record is one row more
 pub stands_more : (xs : List ℕ) (rows : List Fields) (s : State) (y : List ℕ) (p : Read) → Stands xs rows s y → next_record default_config s [] [] y ≡ Some p → Stands xs (rows ++ p.0 ∷ []) p.1 p.2
 stands_more xs rows s y p h e = more xs rows s y p h.fuel h.enough h.between h.rest e
 
+-- where no record follows, the rows are all records of the text
 pub stands_end : (xs : List ℕ) (rows : List Fields) (s : State) (y : List ℕ) → Stands xs rows s y → next_record default_config s [] [] y ≡ None → records default_config xs ≡ rows
 stands_end xs rows s y h e = h.rest ∙ ap (λ (t : List Fields). rows ++ t) (none_of h.fuel s y e) ∙ append-nil rows
 
@@ -164,6 +167,7 @@ more_rows (Some n) rest = take_while (has_width n) rest
 abbrev pub Fit : List Fields → Type 0
 Fit rows = (rest : List Fields) → even_rows (rows ++ rest) ≡ rows ++ more_rows (width_of rows) rest
 
+-- an empty list of rows is even
 pub fit_none : Fit []
 fit_none rest = refl
 
@@ -180,6 +184,7 @@ fit_step : (rows : List Fields) (r : List (List ℕ)) (rest : List Fields) → f
 fit_step [] r rest e = kept (length r) r rest (own_width r)
 fit_step (x ∷ xs) r rest e = kept (length x) r rest e
 
+-- even rows stay even with one more of their width
 pub fit_more : (rows : List Fields) (r : List (List ℕ)) → Fit rows → fits (width_of rows) r ≡ true → Fit (rows ++ r ∷ [])
 fit_more rows r h e rest =
     ap even_rows (append_assoc rows (r ∷ []) rest) ∙ h (r ∷ rest) ∙ ap (λ (t : List Fields). rows ++ t) (fit_step rows r rest e)
@@ -222,6 +227,7 @@ pub same_width : (w : Option ℕ) (r : List (List ℕ)) (after : Option ℕ) →
 same_width None r after h = refl
 same_width (Some n) r after h = let e : n ≡ length r = cc in eq-eqb (length r) n (sym e)
 
+-- where another length is expected, a row does not fit
 pub other_width : (w : Option ℕ) (r : List (List ℕ)) (n : ℕ) → w ≡ Some n → (n ≢ length r) → fits w r ≡ false
 other_width w r n e d = rw e (go (length r == n) refl)
   where
@@ -229,10 +235,12 @@ other_width w r n e d = rw e (go (length r == n) refl)
     go true h = let q : length r ≡ n = grind (arith, nat_tests) in absurd (d (sym q))
     go false h = refl
 
+-- where a record was read there is one, and it has these fields and leaves this state and these bytes
 pub next_is : (o : Option Read) (f : List (List ℕ)) (s : State) (z : List ℕ) → NextIs o true f s z → (p : Read) × (o ≡ Some p) × (f ≡ p.0) × (s ≡ p.1) × (z ≡ p.2)
 next_is None f s z n = cc n
 next_is (Some p) f s z n = (p, refl, n.1, n.2, n.3)
 
+-- a reader that took a record took the next one of its bytes, and left what that one leaves
 pub took_is : (cfg : Config) (s b : State) (y : List ℕ) (k : Option (List ℕ)) (f : List (List ℕ)) → ReadsNext cfg s (Some y) k true f b
     → (p : Read) × (next_record cfg s [] [] y ≡ Some p) × (f ≡ p.0) × (b ≡ p.1) × (k ≡ Some p.2)
 took_is cfg s b y None f r = absurd r
@@ -304,6 +312,7 @@ expected_more : (rows : List Fields) (f : List (List ℕ)) (after : Option ℕ) 
 expected_more [] f after h = h.1
 expected_more (x ∷ xs) f after h = h.0
 
+-- a record that is read behind even rows is one more row, and the rows stay even
 pub went : {R : Type 0} (rem : R → Option (List ℕ)) (a b : Reader R) (xs y : List ℕ) (rows : List Fields) (f : List (List ℕ))
     → a.config ≡ default_config → a.flexible ≡ false → a.expected ≡ width_of rows → Fit rows → source_of rem a ≡ Some y → Stands xs rows a.state y → b.failed ≡ false
     → ReadRecord rem a b true f → Went rem b xs (rows ++ f ∷ [])

@@ -76,6 +76,7 @@ module _ (d : Grid) (g : Task) (chains : Chains) where
   abbrev c : CertificateParts
   c = certificate_of d g chains
 
+  -- the chain of a segment and a rung is the one given, with its names
   pub chain_at : (i q : ℕ) → i < segments_of g.film → q < rungs_of g.film → chain_in (certificate_of d g chains) i q ≡ chain_with_names g chains i q
   chain_at i q low rung =
       let f = λ (k : ℕ). map (λ r. chain_with_names g chains k r) (rungs_below (rungs_of g.film)) in
@@ -83,15 +84,19 @@ module _ (d : Grid) (g : Task) (chains : Chains) where
       (let n = length-range_with_len 0 (segments_of g.film) in omega (arith, n, low)) rung
       ∙ ap (λ k. get_or (f k) q no_chain) (below_at (segments_of g.film) i 0 low) ∙ map_below_at (λ r. chain_with_names g chains i r) (rungs_of g.film) q no_chain rung
 
+  -- it has as many labels as the one given
   pub count_at : (i q : ℕ) → i < segments_of g.film → q < rungs_of g.film → count_in (certificate_of d g chains) i q ≡ length (chains i q)
   count_at i q low rung = ap (λ (x : ChainParts). length x.labels) (chain_at i q low rung)
 
+  -- its labels are those of the one given
   pub label_is : (i q k : ℕ) → i < segments_of g.film → q < rungs_of g.film → label_in (certificate_of d g chains) i q k ≡ get_or (chains i q) k no_label
   label_is i q k low rung = ap (λ (x : ChainParts). get_or x.labels k no_label) (chain_at i q low rung)
 
+  -- the start of a rung is the first place in its first chain whose label dominates the rung's start label
   pub start_is : (q : ℕ) → q < rungs_of g.film → start_in (certificate_of d g chains) q ≡ place_above (chains 0 q) (start_label g q)
   start_is q rung = map_below_at (λ r. place_above (chains 0 r) (start_label g r)) (rungs_of g.film) q 0 rung
 
+  -- the name of a label, for a next rung, is the first place there whose label dominates the successor
   pub name_is : (i q k r : ℕ) → suc i < segments_of g.film → q < rungs_of g.film → k < length (chains i q) → r < rungs_of g.film
       → name_in (certificate_of d g chains) i q k r ≡ place_above (chains (suc i) r) (next_label g (suc i) q (get_or (chains i q) k no_label) r)
   name_is i q k r low rung inside next =

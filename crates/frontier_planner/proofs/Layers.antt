@@ -90,10 +90,12 @@ pub before_none : (g : Task) (chains : Chains) → labels_before g chains 0 ≡ 
 unfolding labels_before
 before_none g chains = refl
 
+-- the labels before the next segment are those before this one and its own
 pub before_next : (g : Task) (chains : Chains) (i : ℕ) → labels_before g chains (suc i) ≡ labels_before g chains i + length (labels_of g chains i)
 unfolding labels_before
 before_next g chains i = refl
 
+-- the same, where the next segment is written as a sum
 pub before_more : (g : Task) (chains : Chains) (i : ℕ) → labels_before g chains (i + 1) ≡ labels_before g chains i + length (labels_of g chains i)
 before_more g chains i = ap (labels_before g chains) (add-one i) ∙ before_next g chains i
 

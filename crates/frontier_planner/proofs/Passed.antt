@@ -25,6 +25,7 @@ use Rattle.frontier_planner.proofs.Kept.{dominates_true}
 pub over_none : (chain : List Label) (from : ℕ) (steps : List Label) → IsOver chain from from steps
 over_none chain from steps k low high = absurd (omega arith)
 
+-- where a step is under the next label too, the staircase stands over one label more
 pub over_more : (chain : List Label) (from i : ℕ) (steps : List Label) → IsOver chain from i steps → HasUnder steps (get_or chain i no_label).p (get_or chain i no_label).v → IsOver chain from (i + 1) steps
 over_more chain from i steps so here k low high =
     ⊎_elim (λ (old : k < i). so k low old)
@@ -53,6 +54,7 @@ pub record Built (chain : List Label) (size : ℕ) (blocks : List Staircase) (be
   pub over : (b k : ℕ) (s : Staircase) → b < length blocks → b * size ≤ k → k < (b + 1) * size → k < length chain
       → HasUnder (get_or blocks b s).steps.items (get_or chain k no_label).p (get_or chain k no_label).v
 
+-- at the start there are no staircases, and no label is covered
 pub built_none : (chain : List Label) (size : ℕ) → Built chain size [] 0
 built_none chain size = record {
   bound = omega arith;
@@ -62,6 +64,7 @@ built_none chain size = record {
   over = λ b k s low. absurd (omega arith);
 }
 
+-- a rising staircase over the next block is one more
 pub built_more : (chain : List Label) (size : ℕ) (blocks : List Staircase) (begin : ℕ) (s : Staircase) → Built chain size blocks begin → begin < length chain
     → IsRising s.steps.items → IsOver chain begin (begin + min size (length chain - begin)) s.steps.items → Built chain size (blocks ++ s ∷ []) (begin + min size (length chain - begin))
 built_more chain size blocks begin s h low rises over =
@@ -85,6 +88,7 @@ built_more chain size blocks begin s h low rises over =
           (subst (λ (x : Staircase). HasUnder x.steps.items (get_or chain k no_label).p (get_or chain k no_label).v) (sym (get_or-append_seam blocks s [] d)) (over k (omega (arith, from, at_least, start)) (omega (arith, from, below, start, there))))) (cases_lt b n);
     }
 
+-- staircases that stand over all labels of a chain are a level of it
 pub built_all : (chain : List Label) (level : Level) (begin : ℕ) → 1 ≤ level.size → level.size ≤ 65536 → Built chain level.size level.blocks.items begin → length chain ≤ begin → IsLevel chain level
 built_all chain level begin some small h late = record {
   some = some;
@@ -132,6 +136,7 @@ block_passed chain level place s l h low none free k high there =
 abbrev pub EachHas : List (Vec Label Global) → List (Vec Level Global) → ℕ → Type 0
 EachHas chains levels n = (q : ℕ) (v : Vec Label Global) (x : Vec Level Global) → q < n → All (IsLevel (get_or chains q v).items) (get_or levels q x).items
 
+-- with the levels of the next chain behind them, one chain more has its levels
 pub levels_more : (chains : List (Vec Label Global)) (levels : List (Vec Level Global)) (i : ℕ) (c : Vec Label Global) (labels : List Label) (new : Vec Level Global)
     → i < length chains → length levels ≡ i → c ≡ get_or chains i c → labels ≡ c.items → All (IsLevel labels) new.items → EachHas chains levels i → EachHas chains (levels ++ new ∷ []) (i + 1)
 levels_more chains levels i c labels new low count here are has each q v x before =

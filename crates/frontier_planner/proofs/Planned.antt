@@ -109,6 +109,7 @@ module _ (g : Task) (case : CanPlan exact g) (budget : ℕ) where
       let above = h.above in
       record { inside = low; before = omega (arith, one, before); above = omega (arith, two, above) }
 
+  -- the coarse answer without its bound is the planner's answer
   pub plan_answer : (r : Result CoarsePlan PlanErr) → CoarseAnswer exact g budget r → PlanAnswer g budget (without_bound r)
   plan_answer (Ok c) h = plan_is c.plan c.bound h
   plan_answer (Err (fault.BudgetSpent s)) h = spent_is s h
@@ -118,5 +119,6 @@ module _ (g : Task) (case : CanPlan exact g) (budget : ℕ) where
 pub exact_answer : (d : Grid) (g : Task) → CanPlan d g → (budget : ℕ) (r : Result CoarsePlan PlanErr) → CoarseAnswer d g budget r → ExactAnswer d g budget r
 exact_answer d g case budget r h e = plan_answer g (subst (λ x. CanPlan x g) e case) budget r (subst (λ x. CoarseAnswer x g budget r) e h)
 
+-- on a grid that is 1, 1 the coarse plan is the plan, and its score is the bound
 pub exact_plan : (d : Grid) (g : Task) → CanPlan d g → (budget : ℕ) (p : Plan) (most : ℤ) → d ≡ exact → IsPlanOf d g (grown d g) budget p most → IsPlanOf exact g (frontier g) budget p p.score
 exact_plan d g case budget p most e h = plan_is g (subst (λ x. CanPlan x g) e case) budget p most (subst (λ x. IsPlanOf x g (grown x g) budget p most) e h)

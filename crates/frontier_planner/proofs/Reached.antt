@@ -32,6 +32,7 @@ pub record IsWellInReach (segment : ℕ) (l : Label) : Type 0 where
   pub delay : l.p ≤ (segment + 1) * 500000000
   pub value : IsNear ((segment + 1) * 3000000000000 + 599999999000000) l.v
 
+-- a label within the limits, with room for a step, is within the limits
 pub well_in_reach : (segment : ℕ) (l : Label) → IsWellInReach segment l → IsInReach segment l
 well_in_reach segment l h = let low = h.value.low in let high = h.value.high in record { time = h.time; delay = h.delay; value = record { low = omega (arith, ints, low); high = omega (arith, ints, high) } }
 
@@ -75,6 +76,7 @@ change_low g is i q r low before rung = let one = utility_low g is i q low befor
 came_soon : (g : Task) → IsTask g → (start i r : ℕ) → i < segments_of g.film → r < rungs_of g.film → came_at g start i r ≤ start + 300010000
 came_soon g is start i r low rung = (done_found g.periods is.trace start (size_of g.film i r) (size_within g.film i r is.film low rung).1).0
 
+-- the start label of a rung lies within the limits, with room for a step
 pub start_reach : (g : Task) → IsTask g → (q : ℕ) → q < rungs_of g.film → IsWellInReach 0 (start_label g q)
 start_reach g is q rung =
     let w = g.setup.weights in
@@ -97,6 +99,7 @@ request_soon g is i low l h =
     let most = mul-le-mul {n₁ = suc i + 1} {m₁ = g.film.seg_ms} {n₂ = 2000} {m₂ = 60000} (let n = is.film.segments.1 in omega (arith, n, low)) is.film.seg_ms.1 in
     omega (arith, time, delay, most)
 
+-- the successor of a label within the limits lies within those of the next segment, with room for a step
 pub next_reach : (g : Task) → IsTask g → (i q r : ℕ) → suc i < segments_of g.film → q < rungs_of g.film → r < rungs_of g.film → (l : Label) → IsInReach i l → IsWellInReach (suc i) (next_label g (suc i) q l r)
 next_reach g is i q r low before rung l h =
     let w = g.setup.weights in
@@ -110,6 +113,7 @@ next_reach g is i q r low before rung l h =
           (next_loss w.switch (change_of w (suc i) (Some q) r) is.weights.weights.switch_fits (change_low g is (suc i) q r low before rung)) h.value;
     }
 
+-- a label with room for a step lies within the limits when it is rounded
 pub round_reach : (d : Grid) → IsGrid d → (i : ℕ) (l : Label) → IsWellInReach i l → IsInReach i (rounded d l)
 round_reach d is i l h =
     let time = h.time in

@@ -66,6 +66,7 @@ best_found g (x ∷ xs) c h = best_from g xs x
 
 -- ---- chains that cover all rung lists are not empty
 
+-- chains that cover all rung lists have a label for each segment and rung
 pub some_label : (g : Task) (chains : Chains) → IsTask g → Covers g chains → (i : ℕ) → i < segments_of g.film → (q : ℕ) → q < rungs_of g.film → (l : Label) × Contains (chains i q) l
 some_label g chains is c zero low q rung = let top = c.starts q rung in (top.0, top.1)
 some_label g chains is c (suc i) low q rung =
@@ -86,10 +87,12 @@ module _ (d : Grid) (g : Task) where
       let is : found.0 ≡ parent_of d g (grown d g) i c = sym (ap (λ o. unwrap_or o (0, no_label)) found.1) in
       subst (λ (b : ℕ × Label). Contains (labels_of g (grown d g) i) b × (rounded d (next_label g (suc i) b.0 b.1 c.0) ≡ c.1)) is (found.2, same_any _ _ found.3)
 
+  -- from a label of segment 0 its own rung alone is read
   pub back_first : (chains : Chains) (c : ℕ × Label) → rungs_back d g chains 0 c ≡ c.0 ∷ []
   unfolding rungs_back
   back_first chains c = refl
 
+  -- from a label of a later segment the rungs up to its parent are read, and then its own
   pub back_next : (chains : Chains) (i : ℕ) (c : ℕ × Label) → rungs_back d g chains (suc i) c ≡ rungs_back d g chains i (parent_of d g chains i c) ++ c.0 ∷ []
   unfolding rungs_back
   back_next chains i c = refl

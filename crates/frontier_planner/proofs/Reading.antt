@@ -71,6 +71,7 @@ same_is a b = grind (arith, nat_tests, ints)
 pub find_on : {X : Type 0} (p : X → Bool) (xs : List X) (i : ℕ) (d : X) → i < length xs → p (get_or xs i d) ≡ false → find p (drop i xs) ≡ find p (drop (i + 1) xs)
 find_on p xs i d low fails = rw (drop-cons xs i d, add-one) (cond-false (p (get_or xs i d)) _ _ fails)
 
+-- a member that passes a test is the first that does from its place on
 pub find_here : {X : Type 0} (p : X → Bool) (xs : List X) (i : ℕ) (d : X) → i < length xs → p (get_or xs i d) ≡ true → find p (drop i xs) ≡ Some (get_or xs i d)
 find_here p xs i d low passes = rw (drop-cons xs i d) (cond-true (p (get_or xs i d)) _ _ passes)
 

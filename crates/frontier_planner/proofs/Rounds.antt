@@ -12,6 +12,7 @@ use Rattle.frontier_planner.specs.Grid.{IsGrid, exact, multiple_above, multiple_
 pub below_low : (step n : ℕ) → 1 ≤ step → multiple_below step n ≤ n
 below_low step n some = omega arith
 
+-- rounding down to a multiple of 1 changes nothing
 pub below_one : (n : ℕ) → multiple_below 1 n ≡ n
 below_one n = omega arith
 
@@ -20,6 +21,7 @@ pub above_high : (step : ℕ) (v : ℤ) → 1 ≤ step → (v ≤ℤ multiple_ab
 above_high step (pos n) some = let t = div_ceil_times n step some in (omega (arith, ints, t.0), omega (arith, ints, t.1))
 above_high step (negsuc n) some = let low : multiple_below step (suc n) ≤ suc n = omega arith in let near : suc n ≤ multiple_below step (suc n) + step = omega arith in (omega (arith, ints, low), omega (arith, ints, near))
 
+-- rounding up to a multiple of 1 changes nothing
 pub above_one : (v : ℤ) → multiple_above 1 v ≡ v
 above_one (pos n) = let t = div_ceil_times n 1 (omega arith) in let low = t.0 in let high = t.1 in ap pos (omega (arith, low, high))
 above_one (negsuc n) = let e = below_one (suc n) in ap (λ m. neg_ℤ (pos m)) e

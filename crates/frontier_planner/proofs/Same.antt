@@ -18,6 +18,7 @@ pub record Agree (g : Task) (a b : Chains) : Type 0 where
   pub same : (i q : ℕ) → i < segments_of g.film → q < rungs_of g.film → a i q ≡ b i q
 
 module _ (d : Grid) (g : Task) (a b : Chains) (h : Agree g a b) where
+  -- a segment has the same labels
   pub labels_same : (i : ℕ) → i < segments_of g.film → labels_of g a i ≡ labels_of g b i
   labels_same i low = by_rung_same (rungs_of g.film) (a i) (b i) (λ q below. h.same i q low below)
 
@@ -30,6 +31,7 @@ module _ (d : Grid) (g : Task) (a b : Chains) (h : Agree g a b) where
       let here : i < segments_of g.film = omega (arith, low) in
       back_next d g a i c ∙ ap (λ x. rungs_back d g a i x ++ c.0 ∷ []) (parent_same i c here) ∙ ap (λ xs. xs ++ c.0 ∷ []) (back_same i (parent_of d g b i c) here) ∙ sym (back_next d g b i c)
 
+  -- as many labels stand before a segment
   pub before_same : (n : ℕ) → n ≤ segments_of g.film → labels_before g a n ≡ labels_before g b n
   unfolding labels_before
   before_same zero low = refl
@@ -54,6 +56,7 @@ module _ (d : Grid) (g : Task) (a b : Chains) (h : Agree g a b) where
   chain_same : (i q : ℕ) → i < segments_of g.film → q < rungs_of g.film → chain_with_names g a i q ≡ chain_with_names g b i q
   chain_same i q low rung = ap₂ (λ (ls : List Label) (ns : List ℕ). record { labels = ls; names = ns }) (h.same i q low rung) (names_same i q low rung)
 
+  -- the chains with their names are equal
   pub chain_list_same : chain_list g a ≡ chain_list g b
   chain_list_same =
       flat_map_same (λ i. map (λ q. chain_with_names g a i q) (rungs_below (rungs_of g.film))) (λ i. map (λ q. chain_with_names g b i q) (rungs_below (rungs_of g.film))) (rungs_below (segments_of g.film))
@@ -64,16 +67,20 @@ module _ (d : Grid) (g : Task) (a b : Chains) (h : Agree g a b) where
     last_inside : segments_of g.film - 1 < segments_of g.film
     last_inside = let some = is.film.segments.0 in omega (arith, some)
 
+    -- the plan ends in the same label
     pub end_same : end_of_plan g a ≡ end_of_plan g b
     end_same = ap (best_in g) (labels_same (segments_of g.film - 1) last_inside)
 
+    -- the bound is the same
     pub bound_same : bound_of g a ≡ bound_of g b
     bound_same = ap (λ (c : ℕ × Label). end_value g c.1) end_same
 
+    -- the plan has the same rung list
     pub list_same : list_of_plan d g a ≡ list_of_plan d g b
     unfolding list_of_plan
     list_same = ap (rungs_back d g a (segments_of g.film - 1)) end_same ∙ back_same (segments_of g.film - 1) (end_of_plan g b) last_inside
 
+    -- the starts are equal
     pub starts_same : starts_of g a ≡ starts_of g b
     starts_same =
         map_same (λ q. place_above (a 0 q) (start_label g q)) (λ q. place_above (b 0 q) (start_label g q)) (rungs_below (rungs_of g.film))

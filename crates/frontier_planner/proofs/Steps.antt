@@ -22,22 +22,27 @@ rising_between steps rising i j d low inside =
     ⊎_elim (λ (less : i < j). let step = rising i j d less inside in let p = step.0 in let v = step.1 in (omega (arith, p), omega (arith, ints, v)))
     (λ (same : j ≤ i). let e : i ≡ j = omega (arith, low, same) in subst (λ k. ((get_or steps i d).p ≤ (get_or steps k d).p) × ((get_or steps i d).v ≤ℤ (get_or steps k d).v)) e (omega arith, omega (arith, ints))) (cases_lt i j)
 
+-- along a staircase no delay falls
 pub delays_rise : (steps : List Label) → IsRising steps → IsNonDecreasingBy (λ s. s.p) steps
 delays_rise steps rising i j d low inside = (rising_between steps rising i j d low inside).0
 
+-- where the test of two integers passes, the first is no greater
 pub int_le_true : (a b : ℤ) → int_le a b ≡ true → a ≤ℤ b
 int_le_true a b h = grind (arith, ints)
 
+-- where the first is no greater, the test passes
 pub le_int_le : (a b : ℤ) → a ≤ℤ b → int_le a b ≡ true
 le_int_le a b h = grind (arith, ints)
 
 z_trans : (a b c : ℤ) → a ≤ℤ b → b ≤ℤ c → a ≤ℤ c
 z_trans a b c h k = omega (arith, ints)
 
+-- along a staircase the values up to a number come before those above it
 pub parted_by_value : (steps : List Label) (v : ℤ) → IsRising steps → IsPartitionedBy (λ s. int_le s.v v) steps
 parted_by_value steps v rising i j d low inside h =
     le_int_le (get_or steps i d).v v (z_trans (get_or steps i d).v (get_or steps j d).v v (rising_between steps rising i j d low inside).1 (int_le_true (get_or steps j d).v v h))
 
+-- where the test fails, the second is less
 pub int_le_false : (a b : ℤ) → int_le a b ≡ false → b <ℤ a
 int_le_false a b h = grind (arith, ints)
 
@@ -58,6 +63,7 @@ covers_last steps count p v d rising bound above h =
     (omega (arith, low), z_trans v (get_or steps k d).v (get_or steps (count - 1) d).v (subst (λ (s : Label). v ≤ℤ s.v) (sym at) h.3) more))
     (λ (late : count ≤ k). let far = subst (λ (s : Label). p < s.p) h.1.2 (above k h.0 late inside) in absurd (omega (arith, far, short))) (cases_lt k count)
 
+-- where the first steps have no greater delay, and the last of them no less a value, some step is under these
 pub under_last : (steps : List Label) (count p : ℕ) (v : ℤ) (d : Label) → count ≤ length steps → AllWithin (λ s. s.p ≤ p) steps 0 count → 0 < count → v ≤ℤ (get_or steps (count - 1) d).v → HasUnder steps p v
 under_last steps count p v d bound below some worth =
     (get_or steps (count - 1) d, Contains-get_or steps (count - 1) d (omega (arith, some, bound)), below (count - 1) d (omega arith) (omega (arith, some)), worth)

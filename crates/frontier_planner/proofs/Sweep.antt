@@ -159,6 +159,7 @@ swept_all xs kept steps s =
 
 -- ---- the labels in order
 
+-- the order of time, delay and falling value is one to sort by
 pub sweep_ranks : IsStrictWeakOrder (λ (a b : Label). is_lt (sweep_cmp a b))
 sweep_ranks = ranks_by sweep_total (λ (l : Label). l)
 

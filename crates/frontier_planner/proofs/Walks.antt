@@ -114,11 +114,13 @@ module _ {X : Type 0} where
 
 -- functions that agree on the elements give the same lists
 module _ {X Y : Type 0} where
+  -- functions that agree on the members of a list make the same list of it
   pub map_same : (f h : X → Y) (xs : List X) → ((x : X) → Contains xs x → f x ≡ h x) → map f xs ≡ map h xs
   map_same f h [] same = refl
   map_same f h (x ∷ xs) same =
       ap (λ y. y ∷ map f xs) (same x (at_head x xs)) ∙ ap (λ ys. h x ∷ ys) (map_same f h xs (λ z there. same z (at_tail x xs z there)))
 
+  -- functions that agree on the members of a list, each giving a list, make the same joined list
   pub flat_map_same : (f h : X → List Y) (xs : List X) → ((x : X) → Contains xs x → f x ≡ h x) → flat_map f xs ≡ flat_map h xs
   flat_map_same f h [] same = refl
   flat_map_same f h (x ∷ xs) same =

@@ -49,6 +49,7 @@ pub record IsSpelling (ds : Text) : Type 0 where
   pub some : 0 < length ds
   pub first : get_or ds 0 0 ≡ 48 → length ds ≡ 1
 
+-- digits that are taken as a number keep its rules
 pub IsSpelling-from_test : (ds : Text) → is_number ds ≡ true → IsSpelling ds
 IsSpelling-from_test [] h = absurd cc
 IsSpelling-from_test (c ∷ []) h = record { digits = h; some = omega arith; first = λ e. refl }
@@ -60,6 +61,7 @@ IsSpelling-from_test (c ∷ d ∷ cs) h =
     zero_first true h e = cc
     zero_first false h e = cc
 
+-- digits that keep the rules are taken as a number
 pub test-from_spelling : (ds : Text) → IsSpelling ds → is_number ds ≡ true
 test-from_spelling [] s = absurd (omega (arith, s.some))
 test-from_spelling (c ∷ []) s = s.digits

@@ -28,6 +28,7 @@ greatest_low passes (suc n) =
     let here = cond_both (passes n) n (greatest_rung passes n) (λ x. x ≤ n) (λ e. omega arith) (λ e. omega (arith, low)) in
     omega (arith, e, here)
 
+-- the greatest rung that passes a test is one of the rungs
 pub greatest_fits : (passes : ℕ → Bool) (rungs : ℕ) → 0 < rungs → greatest_rung passes rungs < rungs
 greatest_fits passes rungs some = let low = greatest_low passes rungs in omega (arith, low)
 
@@ -44,6 +45,7 @@ found_fits P passes default [] h all = h
 found_fits P passes default (q ∷ qs) h all =
     cond_both (passes q) (Some q) (find passes qs) (λ o. P (unwrap_or o default)) (λ e. All-head P q qs all) (λ e. found_fits P passes default qs h (All-tail P q qs all))
 
+-- the least rung that passes a test is one of the rungs
 pub least_fits : (passes : ℕ → Bool) (count : ℕ) → 0 < count → least_rung passes count < count
 least_fits passes count some = found_fits (λ q. q < count) passes 0 (rungs_below count) some (all_below count)
 
@@ -97,6 +99,7 @@ mpc_fits horizon f s x [] some = some
 mpc_fits horizon f s x (c ∷ cs) some =
     best_list_fits (horizon_score f s (robust_rate (c ∷ cs)) x.next x.level x.last) (rungs_of f) (min horizon (segments_of f - x.next)) some
 
+-- each rule chooses a rung of the film
 pub choice_fits : (k : RuleKind) (f : Film) (s : Setup) (x : Context) (history : List ℕ) → IsFilm f → KindFits k f → x.next < segments_of f → choice k f s x history < rungs_of f
 choice_fits (fixed q) f s x history is fits next = fits
 choice_fits (listed rungs) f s x history is fits next = let l = fits.0 in fits.1 x.next 0 (omega (arith, l))

@@ -68,6 +68,7 @@ in_range_within least most n m h =
     let same : n ≡ m = cc (split.1) in
     subst (λ (k : ℕ). IsWithin least most k) same (le_from least n parts.0, le_from n most parts.1)
 
+-- a number that was read keeps its limits
 pub number_within : (least most : ℕ) (text : Text) (m : ℕ) → number_of least most text ≡ Some m → IsWithin least most m
 unfolding number_of
 number_within least most text m h = in_range_within least most (digits_value 10 text) m (chosen (is_number text) _ m h).1
@@ -79,6 +80,7 @@ all_more : (P : ℕ → Type 0) (n : ℕ) (ns : List ℕ) → P n → All P ns �
 all_more P n ns p ps zero d lt = p
 all_more P n ns p ps (suc k) d lt = ps k d (omega arith)
 
+-- numbers that were read keep their limits, and there is one for each text
 pub numbers_within : (least most : ℕ) (texts : List Text) (ns : List ℕ) → all_numbers least most texts ≡ Some ns → All (IsWithin least most) ns × (length ns ≡ length texts)
 numbers_within least most [] ns h =
     let none : [] ≡ ns = cc in
@@ -93,6 +95,7 @@ numbers_within least most (text ∷ texts) ns h =
 some_piece : (text : Text) → 1 ≤ length (pieces_of text)
 some_piece text = omega (arith, length-slice_split (λ b. b == 44) text)
 
+-- a list that was read has one number to the most, and each keeps its limits
 pub list_within : (count least most : ℕ) (text : Text) (ns : List ℕ) → numbers_of count least most text ≡ Some ns → IsWithin 1 count (length ns) × All (IsWithin least most) ns
 unfolding numbers_of
 list_within count least most text ns h =
@@ -111,6 +114,7 @@ risen (x ∷ y ∷ ys) h (suc k) lt =
     let e : suc k + 1 ≡ suc (k + 1) = omega arith in
     rw e (risen (y ∷ ys) (both_true (nat_le x y) _ h).1 k (omega arith))
 
+-- one to 16 utilities that keep their limits, and none is below the one before it
 pub record IsRising (ns : List ℕ) : Type 0 where
   pub count : IsWithin 1 16 (length ns)
   pub each : All (IsWithin 0 1000000) ns

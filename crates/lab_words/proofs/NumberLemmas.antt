@@ -63,6 +63,7 @@ and_false false = refl
 below_is : (x y : ℕ) → x ≤ y → nat_le x y ≡ true
 below_is x y h = grind (arith, nat_tests)
 
+-- numbers of which none is below the one before it pass the test
 pub rising : (xs : List ℕ) → IsNonDecreasing xs → never_falls xs ≡ true
 rising [] h = refl
 rising (x ∷ []) h = refl
@@ -71,6 +72,7 @@ rising (x ∷ y ∷ ys) h =
     let later : never_falls (y ∷ ys) ≡ true = rising (y ∷ ys) (λ i j d l lt. h (suc i) (suc j) d (omega arith) (omega arith)) in
     rw (here, later) refl
 
+-- numbers of which one is below the one before it fail the test
 pub falling : (xs : List ℕ) (k : ℕ) → k + 1 < length xs → ((d : ℕ) → get_or xs (k + 1) d < get_or xs k d) → never_falls xs ≡ false
 falling [] k lt h = absurd (omega arith)
 falling (x ∷ []) k lt h = absurd (omega arith)

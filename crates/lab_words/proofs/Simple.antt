@@ -17,22 +17,27 @@ use Rattle.lab_words.specs.Plan.{plan_app}
 use Rattle.lab_words.specs.Simulate.{simulate_app}
 use Rattle.lab_words.specs.Table.{accepted, is_fault_free, table_app, with_words}
 
+-- the command line of `simulate` is of the simple kind
 pub simulate_simple : is_simple_and_free simulate_app ≡ true
 unfolding simulate_app table_app with_words
 simulate_simple = refl
 
+-- the command line of `compare` is of the simple kind
 pub compare_simple : is_simple_and_free compare_app ≡ true
 unfolding compare_app table_app with_words
 compare_simple = refl
 
+-- the command line of `plan` is of the simple kind
 pub plan_simple : is_simple_and_free plan_app ≡ true
 unfolding plan_app table_app with_words
 plan_simple = refl
 
+-- the command line of `check` is of the simple kind
 pub check_simple : is_simple_and_free check_app ≡ true
 unfolding check_app table_app with_words
 check_simple = refl
 
+-- the command line of `demo` is of the simple kind
 pub demo_simple : is_simple_and_free demo_app ≡ true
 unfolding demo_app table_app with_words
 demo_simple = refl

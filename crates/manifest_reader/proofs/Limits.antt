@@ -23,6 +23,7 @@ placed-ok : {A : Type 0} (k : Key) (row column : ℕ) (r : Result A Fault) (x : 
 placed-ok k row column (Ok y) x h = cc
 placed-ok k row column (Err f) x h = absurd cc
 
+-- a list that passes is the one given, and has one member to the most
 pub counted-within : (k : Key) (most : ℕ) (ds found : Items) → counted k most ds ≡ Ok found → (ds ≡ found) × IsWithin 1 most (items_len found)
 counted-within k most ds found h =
     let some = test_err (items_len ds == 0) (cond (nat_lt most (items_len ds)) (Err (refusal kind.OutOfRange k 0 0)) (Ok ds)) found (refusal kind.Empty k 0 0) h in
@@ -30,6 +31,7 @@ counted-within k most ds found h =
     let same : ds ≡ found = cc in
     (same, subst (λ (xs : Items). IsWithin 1 most (items_len xs)) same (grind (arith, nat_tests, some.0), grind (arith, nat_tests, few.0)))
 
+-- the list that was read under a key has one member to the most
 pub counted_list-within : (k : Key) (name : List ℕ) (most : ℕ) (d : Data) (found : Items) → counted_list k name most d ≡ Ok found → IsWithin 1 most (items_len found)
 counted_list-within k name most d found h =
     let ds = then_ok (placed k 0 0 (list_at name d)) (counted k most) found h in
@@ -50,6 +52,7 @@ pub record IsLadder (xs : List ℕ) : Type 0 where
   pub rising : IsStrictlyIncreasing xs
   pub bitrates : All (IsWithin 1 10000000) xs
 
+-- bitrates that were read are one to 16, rise, and keep their limits
 pub bitrates_of-ladder : (d : Data) (xs : List ℕ) → bitrates_of d ≡ Ok xs → IsLadder xs
 bitrates_of-ladder d xs h =
     let ds = then_ok (counted_list key.Bitrates (codes "bitrates_kbps") 16 d) (each_after bitrate_in None 1) xs h in
@@ -82,6 +85,7 @@ pub record IsTable (rungs : ℕ) (xs : List ℕ) : Type 0 where
   pub whole : length xs ≡ rows * rungs
   pub sizes : All (IsWithin 1 200000000) xs
 
+-- sizes that were read are one to 2000 whole rows, and keep their limits
 pub sizes_of-table : (rungs : ℕ) (d : Data) (xs : List ℕ) → sizes_of rungs d ≡ Ok xs → IsTable rungs xs
 sizes_of-table rungs d xs h =
     let ds = then_ok (counted_list key.SegmentSizes (codes "segment_sizes_bits") 2000 d) (λ ds. map_ok concat (each_of (row_in rungs) ds)) xs h in

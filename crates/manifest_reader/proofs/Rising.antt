@@ -21,17 +21,20 @@ abbrev pub Rises : Option ℕ → List ℕ → Type 0
 Rises before [] = Unit {0}
 Rises before (x ∷ xs) = IsAbove before x × Rises (Some x) xs
 
+-- a bitrate that passes is greater than the one before it, and is given as it is
 pub above-ok : (before : Option ℕ) (column m n : ℕ) → above before column m ≡ Ok n → IsAbove before n × (m ≡ n)
 above-ok None column m n h = (tt, cc)
 above-ok (Some b) column m n h =
     let t = test_ok (nat_lt b m) m n (refusal kind.Order key.Bitrates 0 column) h in
     (grind (arith, nat_tests, t.0, t.1), t.1)
 
+-- a bitrate that was read is greater than the one before it
 pub bitrate_in-above : (before : Option ℕ) (column : ℕ) (d : Data) (n : ℕ) → bitrate_in before column d ≡ Ok n → IsAbove before n
 bitrate_in-above before column d n h =
     let m = then_ok (placed key.Bitrates 0 column (number_of 1 10000000 d)) (above before column) n h in
     (above-ok before column m.0 n m.2).0
 
+-- of bitrates that were read, each is greater than the one before it
 pub each-rises : (before : Option ℕ) (column : ℕ) (ds : Items) (xs : List ℕ) → each_after bitrate_in before column ds ≡ Ok xs → Rises before xs
 unfolding each_after
 each-rises before column no_items xs h = let e : [] ≡ xs = cc in subst (Rises before) e tt
@@ -44,6 +47,7 @@ each-rises before column (item d ds) xs h =
 at_later : (x : ℕ) (xs : List ℕ) (k : ℕ) → get_or (x ∷ xs) (suc k + 1) 0 ≡ get_or xs (k + 1) 0
 at_later x xs k = rw (add-one (suc k), add-one k) refl
 
+-- numbers each greater than the one before it rise all along
 pub IsStrictlyIncreasing-rises : (before : Option ℕ) (xs : List ℕ) → Rises before xs → IsStrictlyIncreasing xs
 IsStrictlyIncreasing-rises before [] h k lt = absurd (omega arith)
 IsStrictlyIncreasing-rises before (x ∷ []) h k lt = absurd (omega arith)

@@ -9,6 +9,7 @@ use Rattle.lab_model.specs.Film.{IsWithin}
 abbrev pub IsRow : ℕ → List ℕ → Type 0
 IsRow rungs xs = (length xs ≡ rungs) × All (IsWithin 1 200000000) xs
 
+-- joined rows have as many sizes as all rows together
 pub length-concat : (rungs : ℕ) (rows : List (List ℕ)) → All (IsRow rungs) rows → length (concat rows) ≡ length rows * rungs
 length-concat rungs [] h = omega arith
 length-concat rungs (row ∷ rows) h =
@@ -17,6 +18,7 @@ length-concat rungs (row ∷ rows) h =
     let joined = length-append row (concat rows) in
     grind (arith, first.0, rest, joined)
 
+-- the sizes of joined rows keep their limits
 pub All-concat : (rungs : ℕ) (rows : List (List ℕ)) → All (IsRow rungs) rows → All (IsWithin 1 200000000) (concat rows)
 All-concat rungs [] h = All-nil (IsWithin 1 200000000)
 All-concat rungs (row ∷ rows) h =

@@ -114,6 +114,7 @@ pub all_best : (o : Outlook) (n : ℕ) (d : Draft) (best : Option Draft)
 unfolding completions
 all_best o n d best = refl
 
+-- the greatest utilities of no segments are 0
 pub greatest_none : (w : Weighing) (segment : ℕ) → greatest_from w segment 0 ≡ 0
 unfolding greatest_from
 greatest_none w segment = refl

@@ -14,26 +14,33 @@ use Rattle.network_clock.proofs.Sums.{sum_below_grows, sum_below_at_least}
 use Rattle.network_clock.proofs.Turns.{flow_turns}
 use Rattle.network_clock.specs.Flow.{carried_in, flow, sum_below, used_in}
 
+-- a millisecond takes off the credit that its period uses
 pub pass_credit : (p : Period) (j : Job) → j.credit ≤ 100000000 → (pass p j).credit ≡ j.credit - used_in p
 pass_credit p j h = grind (arith, nat_tests)
 
+-- a millisecond that is spent on bits takes off what its period carries
 pub pass_left : (p : Period) (j : Job) → spends p j ≡ true → (pass p j).left ≡ j.left - p.bandwidth
 pass_left p j h = rw h refl
 
+-- any other millisecond leaves the bits as they are
 pub pass_delay : (p : Period) (j : Job) → spends p j ≡ false → (pass p j).left ≡ j.left
 pass_delay p j h = rw h refl
 
+-- a millisecond that is spent on bits leaves no credit
 pub pass_free : (p : Period) (j : Job) → spends p j ≡ true → (pass p j).credit ≡ 0
 pass_free p j h = rw h refl
 
+-- one millisecond more brings the rate of its period
 pub flow_next : (rate : Period → ℕ) (ps : List Period) (t : ℕ) → flow rate ps (suc t) ≡ flow rate ps t + rate (period_at ps t)
 unfolding sum_below
 flow_next rate ps t = refl
 
+-- after no milliseconds a job is as it was
 pub job_start : (ps : List Period) (from : ℕ) (j : Job) → job_after ps from 0 j ≡ j
 unfolding job_after
 job_start ps from j = refl
 
+-- after one millisecond more it has passed that one's period
 pub job_next : (ps : List Period) (from n : ℕ) (j : Job) → job_after ps from (suc n) j ≡ pass (period_at ps (from + n)) (job_after ps from n j)
 unfolding job_after
 job_next ps from n j = refl
@@ -42,6 +49,7 @@ job_next ps from n j = refl
 pub job_more : (ps : List Period) (from n : ℕ) (j : Job) → job_after ps from (n + 1) j ≡ pass (period_at ps (from + n)) (job_after ps from n j)
 job_more ps from n j = rw add-one (job_next ps from n j)
 
+-- the same, where the milliseconds are told by their instant
 pub job_more_at : (ps : List Period) (from t : ℕ) (j : Job) → from ≤ t → job_after ps from ((t + 1) - from) j ≡ pass (period_at ps t) (job_after ps from (t - from) j)
 job_more_at ps from t j h =
     let one : (t + 1) - from ≡ (t - from) + 1 = omega arith in
@@ -71,6 +79,7 @@ credit_after ps from (suc n) j h =
 pub free_spends : (p : Period) (j : Job) → j.credit ≡ 0 → spends p j ≡ true
 free_spends p j h = grind (arith, nat_tests)
 
+-- without latency each millisecond is spent on bits
 pub no_latency_spends : (p : Period) (j : Job) → p.latency ≡ 0 → spends p j ≡ true
 no_latency_spends p j h = grind (arith, nat_tests)
 
@@ -128,6 +137,7 @@ enough cycle = 200000000 / cycle + 1
 enough_ms : (cycle : ℕ) → 1 ≤ cycle → cycle ≤ 100000000 → (enough cycle * cycle ≤ 300000000) × (200000000 ≤ enough cycle * cycle)
 enough_ms cycle some few = (omega (arith, div-add-mod' 200000000 cycle, mod_below 200000000 cycle some), omega (arith, div-add-mod' 200000000 cycle, mod_below 200000000 cycle some))
 
+-- in 300000000 milliseconds and more a trace carries at least the bits of the greatest download
 pub carries_enough : (ps : List Period) → IsTrace ps → (t n : ℕ) → 300000000 ≤ n → 200000000000 + flow carried_in ps t ≤ flow carried_in ps (t + n)
 carries_enough ps h t n late =
     let q = enough (cycle_ms ps) in

@@ -18,9 +18,11 @@ use Rattle.network_clock.proofs.Turns.{cycle_flow, flow_in_cycle, flow_in_first,
 
 -- ---- the sums as they are made
 
+-- before the first period the one sum is 0
 pub sums_start : (size : Period → ℕ) (ps : List Period) → AreSums size ps 0 (0 ∷ [])
 sums_start size ps = record { count = refl; each = λ k h. let none : k ≡ 0 = omega arith in rw none refl }
 
+-- the sum with one more period goes behind the sums so far
 pub sums_more : (size : Period → ℕ) (ps : List Period) (n : ℕ) (sums : List ℕ) (sum : ℕ) → AreSums size ps n sums → sum ≡ sum_by size (take (n + 1) ps) → AreSums size ps (n + 1) (sums ++ sum ∷ [])
 sums_more size ps n sums sum h e = record {
   count = let l = length_push sums sum in omega (arith, l, h.count);
@@ -38,6 +40,7 @@ sums_last size ps sums n x h last e =
 first_part : (t r : ℕ) → t * r ≡ 0 + (t - 0) * r
 first_part t r = let whole : t - 0 ≡ t = omega arith in rw whole (omega arith)
 
+-- up to an instant of a period the periods before it bring all of theirs, and it brings its milliseconds so far
 pub flow_in_at : (rate : Period → ℕ) (ps : List Period) (k t : ℕ) (d : Period) → k < length ps → cycle_ms (take k ps) ≤ t → t ≤ cycle_ms (take (suc k) ps) → flow_in rate ps t ≡ cycle_flow rate (take k ps) + (t - cycle_ms (take k ps)) * rate (get_or ps k d)
 flow_in_at rate [] k t d h low high = absurd (omega arith)
 flow_in_at rate (p ∷ ps) zero t d h low high = flow_in_first rate p ps t (omega (arith, high)) ∙ first_part t (rate p)
@@ -53,6 +56,7 @@ flow_in_at rate (p ∷ ps) (suc k) t d h low high =
     let scaled = ap (λ n. n * rate (get_or ps k d)) apart in
     omega (arith, whole, within, brought, scaled)
 
+-- an instant between the start of a period and that of the next lies in that period
 pub period_in_at : (ps : List Period) (k t : ℕ) (d : Period) → k < length ps → cycle_ms (take k ps) ≤ t → t < cycle_ms (take (suc k) ps) → get_or ps k d ≡ period_in ps t
 period_in_at [] k t d h low high = absurd (omega arith)
 period_in_at (p ∷ ps) zero t d h low high = sym (period_here p ps t (omega (arith, high)))
@@ -76,6 +80,7 @@ pub record Stands (ps : List Period) (starts sums : List ℕ) (k start sum : ℕ
   pub sum_step : cycle_bits (take (suc k) ps) ≡ cycle_bits (take k ps) + p.duration_ms * p.bandwidth
   pub here : p ≡ get_or ps k p
 
+-- what the sums of a meter say at the place of a period
 pub stands : (ps : List Period) (starts sums : List ℕ) (k start sum : ℕ) (p : Period) → IsMeter ps starts sums → k < length ps → start ≡ get_or starts k start → sum ≡ get_or sums k sum → p ≡ get_or ps k p → Stands ps starts sums k start sum p
 stands ps starts sums k start sum p m place a b c = record {
   place = place;
@@ -90,6 +95,7 @@ stands ps starts sums k start sum p m place a b c = record {
   here = c;
 }
 
+-- the sum at a place and the milliseconds of its period so far give what is carried up to an instant
 pub carried_at : (ps : List Period) (starts sums : List ℕ) (k start sum : ℕ) (p : Period) (t : ℕ) → Stands ps starts sums k start sum p → get_or starts k 0 < t + 1 → t ≤ get_or starts (k + 1) 0 → sum + (t - start) * p.bandwidth ≡ flow_in carried_in ps t
 carried_at ps starts sums k start sum p t s low high =
     let at = flow_in_at carried_in ps k t p s.place (omega (arith, low, s.start_is, s.start_here)) (omega (arith, s.next_start)) in
@@ -109,9 +115,11 @@ bits_bounded (p ∷ ps) h =
     let one = mul-le-mul_left p.duration_ms first.bandwidth in
     omega (arith, rest, ms, bits, one)
 
+-- a cycle of a trace carries at most 10 ^ 18 thousandths of a bit
 pub bits_fit : (ps : List Period) → IsTrace ps → cycle_bits ps ≤ 1000000000000000000
 bits_fit ps h = let most = bits_bounded ps h.periods in let few = h.cycle in omega (arith, most, few)
 
+-- up to an instant of the cycle no more is carried than in all of it
 pub flow_in_fits : (ps : List Period) (t : ℕ) → IsTrace ps → t ≤ cycle_ms ps → flow_in carried_in ps t ≤ cycle_bits ps
 flow_in_fits ps t h inside =
     let grows = sum_below_grows (λ i. carried_in (period_in ps i)) t (cycle_ms ps) inside in
@@ -143,6 +151,7 @@ pub record ReachesIn (ps : List Period) (k target instant : ℕ) : Type 0 where
   pub before : flow_in carried_in ps (instant - 1) < target
   pub there : target ≤ flow_in carried_in ps instant
 
+-- a sum between two of a meter is carried first so long after the period's start as its bandwidth needs
 pub reached_at : (ps : List Period) (starts sums : List ℕ) (k start sum : ℕ) (p : Period) (target : ℕ) → Stands ps starts sums k start sum p → get_or sums k 0 < target → target ≤ get_or sums (k + 1) 0
     → ReachesIn ps k target (start + div_ceil (target - sum) p.bandwidth)
 reached_at ps starts sums k start sum p target s low high =
@@ -171,5 +180,6 @@ reached_at ps starts sums k start sum p target s low high =
       there = omega (arith, there, product, enough);
     }
 
+-- a cycle of a trace carries something
 pub total_positive : (ps : List Period) → IsTrace ps → 1 ≤ cycle_bits ps
 total_positive ps h = let some = cycle_positive ps h in omega (arith, h.carries, some)

@@ -51,6 +51,7 @@ delay_carries (p ∷ ps) h =
 delay_period : (p : Period) → IsPeriod p → IsPeriod (delay_in p)
 delay_period p h = record { duration = h.duration; bandwidth = let most = used_most p in omega (arith, most); latency = h.latency }
 
+-- the delay of a trace is a trace too
 pub delay_trace : (ps : List Period) → IsTrace ps → IsTrace (delay_of ps)
 delay_trace ps h = record {
   count = rw length-map h.count;
@@ -95,6 +96,7 @@ uses_enough ps from h =
     let uses = sum_below_at_least (λ i. used_in (period_at ps i)) 10000 from 10000 (λ i. used_least (period_at ps i) (latency_at ps i h.periods)) in
     omega (arith, uses)
 
+-- where a millisecond is spent on bits, no credit is left or the period has no latency
 pub spent_means : (p : Period) (j : Job) → spends p j ≡ true → (j.credit ≡ 0) ⊎ (p.latency ≡ 0)
 spent_means p j h = ⊎_elim (λ free. inl (eqb-true j.credit 0 free)) (λ none. inr (eqb-true p.latency 0 none)) (or_cases (eqb j.credit 0) (eqb p.latency 0) h)
 
@@ -189,6 +191,7 @@ left_from ps from first t j o later =
     let all = ap (flow carried_in ps) end in
     omega (arith, left, until, after, all)
 
+-- up to the first millisecond that is spent on bits a job loses credit alone
 pub job_until : (ps : List Period) (from first t : ℕ) (j : Job) → j.credit ≤ 100000000 → Opens ps from j.credit first → from ≤ t → t ≤ first
     → job_after ps from (t - from) j ≡ record { credit = j.credit - (flow used_in ps t - flow used_in ps from); left = j.left }
 job_until ps from first t j few o later early =
@@ -198,6 +201,7 @@ job_until ps from first t j few o later early =
     let grows = sum_below_grows (λ i. used_in (period_at ps i)) from t later in
     job_is (job_after ps from (t - from) j) (record { credit = j.credit - (flow used_in ps t - flow used_in ps from); left = j.left }) (omega (arith, credit, all, grows)) (left_until ps from first t j o later early)
 
+-- behind it a job has no credit, and has lost the bits that were carried since
 pub job_from : (ps : List Period) (from first t : ℕ) (j : Job) → j.credit ≤ 100000000 → Opens ps from j.credit first → first < t
     → job_after ps from (t - from) j ≡ record { credit = 0; left = j.left - (flow carried_in ps t - flow carried_in ps first) }
 job_from ps from first t j few o later =

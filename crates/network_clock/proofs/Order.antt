@@ -68,6 +68,7 @@ done_at_once ps start bits none =
     let at = done_is ps start bits 0 (omega arith) (rw job_start (omega (arith, none))) (λ k inside. absurd (omega arith)) in
     omega (arith, at)
 
+-- of two downloads the one that is asked for no later, and is no larger, is done no later
 pub first_in_first_out : (ps : List Period) → IsTrace ps → (start later bits more : ℕ) → start ≤ later → bits ≤ more → more ≤ 200000000 → done_at ps start bits ≤ done_at ps later more
 first_in_first_out ps h start later bits more before fewer few =
     let end = done_at ps later more in

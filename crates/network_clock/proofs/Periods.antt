@@ -9,14 +9,17 @@ use Rattle.lab_model.specs.declared.trace.Period.{Period}
 use Rattle.lab_model.specs.Cycle.{IsPeriod, IsTrace, cycle_ms}
 use Rattle.network_clock.specs.Network.{no_period, period_at, period_in}
 
+-- an instant before the end of the first period lies in it
 pub period_here : (p : Period) (ps : List Period) (t : ℕ) → t < p.duration_ms → period_in (p ∷ ps) t ≡ p
 unfolding period_in
 period_here p ps t h = rw (lt-ltb t p.duration_ms h) refl
 
+-- a later one lies in the periods behind it, as far on as it is past the first
 pub period_later : (p : Period) (ps : List Period) (t : ℕ) → p.duration_ms ≤ t → period_in (p ∷ ps) t ≡ period_in ps (t - p.duration_ms)
 unfolding period_in
 period_later p ps t h = rw (le-ltb t p.duration_ms h) refl
 
+-- without periods an instant lies in none
 pub period_nowhere : (t : ℕ) → period_in [] t ≡ no_period
 unfolding period_in
 period_nowhere t = refl
@@ -25,9 +28,11 @@ period_nowhere t = refl
 pub period_found : (ps : List Period) (i : ℕ) (d : Period) (t : ℕ) → i < length ps → t < (get_or ps i d).duration_ms → get_or ps i d ≡ period_in (drop i ps) t
 period_found ps i d t l h = sym (at_drop_more (λ qs. period_in qs t) ps i d l ∙ period_here (get_or ps i d) (drop (i + 1) ps) t h)
 
+-- an instant past the period at a place is looked for in those behind it
 pub period_passed : (ps : List Period) (i : ℕ) (d : Period) (t : ℕ) → i < length ps → (get_or ps i d).duration_ms ≤ t → period_in (drop (i + 1) ps) (t - (get_or ps i d).duration_ms) ≡ period_in (drop i ps) t
 period_passed ps i d t l h = sym (at_drop_more (λ qs. period_in qs t) ps i d l ∙ period_later (get_or ps i d) (drop (i + 1) ps) t h)
 
+-- behind the last period an instant lies in none
 pub period_missed : (ps : List Period) (i t : ℕ) → length ps ≤ i → period_in (drop i ps) t ≡ no_period
 period_missed ps i t h = at_drop_all (λ qs. period_in qs t) ps i h ∙ period_nowhere t
 
@@ -40,6 +45,7 @@ latency_in (p ∷ ps) t h =
     let rest = latency_in ps (t - p.duration_ms) (All-tail IsPeriod p ps h) in
     ⊎_elim (λ inside. rw (period_here p ps t inside) l) (λ outside. rw (period_later p ps t outside) rest) (cases_lt t p.duration_ms)
 
+-- the bandwidth at an instant of the first cycle keeps its limit
 pub bandwidth_in : (ps : List Period) (t : ℕ) → All IsPeriod ps → (period_in ps t).bandwidth ≤ 10000000000
 bandwidth_in [] t h = rw (period_nowhere t) (omega arith)
 bandwidth_in (p ∷ ps) t h =
@@ -48,10 +54,12 @@ bandwidth_in (p ∷ ps) t h =
     let rest = bandwidth_in ps (t - p.duration_ms) (All-tail IsPeriod p ps h) in
     ⊎_elim (λ inside. rw (period_here p ps t inside) l) (λ outside. rw (period_later p ps t outside) rest) (cases_lt t p.duration_ms)
 
+-- the bandwidth at any instant keeps its limit
 pub bandwidth_at : (ps : List Period) (t : ℕ) → All IsPeriod ps → (period_at ps t).bandwidth ≤ 10000000000
 unfolding period_at
 bandwidth_at ps t h = bandwidth_in ps (t % cycle_ms ps) h
 
+-- the latency at any instant keeps its limit
 pub latency_at : (ps : List Period) (t : ℕ) → All IsPeriod ps → (period_at ps t).latency ≤ 10000
 unfolding period_at
 latency_at ps t h = latency_in ps (t % cycle_ms ps) h

@@ -41,6 +41,7 @@ within ps cycles period t h =
 delay_take : (ps : List Period) (k : ℕ) → cycle_ms (take k (delay_of ps)) ≡ cycle_ms (take k ps)
 delay_take ps k = ap cycle_ms (take-map delay_in k ps) ∙ delay_ms (take k ps)
 
+-- an instant that touches a place of the delay touches it in the trace too
 pub touches_bits : (ps : List Period) (at : Place) (t : ℕ) → Touches (delay_of ps) at t → Touches ps at t
 touches_bits ps at t h =
     let whole = ap (λ n. at.cycles * n) (delay_ms ps) in
@@ -106,6 +107,7 @@ pub record Found (ps : List Period) (cycles k wanted instant : ℕ) : Type 0 whe
   pub last : Touches ps (place cycles k) (instant - 1)
   pub end : Touches ps (place cycles k) instant
 
+-- an instant that is found in the first cycle is found so many cycles later
 pub found_later : (ps : List Period) (cycles k rest wanted inside : ℕ) → k < length ps → cycles * cycle_bits ps + rest ≡ wanted → ReachesIn ps k rest inside → Found ps cycles k wanted (cycles * cycle_ms ps + inside)
 found_later ps cycles k rest wanted inside place parts r = record {
   reaches = reached_later ps cycles rest wanted inside parts r.some r.all r.before r.there;

@@ -11,6 +11,7 @@ least_later : (bound : ℕ) (test : ℕ → Bool) → test zero ≡ false → le
 unfolding least_below
 least_later bound test e = rw e refl
 
+-- the search goes no farther than its bound
 pub least_bounded : (bound : ℕ) (test : ℕ → Bool) → least_below bound test ≤ bound
 unfolding least_below
 least_bounded zero test = omega arith

@@ -14,9 +14,11 @@ use Rattle.network_clock.specs.Flow.{Reaches, carried_in, flow, flow_in, sum_bel
 abbrev pub cycle_flow : (Period → ℕ) → List Period → ℕ
 cycle_flow rate ps = sum_by (λ p. p.duration_ms * rate p) ps
 
+-- within the first period each millisecond brings its rate
 pub flow_in_first : (rate : Period → ℕ) (p : Period) (ps : List Period) (t : ℕ) → t ≤ p.duration_ms → flow_in rate (p ∷ ps) t ≡ t * rate p
 flow_in_first rate p ps t h = sum_below_constant _ (rate p) t (λ i l. ap rate (period_here p ps i (omega arith)))
 
+-- past the first period it brings all of its own, and those behind it the rest
 pub flow_in_rest : (rate : Period → ℕ) (p : Period) (ps : List Period) (t : ℕ) → flow_in rate (p ∷ ps) (p.duration_ms + t) ≡ p.duration_ms * rate p + flow_in rate ps t
 flow_in_rest rate p ps t =
     let whole = sum_below_add (λ i. rate (period_in (p ∷ ps) i)) p.duration_ms t in
@@ -24,6 +26,7 @@ flow_in_rest rate p ps t =
     let rest = sum_below_same (λ i. rate (period_in (p ∷ ps) (p.duration_ms + i))) (λ i. rate (period_in ps i)) t (λ i l. let back : (p.duration_ms + i) - p.duration_ms ≡ i = omega arith in ap rate (period_later p ps (p.duration_ms + i) (omega arith) ∙ ap (period_in ps) back)) in
     omega (arith, whole, first, rest)
 
+-- up to the end of the cycle each period brings all of its own
 pub flow_in_cycle : (rate : Period → ℕ) (ps : List Period) → flow_in rate ps (cycle_ms ps) ≡ cycle_flow rate ps
 unfolding sum_below
 flow_in_cycle rate [] = refl

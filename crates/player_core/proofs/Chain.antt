@@ -43,6 +43,7 @@ module _ (c : Case) (is : IsCase c) (b : Body) (sound : Sound c b.t (seen b []))
       let top : Now c b.t b.t (seen b h) b = record { sound = any_history c b.t b [] h sound; instant = refl; same = refl; timed = timed } in
       now_step c b.t b.t b.t (abandon c) (seen b h) b a top (given c refl refl) (abandon_sound c is b.t (seen b h) top.sound) (abandon_t c (seen b h))
 
+  -- after the abandonment the body stands for a sound player
   pub sound_given : Sound c b.t (seen a [])
   sound_given = body_sound c b.t b.t (abandon c (seen b [])) a (now_given [])
 
@@ -50,10 +51,12 @@ module _ (c : Case) (is : IsCase c) (b : Body) (sound : Sound c b.t (seen b []))
   told_left : (h : List ℕ) (told : List ℕ → Type 0) → ((k : Case) → k.film ≡ c.film → k.setup ≡ c.setup → told (abandon k (seen b h)).history) → told (seek c (abandon c (seen b h))).history
   told_left h told here = subst told (sym (seek_told c (abandon c (seen b h)))) (here c refl refl)
 
+  -- what is true of the history after the abandonment is true of it after the seek and the request
   pub goes_on_told : (h : List ℕ) (told : List ℕ → Type 0) → ((k : Case) → k.film ≡ c.film → k.setup ≡ c.setup → told (abandon k (seen b h)).history) → told (gone_on c (seen b h)).history
   goes_on_told h told here = subst told (sym (request_told c (seek c (abandon c (seen b h))))) (told_left h told here)
 
   module _ (s : Body) (sought : (k : Case) → k.film ≡ c.film → k.seeks ≡ c.seeks → Step (seek k) a s) where
+    -- after the seek the body stands for the player after it
     pub now_left : (h : List ℕ) → Now c b.t (b.t + 1) (seek c (abandon c (seen b h))) s
     now_left h =
         let p = abandon c (seen b h) in
@@ -72,15 +75,19 @@ module _ (c : Case) (is : IsCase c) (b : Body) (sound : Sound c b.t (seen b []))
 
 -- a case and the same whose rule is this one
 module _ (c : Case) (is : IsCase c) (kind : RuleKind) (ruled : kind ≡ c.rule) where
+  -- with this rule the case keeps the limits
   pub ruled_case : IsCase (record c { rule = kind })
   ruled_case = subst (λ r. IsCase (record c { rule = r })) (sym ruled) is
 
+  -- a body that stands for the player does so with this rule
   pub ruled_stands : (b : Body) → StandsAt c b → StandsAt (record c { rule = kind }) b
   ruled_stands b here = subst (λ r. StandsAt (record c { rule = r }) b) (sym ruled) here
 
+  -- what is true of the history is true of it with this rule
   pub ruled_told : (b : Body) (told : List ℕ → Type 0) → told (player_after c b.t).history → told (player_after (record c { rule = kind }) b.t).history
   ruled_told b told h = subst (λ r. told (player_after (record c { rule = r }) b.t).history) (sym ruled) h
 
+  -- what the parts leave with this rule they leave with the case's own
   pub left_ruled : (b : Body) → LeftAt (record c { rule = kind }) b → LeftAt c b
   left_ruled b left = subst (λ r. LeftAt (record c { rule = r }) b) ruled left
 
@@ -112,6 +119,7 @@ start_stands c b e =
       going = λ k low. absurd (omega (arith, low, none));
     }
 
+-- what is true of an empty history is true of that at the start
 pub start_told : (c : Case) (b : Body) → seen b [] ≡ first_player → (told : List ℕ → Type 0) → told [] → told (player_after c b.t).history
 start_told c b e told h =
     let none : b.t ≡ 0 = ap (λ (p : Player). p.t) e in
@@ -119,9 +127,11 @@ start_told c b e told h =
 
 -- at the top of the turn, and after the arrival and the end
 module _ (c : Case) (is : IsCase c) (b : Body) (here : StandsAt c b) where
+  -- at the top of the turn the body stands for a sound player
   pub at_top : Now c b.t b.t (player_after c b.t) b
   at_top = let sound = player_sound c is b.t here.going in record { sound = sound.0; instant = sound.1; same = here.stands.same; timed = here.stands.timed }
 
+  -- the instant of the body is before the latest one
   pub at_early : b.t < latest_ms
   at_early = early_before c is b.t here.going
 
@@ -136,12 +146,14 @@ module _ (c : Case) (is : IsCase c) (b : Body) (here : StandsAt c b) where
         at,
       )
 
+  -- after the arrival and the end the body stands for the player after them
   pub at_stop : (s : Body) → ((k : Case) → k.film ≡ c.film → Step (stopped k) b s) → Now c b.t b.t (stopped c (player_after c b.t)) s
   at_stop s stop =
       let p = player_after c b.t in
       let top = at_top in
       now_step c b.t b.t b.t (stopped c) p b s top (stop c refl) (stopped_sound c b.t p top.sound) (stopped_t c p ∙ top.instant)
 
+  -- and that player is sound with a rule that is the case's
   pub ruled_sound : (s : Body) → Now c b.t b.t (stopped c (player_after c b.t)) s → (kind : RuleKind) → kind ≡ c.rule → Sound (record c { rule = kind }) s.t (seen s [])
   ruled_sound s stop kind ruled =
       let at = body_instant c b.t b.t (stopped c (player_after c b.t)) s stop in
@@ -153,6 +165,7 @@ module _ (c : Case) (is : IsCase c) (b : Body) (here : StandsAt c b) where
       let over = sym (ap (λ (q : Player). is_ended q.mode) stop.same) ∙ ended in
       lefts_at (stopped c (player_after c b.t)) s b.t stop (instant_ended c (player_after c b.t) over)
 
+  -- where the session has ended, what is true of the history so far is true of it after the instant
   pub told_ended : (s : Body) → Now c b.t b.t (stopped c (player_after c b.t)) s → is_ended (mode_of s.mode) ≡ true → (told : List ℕ → Type 0) → told (stopped c (player_after c b.t)).history → told (instant c (player_after c b.t)).history
   told_ended s stop ended told h =
       let over = sym (ap (λ (q : Player). is_ended q.mode) stop.same) ∙ ended in
@@ -163,6 +176,7 @@ module _ (c : Case) (is : IsCase c) (b : Body) (here : StandsAt c b) where
     goes : is_ended (stopped c (player_after c b.t)).mode ≡ false
     goes = sym (ap (λ (q : Player). is_ended q.mode) stop.same) ∙ on
 
+    -- a body that the other parts made of this one is what they leave, at the same instant
     pub left_gone : (kind : RuleKind) → kind ≡ c.rule → (a : Body) → GoesOn (record c { rule = kind }) (stopped c (player_after c b.t)).history s a → IsTimed c.film c.periods a.download → LeftAt c a × (a.t ≡ b.t)
     left_gone kind ruled a gone timed =
         let p = stopped c (player_after c b.t) in
@@ -175,6 +189,7 @@ module _ (c : Case) (is : IsCase c) (b : Body) (here : StandsAt c b) where
         })
         (instant_goes c (player_after c b.t) goes)
 
+    -- what is true of the history after the other parts is true of it after the instant
     pub left_told : (kind : RuleKind) → kind ≡ c.rule → (told : List ℕ → Type 0) → told (gone_on (record c { rule = kind }) (seen s (stopped c (player_after c b.t)).history)).history → told (instant c (player_after c b.t)).history
     left_told kind ruled told h =
         let p = stopped c (player_after c b.t) in
@@ -218,9 +233,11 @@ module _ (c : Case) (is : IsCase c) (a : Body) (left : LeftAt c a) where
       timed = left.stands.timed;
     }
 
+    -- the milliseconds can be counted in which nothing happens
     pub rest_left : CanRest c.film c.setup c.ahead a
     rest_left = rest_ready c is a.t (a.t + 1) (instant c (player_after c a.t)) a at_left_early at_left left_both.1 left_still
 
+    -- a millisecond can pass, and a running download can take its own of the network
     pub pass_left : CanPass (seen a []) × IfSome a.download (CanTake c.periods a.t)
     pass_left =
         let q = instant c (player_after c a.t) in
@@ -257,6 +274,7 @@ module _ (c : Case) (is : IsCase c) (a : Body) (left : LeftAt c a) where
         left_quiet : IsQuiet c (instant c (player_after c a.t)) ms
         left_quiet = subst (λ p. IsQuiet c p ms) left.stands.same (quiet c (instant c (player_after c a.t)).history refl refl refl refl left.stands.timed)
 
+        -- the rest of a quiet stretch can pass at once
         pub glide_left : CanGlide b (ms - 1)
         glide_left =
             let q = instant c (player_after c a.t) in
@@ -264,6 +282,7 @@ module _ (c : Case) (is : IsCase c) (a : Body) (left : LeftAt c a) where
             glide_ready c is (a.t + 1) (a.t + 1) (ms - 1) (pass_ms c q) b (omega (arith, early)) (omega (arith, few)) at_next
             (next_ahead c is (a.t + 1) q (pass_ms c q) ms left_both.0 left_goes left_still left_quiet (pass_next c q left_goes))
 
+        -- a millisecond and then the rest of a quiet stretch at once are a wait
         pub waits_left : (r : Body) → ((k : Case) → k.periods ≡ c.periods → IsTimed k.film k.periods b.download → Follows (glides k (ms - 1)) b r) → r.t ≡ b.t + (ms - 1)
             → (IsTimed c.film c.periods b.download → IsTimed c.film c.periods r.download) → Waits c a r
         waits_left r glide t in_time =
@@ -285,18 +304,22 @@ module _ (c : Case) (is : IsCase c) (a : Body) (left : LeftAt c a) where
 
 -- what a session that is the model's keeps
 module _ (c : Case) (is : IsCase c) (s : Session) (e : shown s ≡ session_of c) where
+  -- all that it played is of a segment and a rung of the film
   pub session_rungs : All (λ p. (p.rung < rungs_of c.film) × (p.segment < segments_of c.film)) s.played.items
   session_rungs = subst (λ (v : Shown). All (λ p. (p.rung < rungs_of c.film) × (p.segment < segments_of c.film)) v.played) (sym e) (last_rungs c is)
 
+  -- it played at most 34000 segments
   pub session_count : length s.played.items ≤ 34000
   session_count = subst (λ (v : Shown). length v.played ≤ 34000) (sym e) (last_count c is)
 
   session_end : s.end ≡ end_of c
   session_end = ap (λ (v : Shown). v.ended) e ∙ last_t c is
 
+  -- it ends before the latest instant
   pub session_ends : s.end < 1000000000000000
   session_ends = let at = session_end in let early = end_early c is in omega (arith, at, early)
 
+  -- its milliseconds before the start, in stalls and in seeks are at most those up to its end
   pub session_times : s.startup_ms + s.stall_ms + s.seek_ms ≤ s.end
   session_times =
       let times = last_times c is in

@@ -78,10 +78,12 @@ sessions_end c is = ends_by c is latest_ms (stay_few c is) (searched (ends_at c)
 
 -- ---- the first ended instant
 
+-- at its end a session has ended
 pub end_found : (c : Case) → IsCase c → ends_at c (end_of c) ≡ true
 unfolding end_of
 end_found c is = let last = sessions_end c is in (least_found latest_ms (ends_at c) last.0 last.1 last.2).1
 
+-- it ends before the latest instant
 pub end_early : (c : Case) → IsCase c → end_of c < latest_ms
 unfolding end_of
 end_early c is =
@@ -90,20 +92,24 @@ end_early c is =
     let low = last.1 in
     omega (arith, most, low)
 
+-- at no instant before its end it has ended
 pub end_before : (c : Case) (k : ℕ) → k < end_of c → ends_at c k ≡ false
 unfolding end_of
 end_before c k low = false_from_ne_true (ends_at c k) (least_before latest_ms (ends_at c) k low)
 
+-- an instant at which it has ended, where it has at none before, is its end
 pub end_is : (c : Case) (n : ℕ) → n < latest_ms → ends_at c n ≡ true → ((k : ℕ) → k < n → ends_at c k ≡ false) → n ≡ end_of c
 unfolding end_of
 end_is c n low here before = least_is latest_ms (ends_at c) n low here (λ k early passes. true≢false (sym passes ∙ before k early))
 
 -- ---- the player at the end
 
+-- the player at the end is at its instant
 pub last_t : (c : Case) → IsCase c → (last_player c).t ≡ end_of c
 unfolding last_player
 last_t c is = instant_t c (player_after c (end_of c)) ∙ (player_sound c is (end_of c) (end_before c)).1
 
+-- the player at the end is sound
 pub last_sound : (c : Case) → IsCase c → (from : ℕ) × Sound c from (last_player c)
 unfolding last_player
 last_sound c is =

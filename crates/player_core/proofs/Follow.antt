@@ -43,6 +43,7 @@ pub record Now (c : Case) (n from : ℕ) (p : Player) (b : Body) : Type 0 where
   pub same : seen b p.history ≡ p
   pub timed : IsTimed c.film c.periods b.download
 
+-- where the body goes through a part that leaves the player sound and in its instant, it stands for the player after it
 pub now_step : (c : Case) (n from to : ℕ) (part : Player → Player) (p : Player) (old new : Body)
     → Now c n from p old → Step part old new → Sound c to (part p) → (part p).t ≡ n → Now c n to (part p) new
 now_step c n from to part p old new now step sound instant = record {
@@ -78,6 +79,7 @@ any_history c from b g h s = record {
 pub body_sound : (c : Case) (n from : ℕ) (p : Player) (b : Body) → Now c n from p b → Sound c from (seen b [])
 body_sound c n from p b now = any_history c from b p.history [] (subst (Sound c from) (sym now.same) now.sound)
 
+-- the body is at that instant
 pub body_instant : (c : Case) (n from : ℕ) (p : Player) (b : Body) → Now c n from p b → b.t ≡ n
 body_instant c n from p b now = ap (λ (q : Player). q.t) now.same ∙ now.instant
 
@@ -108,6 +110,7 @@ load_of c is p end (Some r) runs next = λ none.
       next = omega (arith, next, there, count);
     }
 
+-- the download of a sound body can be loaded where it has arrived
 pub load_ready : (c : Case) → IsCase c → (from : ℕ) (b : Body) → Sound c from (seen b [])
     → IfSome b.download (λ r. r.job.left ≡ 0 → CanLoad c.film (seen b []) (download_of r))
 load_ready c is from b s = load_of c is (seen b []) (end_most c is from (seen b []) s) b.download s.running s.of_next
@@ -127,9 +130,11 @@ judge_of c is p (Some r) runs =
       pace = (runs_pace c is p.t d runs).1;
     }
 
+-- its running download can be judged for abandonment
 pub judge_ready : (c : Case) → IsCase c → (from : ℕ) (b : Body) → Sound c from (seen b []) → IfSome b.download (λ r. CanJudge c.film b.t (download_of r))
 judge_ready c is from b s = judge_of c is (seen b []) b.download s.running
 
+-- it has wasted at most 10 ^ 15 bits
 pub wasted_ready : (c : Case) → IsCase c → (from : ℕ) (b : Body) → Sound c from (seen b []) → b.wasted ≤ 1000000000000000
 wasted_ready c is from b s = let small = wasted_small c is from (seen b []) s in omega (arith, small)
 
@@ -138,12 +143,15 @@ range_of : (c : Case) (t : ℕ) (o : Option Running) → IfSome (option_map down
 range_of c t None runs = tt
 range_of c t (Some r) runs = (runs.segment, runs.rung)
 
+-- its running download is of a segment and a rung of the film
 pub range_ready : (c : Case) (from : ℕ) (b : Body) → Sound c from (seen b []) → IfSome b.download (λ r. (r.segment < segments_of c.film) × (r.rung < rungs_of c.film))
 range_ready c from b s = range_of c b.t b.download s.running
 
+-- it has at most 2000 segments loaded
 pub room_ready : (c : Case) → IsCase c → (from : ℕ) (b : Body) → Sound c from (seen b []) → length b.loaded.items ≤ 2000
 room_ready c is from b s = loaded_most c is from (seen b []) s
 
+-- a body that stands for a sound player can make a request, where there is cause for one
 pub request_ready : (c : Case) → IsCase c → (n from : ℕ) (p : Player) (b : Body) → n < 1000000000000000 → Now c n from p b → CanRequest c.film c.setup c.rule (seen b [])
 request_ready c is n from p b low now =
     let s = body_sound c n from p b now in
@@ -158,6 +166,7 @@ request_ready c is n from p b low now =
       forced = s.forced;
     }
 
+-- a millisecond can pass for it
 pub pass_ready : (c : Case) → IsCase c → (n from : ℕ) (p : Player) (b : Body) → n < 1000000000000000 → Now c n from p b → CanPass (seen b [])
 pass_ready c is n from p b low now =
     let s = body_sound c n from p b now in
@@ -222,6 +231,7 @@ take_of c is t (Some r) runs timed =
       begins = λ none. spent_when c is t d runs none ∙ ap (λ (m : ℕ). eqb t m) (sym timed.0);
     }
 
+-- its running download can take its network millisecond
 pub take_ready : (c : Case) → IsCase c → (n from : ℕ) (p : Player) (b : Body) → Now c n from p b → IfSome b.download (CanTake c.periods b.t)
 take_ready c is n from p b now = take_of c is b.t b.download (body_sound c n from p b now).running now.timed
 
@@ -237,6 +247,7 @@ rest_of c is t (Some r) runs some timed =
     let soon = done_soon c is t d runs in
     (runs.asked, omega (arith, done, early), omega (arith, done, soon))
 
+-- where nothing has arrived and it has no cause to ask, the milliseconds can be counted in which nothing happens to it
 pub rest_ready : (c : Case) → IsCase c → (n from : ℕ) (p : Player) (b : Body) → n < 1000000000000000 → Now c n from p b → IsOpen p → IsStill c p → CanRest c.film c.setup c.ahead b
 rest_ready c is n from p b low now some still =
     let s = body_sound c n from p b now in
@@ -254,6 +265,7 @@ rest_ready c is n from p b low now some still =
           (cases_lt c.setup.buffer_ms (b.y - b.x + c.film.seg_ms));
     }
 
+-- so many milliseconds can pass at once for it that do not take play past the end of what is loaded
 pub glide_ready : (c : Case) → IsCase c → (n from ms : ℕ) (p : Player) (b : Body) → n ≤ 1000000000000000 → ms ≤ 1000000000000000 → Now c n from p b → (is_playing p.mode ≡ true → p.x < p.y → p.x + ms ≤ p.y) → CanGlide b ms
 glide_ready c is n from ms p b low few now ahead =
     let s = body_sound c n from p b now in

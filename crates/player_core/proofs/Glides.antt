@@ -137,6 +137,7 @@ module _ (c : Case) (is : IsCase c) where
       (omega arith) (x ∙ sym x_next) download refl (omega (arith, stall, stall_next)) refl refl)
       (cases_lt p.x p.y)
 
+  -- milliseconds that pass at once and one more, in which nothing begins, are so many and one at once
   pub glides_next : (p : Player) (m : ℕ) → is_ended p.mode ≡ false → IsSmooth c p p.mode m → IfSome p.download (Runs c p.t) → IfSome p.download (λ d. p.t + m < done_at c.periods d.asked (asked_size c d))
       → pass_ms c (glides c m p) ≡ glides c (m + 1) p
   glides_next p m goes smooth runs early = next_in p m p.mode goes smooth runs early

@@ -79,6 +79,7 @@ module _ (c : Case) (is : IsCase c) (t : ℕ) where
   request_moves p h = cond_both (can_ask c p) (asks c p (rung_for c p)) p (λ q. Moved c t p t q) (λ e. inl (asks_turns c is t p h (can_ask_true c p e))) (λ e. moved_none c t p)
 
 module _ (c : Case) (is : IsCase c) (t : ℕ) where
+  -- the parts after the end take a turn or leave the player as it is
   pub gone_on_moves : (r : Player) → r.t ≡ t → Sound c t r → Moved c t r (t + 1) (gone_on c r)
   gone_on_moves r e h =
       let given = abandon_sound c is t r h in
@@ -87,6 +88,7 @@ module _ (c : Case) (is : IsCase c) (t : ℕ) where
       moved_on c t t (t + 1) r (abandon c r) (gone_on c r) (abandon_moves c is t r h)
       (moved_on c t (t + 1) (t + 1) (abandon c r) (seek c (abandon c r)) (gone_on c r) (seek_moves c is t (abandon c r) at) (request_moves c is (t + 1) (seek c (abandon c r)) sought))
 
+  -- and so does a whole instant that does not end the session
   pub instant_moves : (p : Player) → p.t ≡ t → Sound c t p → is_ended (instant c p).mode ≡ false → Moved c t p (t + 1) (instant c p)
   instant_moves p e h =
       cond_both (is_ended (stopped c p).mode) (stopped c p) (gone_on c (stopped c p)) (λ q. is_ended q.mode ≡ false → Moved c t p (t + 1) q)

@@ -17,6 +17,7 @@ pub use Rattle.player_core.specs.Parts.{gone_on, stopped}
 
 -- ---- the start
 
+-- at the start the player is sound
 pub start_sound : (c : Case) → IsCase c → Sound c 0 first_player
 start_sound c is =
     let n = segments_of c.film in
@@ -49,10 +50,12 @@ start_sound c is =
 -- ---- the instant stays the same in its parts
 
 module _ (c : Case) where
+  -- an arrival leaves the instant as it is
   pub arrives_t : (p : Player) (o : Option Download) → (arrives c p o).t ≡ p.t
   arrives_t p None = refl
   arrives_t p (Some d) = cond_both (eqb d.job.left 0) (loads c p d) p (λ q. q.t ≡ p.t) (λ e. refl) (λ e. refl)
 
+  -- so does the end
   pub finish_t : (p : Player) → (finish c p).t ≡ p.t
   finish_t p = cond_both (is_playing p.mode && eqb p.x (segments_of c.film * c.film.seg_ms)) (record p { mode = ended; events = p.events ++ event.End p.t ∷ [] }) p (λ q. q.t ≡ p.t) (λ e. refl) (λ e. refl)
 
@@ -64,13 +67,16 @@ module _ (c : Case) where
   gives_any_t p None = refl
   gives_any_t p (Some d) = gives_t p d (abandonment c.film d.segment d.rung (progress_of c.film p.t d))
 
+  -- so does an abandonment
   pub abandon_t : (p : Player) → (abandon c p).t ≡ p.t
   abandon_t p = cond_both c.setup.abandon (gives_up_any c p p.download) p (λ q. q.t ≡ p.t) (λ e. gives_any_t p p.download) (λ e. refl)
 
+  -- so does a seek
   pub seeks_t : (p : Player) (o : Option Seek) → (seeks_to c p o).t ≡ p.t
   seeks_t p None = refl
   seeks_t p (Some s) = refl
 
+  -- so does a request
   pub request_t : (p : Player) → (request c p).t ≡ p.t
   request_t p = cond_both (can_ask c p) (asks c p (rung_for c p)) p (λ q. q.t ≡ p.t) (λ e. refl) (λ e. refl)
 
@@ -87,41 +93,52 @@ module _ (c : Case) where
       (λ e. cond_both (eqb (p.x % c.film.seg_ms) 0) (begins p p.loaded) p (λ q. q.t ≡ p.t) (λ z. begins_t p p.loaded) (λ z. refl))
       (λ e. cond_both p.stalling (record p { stall_ms = p.stall_ms + 1 }) (record p { stall_ms = p.stall_ms + 1; stalls = p.stalls + 1; stalling = true; events = p.events ++ event.Stall p.t ∷ [] }) (λ q. q.t ≡ p.t) (λ z. refl) (λ z. refl))
 
+  -- a millisecond that passes moves it on by one
   pub pass_t : (p : Player) → (pass_ms c p).t ≡ p.t + 1
   pass_t p = ap (λ n. n + 1) (passes_t (record p { download = option_map (takes c p.t) p.download }) p.mode)
 
 -- ---- the parts of an instant, one after the other
 
+-- the arrival and the end leave the instant as it is
 pub stopped_t : (c : Case) (p : Player) → (stopped c p).t ≡ p.t
 stopped_t c p = finish_t c (arrival c p) ∙ arrives_t c p p.download
 
+-- a sound player is sound after them
 pub stopped_sound : (c : Case) (from : ℕ) (p : Player) → Sound c from p → Sound c from (stopped c p)
 stopped_sound c from p h = finish_sound c from (arrival c p) (arrival_sound c from p h)
 
+-- after them something is left of a running download
 pub stopped_open : (c : Case) (p : Player) → IsOpen (stopped c p)
 stopped_open c p = finish_open c (arrival c p) (arrival_open c p)
 
+-- the other parts leave the instant as it is
 pub gone_on_t : (c : Case) (r : Player) → (gone_on c r).t ≡ r.t
 gone_on_t c r = request_t c (seek c (abandon c r)) ∙ seeks_t c (abandon c r) (seek_at c.seeks (abandon c r).t) ∙ abandon_t c r
 
+-- after a seek a sound player is sound, with the seeks from the next instant on to come
 pub sought_sound : (c : Case) → IsCase c → (t : ℕ) (a : Player) → a.t ≡ t → Sound c t a → Sound c (t + 1) (seek c a)
 sought_sound c is t a e h = subst (λ k. Sound c (k + 1) (seek c a)) e (seek_sound c is a (subst (λ k. Sound c k a) (sym e) h))
 
+-- after the other parts a sound player is sound, with the seeks from the next instant on to come
 pub gone_on_sound : (c : Case) → IsCase c → (t : ℕ) (r : Player) → r.t ≡ t → Sound c t r → Sound c (t + 1) (gone_on c r)
 gone_on_sound c is t r e h = request_sound c is (t + 1) (seek c (abandon c r)) (sought_sound c is t (abandon c r) (abandon_t c r ∙ e) (abandon_sound c is t r h))
 
+-- after them something is left of a running download, if so before
 pub gone_on_open : (c : Case) → IsCase c → (t : ℕ) (r : Player) → r.t ≡ t → Sound c t r → IsOpen r → IsOpen (gone_on c r)
 gone_on_open c is t r e h some =
     request_open c is (t + 1) (seek c (abandon c r)) (sought_sound c is t (abandon c r) (abandon_t c r ∙ e) (abandon_sound c is t r h)) (seek_open c (abandon c r) (abandon_open c r some))
 
 -- ---- the whole instant
 
+-- where the arrival and the end have ended the session, nothing follows them
 pub instant_ended : (c : Case) (p : Player) → is_ended (stopped c p).mode ≡ true → instant c p ≡ stopped c p
 instant_ended c p e = cond-true (is_ended (stopped c p).mode) (stopped c p) (gone_on c (stopped c p)) e
 
+-- where they have not, the other parts follow
 pub instant_goes : (c : Case) (p : Player) → is_ended (stopped c p).mode ≡ false → instant c p ≡ gone_on c (stopped c p)
 instant_goes c p e = cond-false (is_ended (stopped c p).mode) (stopped c p) (gone_on c (stopped c p)) e
 
+-- the five parts leave the instant as it is
 pub instant_t : (c : Case) (p : Player) → (instant c p).t ≡ p.t
 instant_t c p =
     cond_both (is_ended (stopped c p).mode) (stopped c p) (gone_on c (stopped c p)) (λ q. q.t ≡ p.t)
@@ -143,15 +160,18 @@ instant_any_sound c is t p e h =
 
 -- ---- the player of a session
 
+-- where the session goes on, the next player is this one after its instant and a millisecond
 pub player_next : (c : Case) (n : ℕ) → ends_at c n ≡ false → player_after c (suc n) ≡ pass_ms c (instant c (player_after c n))
 unfolding player_after
 player_next c n e = cond-false (is_ended (instant c (player_after c n)).mode) (instant c (player_after c n)) (pass_ms c (instant c (player_after c n))) e
 
+-- after an instant that goes on and a millisecond a sound player is sound
 pub passed_sound : (c : Case) → IsCase c → (n : ℕ) (p : Player) → p.t ≡ n → Sound c n p → is_ended (instant c p).mode ≡ false → Sound c (suc n) (pass_ms c (instant c p))
 passed_sound c is n p e h goes =
     let both = instant_sound c is n p e h goes in
     subst (λ k. Sound c k (pass_ms c (instant c p))) (add-one n) (pass_sound c is (n + 1) (instant c p) both.0 both.1 goes)
 
+-- up to the end the player after so many milliseconds is sound, and at that instant
 pub player_sound : (c : Case) → IsCase c → (n : ℕ) → ((k : ℕ) → k < n → ends_at c k ≡ false) → Sound c n (player_after c n) × ((player_after c n).t ≡ n)
 unfolding player_after
 player_sound c is zero goes = (start_sound c is, refl)

@@ -16,6 +16,7 @@ use Rattle.player_core.specs.Sound.{IsCase, Runs, asked_size}
 
 -- ---- sizes
 
+-- each size of a film keeps its limits
 pub size_within : (f : Film) (segment rung : ℕ) → IsFilm f → segment < segments_of f → rung < rungs_of f → IsWithin 1 200000000 (size_of f segment rung)
 size_within f segment rung h s r =
     let place = mul-add-lt segment (rungs_of f) rung (segments_of f) s r in
@@ -23,6 +24,7 @@ size_within f segment rung h s r =
     h.sizes (segment * rungs_of f + rung) 0 (omega (arith, place, whole))
 
 module _ (c : Case) (is : IsCase c) where
+  -- a running download asked for a size that keeps them
   pub asked_within : (t : ℕ) (d : Download) → Runs c t d → IsWithin 1 200000000 (asked_size c d)
   asked_within t d h = size_within c.film d.segment d.rung is.film h.segment h.rung
 
@@ -30,9 +32,11 @@ module _ (c : Case) (is : IsCase c) where
   pub begins_before : (t : ℕ) (d : Download) → Runs c t d → first_at c.periods d.asked (asked_size c d) < done_at c.periods d.asked (asked_size c d)
   begins_before t d h = let size = asked_within t d h in first_before_done c.periods is.trace d.asked (asked_size c d) size.0 size.1
 
+  -- it is done within 300010000 milliseconds of its request
   pub done_soon : (t : ℕ) (d : Download) → Runs c t d → done_at c.periods d.asked (asked_size c d) ≤ d.asked + 300010000
   done_soon t d h = let size = asked_within t d h in (done_found c.periods is.trace d.asked (asked_size c d) size.1).0
 
+  -- it was asked for less than 410000000 milliseconds ago
   pub runs_short : (t : ℕ) (d : Download) → Runs c t d → t - d.asked < 410000000
   runs_short t d h = let soon = done_soon t d h in let done = h.done in omega (arith, soon, done)
 
@@ -51,6 +55,7 @@ module _ (c : Case) (is : IsCase c) where
         done = done_from c.periods t bits;
       }
 
+  -- something is left of a download at its request
   pub starts_full : (segment rung : ℕ) → segment < segments_of c.film → rung < rungs_of c.film → eqb (start_job (size_of c.film segment rung)).left 0 ≡ false
   starts_full segment rung s r = let size = size_within c.film segment rung is.film s r in let some = size.0 in ne_eqb _ 0 (λ e. absurd (omega (arith, e, some)))
 
@@ -63,6 +68,7 @@ module _ (c : Case) (is : IsCase c) where
       ⊎_elim (λ early. absurd (done_not_before c.periods d.asked (asked_size c d) (t - d.asked) (omega (arith, here, early)) (omega (arith, left, none))))
       (λ late. omega (arith, late, done)) (cases_lt t (done_at c.periods d.asked (asked_size c d)))
 
+  -- where something is left of a running download, it is not done yet
   pub runs_on : (t : ℕ) (d : Download) → Runs c t d → eqb d.job.left 0 ≡ false → t < done_at c.periods d.asked (asked_size c d)
   runs_on t d h some =
       let size = asked_within t d h in
@@ -115,6 +121,7 @@ module _ (c : Case) (is : IsCase c) where
       (λ (ahead : (t ≤ first) × (d.first ≡ None)).
       let low = ahead.0 in subst (λ o. cond (is_some o) o spent ≡ after) (sym ahead.1) (spent_now t d h low)) (first_cases t d h)
 
+  -- where something is left of it, it runs a millisecond later
   pub runs_next : (t : ℕ) (d : Download) → Runs c t d → eqb d.job.left 0 ≡ false → Runs c (t + 1) (takes c t d)
   runs_next t d h some =
       let on = runs_on t d h some in
@@ -128,6 +135,7 @@ module _ (c : Case) (is : IsCase c) where
         done = omega (arith, on);
       }
 
+  -- where nothing is left, its first millisecond that was spent on bits is past, and it knows which
   pub runs_begun : (t : ℕ) (d : Download) → Runs c t d → d.job.left ≡ 0 → (first_at c.periods d.asked (asked_size c d) < t) × (d.first ≡ Some (first_at c.periods d.asked (asked_size c d)))
   runs_begun t d h none =
       let done = runs_done t d h none in
@@ -142,6 +150,7 @@ module _ (c : Case) (is : IsCase c) where
       ⊎_elim (λ (past : (first < t) × (d.first ≡ Some first)). ap (λ o. option_map_or (λ f. t - f) o 0) past.1)
       (λ (ahead : (t ≤ first) × (d.first ≡ None)). let low = ahead.0 in ap (λ o. option_map_or (λ f. t - f) o 0) ahead.1 ∙ omega (arith, low)) (first_cases t d h)
 
+  -- its first millisecond that was spent on bits is no longer ago than its request
   pub bit_ms_short : (t : ℕ) (d : Download) → Runs c t d → bit_ms_of t d ≤ t - d.asked
   bit_ms_short t d h = let is = bit_ms_is t d h in let from = first_from c.periods d.asked (asked_size c d) in omega (arith, is, from)
 
@@ -171,6 +180,7 @@ module _ (c : Case) (is : IsCase c) where
   got_least : (bits left ms : ℕ) → 1000 * bits ≤ left + 10000000000 * ms → bits - div_ceil left 1000 ≤ 10000000 * ms
   got_least bits left ms h = omega (arith, h)
 
+  -- it has no more bits than it asked for, and at most 10000000 for each millisecond from that first one on
   pub runs_pace : (t : ℕ) (d : Download) → Runs c t d → (got_of c.film d ≤ asked_size c d) × (got_of c.film d ≤ 10000000 * bit_ms_of t d)
   runs_pace t d h =
       let is = bit_ms_is t d h in

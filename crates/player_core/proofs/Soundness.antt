@@ -26,6 +26,7 @@ use Rattle.player_core.proofs.Runs.{runs_next, runs_pace, runs_start, asked_with
 -- ---- 1. Arrival
 
 module _ (c : Case) (from : ℕ) where
+  -- a segment that is loaded takes all turns that its download could bring
   pub loads_turns : (p : Player) (d : Download) → p.k < segments_of c.film → p.download ≡ Some d → p.forced ≡ None → turns_left c from (loads c p d) + 2 * d.rung + 1 ≤ turns_left c from p
   loads_turns p d low some none =
       let n = segments_of c.film in
@@ -72,6 +73,7 @@ module _ (c : Case) (from : ℕ) where
   arrives_sound p None h e = h
   arrives_sound p (Some d) h e = cond_both (eqb d.job.left 0) (loads c p d) p (Sound c from) (λ z. loads_sound p d h e) (λ z. h)
 
+  -- a sound player is sound after the arrival
   pub arrival_sound : (p : Player) → Sound c from p → Sound c from (arrival c p)
   arrival_sound p h = arrives_sound p p.download h refl
 
@@ -102,6 +104,7 @@ module _ (c : Case) (from : ℕ) where
         stalls = omega (arith, stalls, spare);
       }
 
+  -- and after the end
   pub finish_sound : (p : Player) → Sound c from p → Sound c from (finish c p)
   finish_sound p h =
       cond_both (is_playing p.mode && eqb p.x (segments_of c.film * c.film.seg_ms)) (record p { mode = ended; events = p.events ++ event.End p.t ∷ [] }) p (Sound c from)
@@ -109,6 +112,7 @@ module _ (c : Case) (from : ℕ) where
 
   -- ---- 3. Abandonment
 
+  -- a download is given up for a lower rung
   pub abandonment_lower : (f : Film) (segment rung : ℕ) (p : Progress) (q : ℕ) → abandonment f segment rung p ≡ Some q → q < rung
   abandonment_lower f segment rung p q e =
       let parts = cond_some ((is_due p && is_late f segment rung p) && is_better f segment rung p) (target_of f p) q e in
@@ -118,6 +122,7 @@ module _ (c : Case) (from : ℕ) where
       let same = parts.1 in
       omega (arith, low, same)
 
+  -- a download that is given up for a lower rung takes a turn
   pub gives_turns : (p : Player) (d : Download) (q : ℕ) → p.k < segments_of c.film → p.download ≡ Some d → q < d.rung → turns_left c from (gives_up c p d (Some q)) + 1 ≤ turns_left c from p
   gives_turns p d q low some lower =
       let n = segments_of c.film in
@@ -165,6 +170,7 @@ module _ (c : Case) (is : IsCase c) (from : ℕ) where
   gives_any_sound p None h e = h
   gives_any_sound p (Some d) h e = gives_sound p d (abandonment c.film d.segment d.rung (progress_of c.film p.t d)) h e (λ q some. abandonment_lower c from c.film d.segment d.rung (progress_of c.film p.t d) q some)
 
+  -- a sound player is sound after the abandonment
   pub abandon_sound : (p : Player) → Sound c from p → Sound c from (abandon c p)
   abandon_sound p h = cond_both c.setup.abandon (gives_up_any c p p.download) p (Sound c from) (λ e. gives_any_sound p p.download h refl) (λ e. h)
 
@@ -188,6 +194,7 @@ module _ (c : Case) (is : IsCase c) where
       let got = (runs_pace c is p.t d runs).0 in
       omega (arith, size, got)
 
+  -- a seek wastes at most 200000000 bits for each segment of the film, and as many once more
   pub wasted_most : (from : ℕ) (p : Player) → Sound c from p → wasted_by c.film p ≤ 200000000 * (1 + segments_of c.film)
   wasted_most from p h =
       let got = got_most p p.download from h refl in
@@ -272,11 +279,13 @@ module _ (c : Case) (is : IsCase c) where
         stalls = omega (arith, stalls, fewer, spare);
       }
 
+  -- after a seek it is sound, with the seeks from the next instant on to come
   pub seek_sound : (p : Player) → Sound c p.t p → Sound c (p.t + 1) (seek c p)
   seek_sound p h = seeks_sound p (seek_at c.seeks p.t) h refl
 
 -- ---- 5. Request
 
+-- where no download is there, it is the empty option
 pub none_is : (o : Option Download) → is_some o ≡ false → o ≡ None
 none_is None e = refl
 none_is (Some d) e = absurd (true≢false e)
@@ -296,6 +305,7 @@ pub record Asks (c : Case) (p : Player) : Type 0 where
   pub fits : p.y - p.x + c.film.seg_ms ≤ c.setup.buffer_ms
   pub there : available_at c.film c.ahead p.k ≤ p.t
 
+-- where it can ask, it has what asking wants
 pub can_ask_true : (c : Case) (p : Player) → can_ask c p ≡ true → Asks c p
 can_ask_true c p e =
     let fits = leb (p.y - p.x + c.film.seg_ms) c.setup.buffer_ms in
@@ -311,9 +321,11 @@ can_ask_true c p e =
     }
 
 module _ (c : Case) (is : IsCase c) (from : ℕ) where
+  -- the rung that is chosen for the next segment is one of the film
   pub rung_fits : (p : Player) → Sound c from p → p.k < segments_of c.film → rung_for c p < rungs_of c.film
   rung_fits p h low = forced_fits p.forced (choice c.rule c.film c.setup (context_of p) p.history) (rungs_of c.film) h.forced (choice_fits c.rule c.film c.setup (context_of p) p.history is.film is.rule low)
 
+  -- asking takes a turn
   pub asks_turns : (p : Player) → Sound c from p → Asks c p → turns_left c from (asks c p (rung_for c p)) + 1 ≤ turns_left c from p
   asks_turns p h can =
       let n = segments_of c.film in
@@ -353,6 +365,7 @@ module _ (c : Case) (is : IsCase c) (from : ℕ) where
         stalls = omega (arith, stalls, fewer, spare);
       }
 
+  -- a sound player is sound after the request
   pub request_sound : (p : Player) → Sound c from p → Sound c from (request c p)
   request_sound p h = cond_both (can_ask c p) (asks c p (rung_for c p)) p (Sound c from) (λ e. asks_sound p h (can_ask_true c p e)) (λ e. h)
 
@@ -367,9 +380,11 @@ module _ (c : Case) where
   arrives_open p None e = subst (λ o. IfSome o (λ d. eqb d.job.left 0 ≡ false)) (sym e) tt
   arrives_open p (Some d) e = cond_both (eqb d.job.left 0) (loads c p d) p IsOpen (λ z. tt) (λ z. subst (λ o. IfSome o (λ d. eqb d.job.left 0 ≡ false)) (sym e) z)
 
+  -- after the arrival something is left of a running download
   pub arrival_open : (p : Player) → IsOpen (arrival c p)
   arrival_open p = arrives_open p p.download refl
 
+  -- that stays so after the end
   pub finish_open : (p : Player) → IsOpen p → IsOpen (finish c p)
   finish_open p h = cond_both (is_playing p.mode && eqb p.x (segments_of c.film * c.film.seg_ms)) (record p { mode = ended; events = p.events ++ event.End p.t ∷ [] }) p IsOpen (λ e. h) (λ e. h)
 
@@ -381,6 +396,7 @@ module _ (c : Case) where
   gives_any_open p None h = h
   gives_any_open p (Some d) h = gives_open p d (abandonment c.film d.segment d.rung (progress_of c.film p.t d)) h
 
+  -- and after the abandonment
   pub abandon_open : (p : Player) → IsOpen p → IsOpen (abandon c p)
   abandon_open p h = cond_both c.setup.abandon (gives_up_any c p p.download) p IsOpen (λ e. gives_any_open p p.download h) (λ e. h)
 
@@ -388,10 +404,12 @@ module _ (c : Case) where
   seeks_open p None h = h
   seeks_open p (Some s) h = tt
 
+  -- and after the seek
   pub seek_open : (p : Player) → IsOpen p → IsOpen (seek c p)
   seek_open p h = seeks_open p (seek_at c.seeks p.t) h
 
 module _ (c : Case) (is : IsCase c) (from : ℕ) where
+  -- and after the request
   pub request_open : (p : Player) → Sound c from p → IsOpen p → IsOpen (request c p)
   request_open p h some =
       cond_both (can_ask c p) (asks c p (rung_for c p)) p IsOpen
@@ -404,6 +422,7 @@ abbrev pub later : Case → Player → ℕ → ℕ → ℕ → ℕ → ℕ → B
 later c p x startup_ms stall_ms seek_ms stalls stalling loaded played events =
     record p { t = p.t + 1; x = x; download = option_map (takes c p.t) p.download; startup_ms = startup_ms; stall_ms = stall_ms; seek_ms = seek_ms; stalls = stalls; stalling = stalling; loaded = loaded; played = played; events = events }
 
+-- a network millisecond takes no turns of a download
 pub taken_turns : (c : Case) (t : ℕ) (o : Option Download) (forced : Option ℕ) → turns_here (option_map (takes c t) o) forced ≡ turns_here o forced
 taken_turns c t None forced = refl
 taken_turns c t (Some d) forced = refl
@@ -555,5 +574,6 @@ module _ (c : Case) (is : IsCase c) (from : ℕ) (p : Player) (h : Sound c from 
       cond_both (ltb p.x p.y) (plays c (taken c p)) (stalls_on (taken c p)) (λ r. Sound c from (ticked r))
       (λ low. plays_sound e (ltb-true p.x p.y low)) (λ late. stalls_sound e (ltb-false p.x p.y late))
 
+  -- a sound player is sound after a millisecond
   pub pass_sound : is_ended p.mode ≡ false → Sound c from (pass_ms c p)
   pass_sound go = passes_sound p.mode refl go

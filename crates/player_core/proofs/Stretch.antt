@@ -122,6 +122,7 @@ module _ (c : Case) where
   still_stands q ended goes e = absurd (true≢false goes)
   still_stands q playing goes e = absurd (true≢false e)
 
+  -- a player is the next one when a millisecond has passed
   pub pass_next : (q : Player) → is_ended q.mode ≡ false → IsNext c q (pass_ms c q)
   pass_next q goes =
       let passed = passes_passed c (taken c q) q.mode in

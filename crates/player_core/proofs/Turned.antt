@@ -37,6 +37,7 @@ module _ (c : Case) where
   request_on : (p : Player) → (request c p).mode ≡ p.mode
   request_on p = cond_both (can_ask c p) (asks c p (rung_for c p)) p (λ q. q.mode ≡ p.mode) (λ e. refl) (λ e. refl)
 
+  -- the other parts do not end a session
   pub gone_goes : (r : Player) → is_ended r.mode ≡ false → is_ended (gone_on c r).mode ≡ false
   gone_goes r h =
       let here : is_ended (abandon c r).mode ≡ false = ap is_ended (abandon_on r) ∙ h in
@@ -44,6 +45,7 @@ module _ (c : Case) where
 
   -- ---- the history after a seek, a request and a millisecond is that before
 
+  -- a seek tells the rule nothing
   pub seek_told : (p : Player) → (seek c p).history ≡ p.history
   seek_told p = seeks_told (seek_at c.seeks p.t)
     where
@@ -51,9 +53,11 @@ module _ (c : Case) where
       seeks_told None = refl
       seeks_told (Some s) = refl
 
+  -- the end tells the rule nothing
   pub finish_told : (p : Player) → p.history ≡ (finish c p).history
   finish_told p = cond_both (is_playing p.mode && eqb p.x (segments_of c.film * c.film.seg_ms)) (record p { mode = ended; events = p.events ++ event.End p.t ∷ [] }) p (λ q. p.history ≡ q.history) (λ e. refl) (λ e. refl)
 
+  -- a request tells the rule nothing
   pub request_told : (p : Player) → (request c p).history ≡ p.history
   request_told p = cond_both (can_ask c p) (asks c p (rung_for c p)) p (λ q. q.history ≡ p.history) (λ e. refl) (λ e. refl)
 
@@ -70,19 +74,23 @@ module _ (c : Case) where
       (λ e. cond_both (eqb (p.x % c.film.seg_ms) 0) (begins p p.loaded) p (λ q. q.history ≡ p.history) (λ z. begins_told p p.loaded) (λ z. refl))
       (λ e. cond_both p.stalling (record p { stall_ms = p.stall_ms + 1 }) (record p { stall_ms = p.stall_ms + 1; stalls = p.stalls + 1; stalling = true; events = p.events ++ event.Stall p.t ∷ [] }) (λ q. q.history ≡ p.history) (λ z. refl) (λ z. refl))
 
+  -- a millisecond tells the rule nothing
   pub pass_told : (p : Player) → (pass_ms c p).history ≡ p.history
   pass_told p = passes_told (record p { download = option_map (takes c p.t) p.download }) p.mode
 
   -- ---- the turn
 
+  -- where the arrival and the end don't end the session, the instant doesn't
   pub turn_goes : (n : ℕ) → is_ended (stopped c (player_after c n)).mode ≡ false → ends_at c n ≡ false
   turn_goes n h = ap (λ (q : Player). is_ended q.mode) (cond-false (is_ended (stopped c (player_after c n)).mode) (stopped c (player_after c n)) (gone_on c (stopped c (player_after c n))) h) ∙ gone_goes (stopped c (player_after c n)) h
 
+  -- and then the next player is this one after all parts and a millisecond
   pub turn_next : (n : ℕ) → is_ended (stopped c (player_after c n)).mode ≡ false → player_after c (n + 1) ≡ pass_ms c (gone_on c (stopped c (player_after c n)))
   turn_next n h =
       ap (player_after c) (add-one n) ∙ player_next c n (turn_goes n h)
       ∙ ap (pass_ms c) (cond-false (is_ended (stopped c (player_after c n)).mode) (stopped c (player_after c n)) (gone_on c (stopped c (player_after c n))) h)
 
+  -- where they end the session, they are the whole instant
   pub turn_ends : (n : ℕ) → is_ended (stopped c (player_after c n)).mode ≡ true → instant c (player_after c n) ≡ stopped c (player_after c n)
   turn_ends n h = cond-true (is_ended (stopped c (player_after c n)).mode) (stopped c (player_after c n)) (gone_on c (stopped c (player_after c n))) h
 
@@ -98,10 +106,12 @@ last_is c is n low before h =
 
 -- ---- the start
 
+-- after no milliseconds the player is the first one
 pub player_first : (c : Case) → player_after c 0 ≡ first_player
 unfolding player_after
 player_first c = refl
 
+-- at the start there is no download that has to know its instants
 pub none_timed : (c : Case) (b : Body) → seen b [] ≡ first_player → IsTimed c.film c.periods b.download
 none_timed c b e = none_of b.download (ap (λ (p : Player). p.download) e)
   where

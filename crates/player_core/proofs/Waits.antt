@@ -44,6 +44,7 @@ module _ (c : Case) (is : IsCase c) (from : ℕ) (p : Player) (h : Sound c from 
       let asked = runs.asked in
       omega (arith, soon, asked)
 
+  -- a player can wait at most 300010000 milliseconds
   pub waits_few : waits_ms c p ≤ 300010000
   waits_few = waits_few_for p.download refl
 
@@ -93,6 +94,7 @@ module _ (c : Case) where
     inside = request_inside (seek c (abandon c r)) (seeks_inside (abandon c r) (seek_at c.seeks (abandon c r).t) (abandon_inside r h));
   }
 
+  -- after an instant that goes on it could not ask for a download, and does not play at the film's end
   pub instant_still : (p : Player) → is_ended (instant c p).mode ≡ false → IsStill c (instant c p)
   instant_still p =
       cond_both (is_ended (stopped c p).mode) (stopped c p) (gone_on c (stopped c p)) (λ q. is_ended q.mode ≡ false → IsStill c q)
@@ -117,6 +119,7 @@ module _ (c : Case) where
   begins_passed p [] = record { k = refl; y = refl; x = omega arith; mode = refl; download = refl; forced = refl }
   begins_passed p (q ∷ qs) = record { k = refl; y = refl; x = omega arith; mode = refl; download = refl; forced = refl }
 
+  -- in any mode a millisecond moves nothing but the position, and not back
   pub passes_passed : (p : Player) (m : Mode) → Passed c p (passes_in c p m)
   passes_passed p starting = record { k = refl; y = refl; x = omega arith; mode = refl; download = refl; forced = refl }
   passes_passed p seeking = record { k = refl; y = refl; x = omega arith; mode = refl; download = refl; forced = refl }
@@ -131,6 +134,7 @@ module _ (c : Case) where
   begins_x p [] = refl
   begins_x p (q ∷ qs) = refl
 
+  -- in play before the end of what is loaded the position moves on by one
   pub plays_x : (p : Player) (m : Mode) → m ≡ playing → p.x < p.y → (passes_in c p m).x ≡ p.x + 1
   plays_x p starting e low = absurd (false≢true (ap is_playing e))
   plays_x p seeking e low = absurd (false≢true (ap is_playing e))
@@ -167,6 +171,7 @@ module _ (c : Case) (is : IsCase c) (from : ℕ) (p : Player) (h : Sound c from 
   pass_passed : Passed c (further c p) (passes_in c (further c p) p.mode)
   pass_passed = passes_passed c (further c p) p.mode
 
+  -- a millisecond takes no turn
   pub pass_turns : (to : ℕ) → turns_left c to (pass_ms c p) ≡ turns_left c to p
   pass_turns to =
       let n = segments_of c.film in
@@ -231,6 +236,7 @@ module _ (c : Case) (is : IsCase c) (from : ℕ) (p : Player) (h : Sound c from 
       let at = pass_t c p in
       omega (arith, on, at)
 
+  -- after each millisecond at least one fewer is left to wait
   pub waits_less : IsOpen p → IsStill c p → is_ended p.mode ≡ false → waits_ms c (pass_ms c p) + 1 ≤ waits_ms c p
   waits_less some still go =
       let same = ap (λ o. waits_for c (pass_ms c p) o) pass_passed.download in

@@ -13,6 +13,7 @@ pub record IsWithinOf (n : ℕ) (z : ℤ) : Type 0 where
   pub low : (pos 0 -ℤ pos n) ≤ℤ z
   pub high : z ≤ℤ pos n
 
+-- the sum of the scores is within 10 ^ 24 of 0 for each pair
 pub scores_within : (ps : List Scores) → All AreScores ps → IsWithinOf (10 ^ 24 * length ps) (scores_sum ps)
 scores_within [] h = record { low = omega (arith, ints); high = omega (arith, ints) }
 scores_within (p ∷ ps) h =
@@ -20,6 +21,7 @@ scores_within (p ∷ ps) h =
     let rest = scores_within ps (All-tail AreScores p ps h) in
     record { low = omega (arith, ints); high = omega (arith, ints) }
 
+-- and so is the sum of the best scores
 pub bests_within : (ps : List Scores) → All AreScores ps → IsWithinOf (10 ^ 24 * length ps) (bests_sum ps)
 bests_within [] h = record { low = omega (arith, ints); high = omega (arith, ints) }
 bests_within (p ∷ ps) h =
@@ -27,6 +29,7 @@ bests_within (p ∷ ps) h =
     let rest = bests_within ps (All-tail AreScores p ps h) in
     record { low = omega (arith, ints); high = omega (arith, ints) }
 
+-- the sum of the regrets is within twice as much
 pub regrets_within : (ps : List Scores) → All AreScores ps → IsWithinOf (2 * 10 ^ 24 * length ps) (regrets_sum ps)
 regrets_within [] h = record { low = omega (arith, ints); high = omega (arith, ints) }
 regrets_within (p ∷ ps) h =
@@ -34,6 +37,7 @@ regrets_within (p ∷ ps) h =
     let rest = regrets_within ps (All-tail AreScores p ps h) in
     record { low = omega (arith, ints); high = omega (arith, ints) }
 
+-- the worst regret is within 2 * 10 ^ 24 of 0
 pub worst_within : (ps : List Scores) → All AreScores ps → IsWithinOf (2 * 10 ^ 24) (worst_of ps)
 worst_within [] h = record { low = omega (arith, ints); high = omega (arith, ints) }
 worst_within (p ∷ ps) h =
@@ -41,18 +45,22 @@ worst_within (p ∷ ps) h =
     let rest = worst_within ps (All-tail AreScores p ps h) in
     record { low = omega (arith, ints, clamps); high = omega (arith, ints, clamps) }
 
+-- one more pair adds its score
 pub scores_more : (ps : List Scores) (p : Scores) → scores_sum (ps ++ p ∷ []) ≡ scores_sum ps +ℤ p.0
 scores_more [] p = omega (arith, ints)
 scores_more (q ∷ ps) p = let rest = scores_more ps p in omega (arith, ints)
 
+-- one more pair adds its best score
 pub bests_more : (ps : List Scores) (p : Scores) → bests_sum (ps ++ p ∷ []) ≡ bests_sum ps +ℤ p.1
 bests_more [] p = omega (arith, ints)
 bests_more (q ∷ ps) p = let rest = bests_more ps p in omega (arith, ints)
 
+-- one more pair adds its regret
 pub regrets_more : (ps : List Scores) (p : Scores) → regrets_sum (ps ++ p ∷ []) ≡ regrets_sum ps +ℤ regret_of p
 regrets_more [] p = omega (arith, ints)
 regrets_more (q ∷ ps) p = let rest = regrets_more ps p in omega (arith, ints)
 
+-- with one more pair the worst regret is the greater of the two
 pub worst_more : (ps : List Scores) (p : Scores) → worst_of (ps ++ p ∷ []) ≡ int_max (worst_of ps) (regret_of p)
 worst_more [] p = omega (arith, ints, clamps)
 worst_more (q ∷ ps) p = let rest = worst_more ps p in omega (arith, ints, clamps)

@@ -63,8 +63,10 @@ limits t qs h =
     let count : length qs ≤ 100000 = subst (λ (xs : List Period). length xs ≤ 100000) last.0 (omega (arith, most)) in
     record { count = (last.1, count); periods = subst (λ (xs : List Period). All IsPeriod xs) last.0 all }
 
+-- 1 to 100000 periods were read
 pub table_periods-count : (t : Table) (qs : List Period) → table_periods t ≡ Ok qs → IsWithin 1 100000 (length qs)
 table_periods-count t qs h = (limits t qs h).count
 
+-- each of them keeps its limits
 pub table_periods-periods : (t : Table) (qs : List Period) → table_periods t ≡ Ok qs → All IsPeriod qs
 table_periods-periods t qs h = (limits t qs h).periods

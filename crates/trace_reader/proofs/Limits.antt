@@ -29,6 +29,7 @@ counted-within ds found h =
     let same : ds ≡ found = cc in
     subst (λ (xs : Items). IsWithin 1 100000 (items_len xs)) same (grind (arith, nat_tests, some.0), grind (arith, nat_tests, few.0))
 
+-- 1 to 100000 periods were read
 pub periods_of-count : (d : Data) (ps : List Period) → periods_of d ≡ Ok ps → IsWithin 1 100000 (length ps)
 periods_of-count d ps h =
     let ds = then_ok (members_of d) (λ ds. each_of period_in ds) ps h in
@@ -52,6 +53,7 @@ fields_of-limits row d p h =
 period_in-limits : (row : ℕ) (d : Data) (p : Period) → period_in row d ≡ Ok p → IsPeriod p
 period_in-limits row d p h = let o = then_ok (placed key.Period row 0 (object_of d)) (fields_of row) p h in fields_of-limits row o.0 p o.2
 
+-- each of them keeps its limits
 pub periods_of-periods : (d : Data) (ps : List Period) → periods_of d ≡ Ok ps → All IsPeriod ps
 periods_of-periods d ps h =
     let ds = then_ok (members_of d) (λ ds. each_of period_in ds) ps h in
