@@ -35,7 +35,14 @@ pub struct MemShelf {
 impl Model for MemShelf {
     ghost Value = { MemFiles };
 
-    ghost view = { λ s. record { files = told_files s.files.items; failing = s.failing.items; calls = s.calls; failed = s.failed; lacking = s.lacking; asked = told_calls s.asked.items } };
+    ghost view = { λ s. record {
+      files = told_files s.files.items;
+      failing = s.failing.items;
+      calls = s.calls;
+      failed = s.failed;
+      lacking = s.lacking;
+      asked = told_calls s.asked.items;
+    } };
 }
 
 // The file of this name.
@@ -80,7 +87,14 @@ impl MemShelf {
     /// A shelf with these files, each with its name, whose calls with a number in `failing` fail.
     /// Where a name stands twice, its first file counts. It takes no memory.
     pub fn new(alloc: Global, files: Vec<(String, Vec<u8>)>, failing: Vec<u64>) -> MemShelf
-        ensures { result ≡ record { files = told_files files.items; failing = failing.items; calls = 0; failed = 0; lacking = 0; asked = [] } }
+        ensures { result ≡ record {
+          files = told_files files.items;
+          failing = failing.items;
+          calls = 0;
+          failed = 0;
+          lacking = 0;
+          asked = [];
+        } }
     {
         MemShelf {
             files,
@@ -146,7 +160,13 @@ pub struct MemSink {
 impl Model for MemSink {
     ghost Value = { MemText };
 
-    ghost view = { λ s. record { written = s.written.items; failing = s.failing.items; calls = s.calls; faults = s.faults; wants = s.wants } };
+    ghost view = { λ s. record {
+      written = s.written.items;
+      failing = s.failing.items;
+      calls = s.calls;
+      faults = s.faults;
+      wants = s.wants;
+    } };
 }
 
 impl MemSink {

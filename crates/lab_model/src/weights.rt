@@ -25,9 +25,23 @@ impl Model for Weights {
 
     ghost Value = { Weighing };
 
-    ghost view = { λ w. record { utilities = w.utilities.items; count = w.count; rows = w.rows; switch = w.switch; stall = w.stall; startup = w.startup } };
+    ghost view = { λ w. record {
+      utilities = w.utilities.items;
+      count = w.count;
+      rows = w.rows;
+      switch = w.switch;
+      stall = w.stall;
+      startup = w.startup;
+    } };
 
-    ghost invariant = { λ w. IsWeighing (record { utilities = w.utilities.items; count = w.count; rows = w.rows; switch = w.switch; stall = w.stall; startup = w.startup }) };
+    ghost invariant = { λ w. IsWeighing (record {
+      utilities = w.utilities.items;
+      count = w.count;
+      rows = w.rows;
+      switch = w.switch;
+      stall = w.stall;
+      startup = w.startup;
+    }) };
 }
 
 /// The most utilities of a row.
