@@ -185,7 +185,7 @@ fn bad_lines(rt: HostRuntime) -> Result<(), Fail> {
 fn truncated_certificate(rt: HostRuntime) -> Result<(), Fail> {
     let alloc = rt.alloc();
     let text = with_lines(alloc, &[])?;
-    let mut row = 1;
+    let mut row = 1usize;
     for (count, byte) in text.bytes().enumerate() {
         let note = bad_line(alloc, row)?;
         answers(
@@ -196,7 +196,7 @@ fn truncated_certificate(rt: HostRuntime) -> Result<(), Fail> {
             (3, "", &note),
         )?;
         if byte == b'\n' {
-            row += 1;
+            row = row.wrapping_add(1);
         }
     }
     assert_eq!(rt; row, 28);

@@ -169,12 +169,10 @@ fn rules_32_by_traces_3(rt: HostRuntime) -> Result<(), Fail> {
     let mut text = String::new(alloc);
     for (trace, steps) in &LADDER {
         text.push_str(&format!(in alloc; "trace {trace}\n")?)?;
-        let mut weight = 1;
-        for (last, row) in steps {
-            while weight <= *last {
-                text.push_str(&format!(in alloc; "rule bola:{weight} {row}\n")?)?;
-                weight += 1;
-            }
+        for weight in 1..33 {
+            let step = steps.iter().find(|step| weight <= step.0);
+            let row = step.map_or("", |step| step.1);
+            text.push_str(&format!(in alloc; "rule bola:{weight} {row}\n")?)?;
         }
     }
     answers(&rt, alloc, &line, (0, &text, ""))
