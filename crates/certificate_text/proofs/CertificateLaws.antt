@@ -1,7 +1,6 @@
 -- Certificates: what is read is of the form and spelled so, and what is of the form is read from its spelling.
-use Rattle.std.proofs.Common.{◌≡◌, ◌∙◌, ◌+◌, ◌-◌, ◌*◌, ◌/◌, ◌%◌, ◌^◌, ◌<◌, ◌≤◌, ◌++◌, ℕ, zero, suc, List, [], ◌∷◌, true, Ok, codes, drop, length, length-append, map, nat_le, take, refl, sym, ap, subst, append_assoc, arith, lit≤}
+use Rattle.std.proofs.Common.{◌≡◌, ◌∙◌, ◌+◌, ◌-◌, ◌*◌, ◌/◌, ◌%◌, ◌^◌, ◌<◌, ◌≤◌, ◌++◌, ℕ, zero, suc, List, [], ◌∷◌, true, Ok, drop, length, length-append, nat_le, take, refl, sym, ap, subst, append_assoc, arith, lit≤}
 use Rattle.std.specs.List.{All}
-use Rattle.std.specs.Fmt.{decimal, signed_decimal}
 use Rattle.std.proofs.lemmas.Bool.Decides.{nat_tests}
 use Rattle.std.proofs.lemmas.List.{drop_at, length-drop, length-take, take_at, take-append-drop}
 use Rattle.std.proofs.lemmas.List.Concat.{flat_map-append}
@@ -9,14 +8,17 @@ use Rattle.std.proofs.lemmas.List.Elements.{All-append, All-cons, All-drop, All-
 use Rattle.std.proofs.Math.Nat.{div-le_self, mod-lt}
 use Rattle.lab_model.specs.declared.label.Label.{Label}
 use Rattle.lab_io.specs.Sink.{Text}
-use Rattle.lab_io.specs.Piece.{fields_line, later_fields}
+use Rattle.lab_io.specs.Piece.{fields_line}
 use Rattle.frontier_planner.specs.Parts.{ChainParts}
-use Rattle.certificate_text.specs.Form.{AreChains, HasDigits, IsChain, IsSpelled, label_count, names_per}
-use Rattle.certificate_text.specs.Fields.{◌>>=◌, known_at, number_at, numbers_at, passed, signed_at, stop_before, word_at}
-use Rattle.certificate_text.specs.Reading.{Place, chain_at, chains_at, joined, label_at, labels_at, layer_at, numbers_of_label_at}
+use Rattle.certificate_text.specs.Fields.{◌>>=◌, HasDigits, passed, place_digits}
+use Rattle.certificate_text.specs.Line.{Holds, Values, values_at}
+use Rattle.certificate_text.specs.Grammar.{label_line, layer_line}
+use Rattle.certificate_text.specs.Form.{AreChains, IsChain, IsSpelled, label_count, names_per}
+use Rattle.certificate_text.specs.Reading.{Place, chain_at, chains_at, joined, label_at, labels_at, layer_at}
 use Rattle.certificate_text.specs.Spelling.{chain_lines, chains_lines, label_fields, label_lines, layer_fields, lines_text}
 use Rattle.certificate_text.proofs.Loops.{given, ok_is}
-use Rattle.certificate_text.proofs.FieldLaws.{bind_ok, known_again, known_takes, later_numbers, number_again, number_takes, numbers_again, numbers_take, numbers_text, passed_ok, signed_again, signed_takes, stop_low, word_again, word_takes}
+use Rattle.certificate_text.proofs.FieldLaws.{bind_ok, passed_ok}
+use Rattle.certificate_text.proofs.LineLaws.{IsSpellable, line_again, line_takes}
 
 -- where a reader stands
 abbrev place : ℕ → ℕ → Text → Place
@@ -24,23 +26,16 @@ place row left rest = record { row = row; left = left; rest = rest }
 
 -- ---- a label
 
--- the text of a label's line
-label_line : (l : Label) (names : List ℕ) (rest : Text) → fields_line (label_fields l names) ++ rest
-    ≡ decimal l.t ++ 32 ∷ (decimal l.p ++ 32 ∷ (signed_decimal l.v ++ stop_before (length names) ∷ (numbers_text names ++ rest)))
-label_line l names rest =
-    let later : later_fields (map decimal names) ++ rest ≡ stop_before (length names) ∷ (numbers_text names ++ rest) = ap (λ (t : Text). t ++ rest) (later_numbers names) in
-    append_assoc (decimal l.t) (32 ∷ (decimal l.p ++ 32 ∷ (signed_decimal l.v ++ later_fields (map decimal names)))) rest
-    ∙ ap (λ (t : Text). decimal l.t ++ 32 ∷ t) (append_assoc (decimal l.p) (32 ∷ (signed_decimal l.v ++ later_fields (map decimal names))) rest)
-    ∙ ap (λ (t : Text). decimal l.t ++ 32 ∷ (decimal l.p ++ 32 ∷ t)) (append_assoc (signed_decimal l.v) (later_fields (map decimal names)) rest)
-    ∙ ap (λ (t : Text). decimal l.t ++ 32 ∷ (decimal l.p ++ 32 ∷ (signed_decimal l.v ++ t))) later
+can_label : (per : ℕ) → IsSpellable (label_line per)
+can_label per = ((lit≤ tt, lit≤ tt), ((lit≤ tt, lit≤ tt), ((lit≤ tt, lit≤ tt), (lit≤ tt, lit≤ tt))))
 
 -- a label alone
 abbrev one_label : Label → List ℕ → ChainParts
 one_label l names = record { labels = l ∷ []; names = names }
 
--- the same with what stands behind it
-abbrev given_pair : Label × Text → List ℕ × Text → ChainParts × Text
-given_pair y ns = (one_label y.0 ns.0, ns.1)
+-- the label of a line's values
+abbrev label_of : (per : ℕ) → Values (label_line per) → Label
+label_of per values = record { t = values.0; p = values.1.0; v = values.1.1.0 }
 
 -- what was read as the line of a label
 record TakesLabel (per : ℕ) (bytes : Text) (x : ChainParts × Text) : Type 0 where
@@ -50,51 +45,29 @@ record TakesLabel (per : ℕ) (bytes : Text) (x : ChainParts × Text) : Type 0 w
   text : bytes ≡ fields_line (label_fields label own) ++ x.1
   spelled : IsSpelled label
   count_is : length own ≡ per
-  digits_are : All (HasDigits 7) own
+  digits_are : All (HasDigits place_digits) own
 
 label_takes : (row per : ℕ) (bytes : Text) (x : ChainParts × Text) → label_at row per bytes ≡ Ok x → TakesLabel per bytes x
-unfolding label_at numbers_of_label_at
+unfolding label_at
 label_takes row per bytes x h =
-    let l = bind_ok (numbers_of_label_at row per bytes) (λ label. numbers_at row 7 per label.1 >>= λ names. Ok (record { labels = label.0 ∷ []; names = names.0 }, names.1)) x h in
-    let ns = bind_ok (numbers_at row 7 per l.0.1) (λ names. Ok (record { labels = l.0.0 ∷ []; names = names.0 }, names.1)) x l.2 in
-    let t = bind_ok (number_at row 18 32 bytes) (λ t. number_at row 18 32 t.1 >>= λ p. signed_at row 18 (stop_before per) p.1 >>= λ v. Ok (record { t = t.0; p = p.0; v = v.0 }, v.1)) l.0 l.1 in
-    let p = bind_ok (number_at row 18 32 t.0.1) (λ p. signed_at row 18 (stop_before per) p.1 >>= λ v. Ok (record { t = t.0.0; p = p.0; v = v.0 }, v.1)) l.0 t.2 in
-    let v = bind_ok (signed_at row 18 (stop_before per) p.0.1) (λ v. Ok (record { t = t.0.0; p = p.0.0; v = v.0 }, v.1)) l.0 p.2 in
-    let first = number_takes row 18 32 bytes t.0 (lit≤ tt) t.1 in
-    let second = number_takes row 18 32 t.0.1 p.0 (lit≤ tt) p.1 in
-    let third = signed_takes row 18 (stop_before per) p.0.1 v.0 (lit≤ tt) v.1 in
-    let names = numbers_take row 7 per l.0.1 ns.0 (lit≤ tt) ns.1 in
-    let made : Label = record { t = t.0.0; p = p.0.0; v = v.0.0 } in
-    let made_is : (made, v.0.1) ≡ l.0 = ok_is (made, v.0.1) l.0 v.2 in
-    let whole : (one_label l.0.0 ns.0.0, ns.0.1) ≡ x = ok_is (one_label l.0.0 ns.0.0, ns.0.1) x ns.2 in
-    subst (λ (y : ChainParts × Text). TakesLabel per bytes y) (ap (λ (y : Label × Text). given_pair y ns.0) made_is ∙ whole) (record {
-      label = made;
-      own = ns.0.0;
+    let l = bind_ok (values_at row (label_line per) bytes) (λ label. Ok (one_label (label_of per label.0) label.0.1.1.1, label.1)) x h in
+    let t = line_takes row (label_line per) bytes l.0 (can_label per) (omega arith) l.1 in
+    subst (λ (y : ChainParts × Text). TakesLabel per bytes y) (ok_is (one_label (label_of per l.0.0) l.0.0.1.1.1, l.0.1) x l.2) (record {
+      label = label_of per l.0.0;
+      own = l.0.0.1.1.1;
       alone = refl;
-      text = first.0
-          ∙ ap (λ (w : Text). decimal t.0.0 ++ 32 ∷ w) (second.0
-          ∙ ap (λ (w : Text). decimal p.0.0 ++ 32 ∷ w) (third.0
-          ∙ ap (λ (w : Text). signed_decimal v.0.0 ++ stop_before per ∷ w) (ap (λ (y : Label × Text). y.1) made_is ∙ names.text)
-          ∙ ap (λ (k : ℕ). signed_decimal v.0.0 ++ stop_before k ∷ (numbers_text ns.0.0 ++ ns.0.1)) (sym names.count_is)))
-          ∙ sym (label_line made ns.0.0 ns.0.1);
-      spelled = record { t = first.1; p = second.1; v = third.1 };
-      count_is = names.count_is;
-      digits_are = names.digits_are;
+      text = t.text;
+      spelled = record { t = t.holds.0; p = t.holds.1.0; v = t.holds.1.1.0 };
+      count_is = t.holds.1.1.1.0;
+      digits_are = t.holds.1.1.1.1;
     })
 
-label_again : (row per : ℕ) (l : Label) (names : List ℕ) (rest : Text) → length names ≡ per → IsSpelled l → All (HasDigits 7) names → label_at row per (fields_line (label_fields l names) ++ rest) ≡ Ok (one_label l names, rest)
-unfolding label_at numbers_of_label_at
+label_again : (row per : ℕ) (l : Label) (names : List ℕ) (rest : Text) → length names ≡ per → IsSpelled l → All (HasDigits place_digits) names → label_at row per (fields_line (label_fields l names) ++ rest) ≡ Ok (one_label l names, rest)
+unfolding label_at
 label_again row per l names rest e s digits =
-    let text : fields_line (label_fields l names) ++ rest ≡ decimal l.t ++ 32 ∷ (decimal l.p ++ 32 ∷ (signed_decimal l.v ++ stop_before per ∷ (numbers_text names ++ rest))) =
-    label_line l names rest ∙ ap (λ (k : ℕ). decimal l.t ++ 32 ∷ (decimal l.p ++ 32 ∷ (signed_decimal l.v ++ stop_before k ∷ (numbers_text names ++ rest)))) e in
-    let last : numbers_at row 7 per (numbers_text names ++ rest) ≡ Ok (names, rest) = subst (λ (k : ℕ). numbers_at row 7 k (numbers_text names ++ rest) ≡ Ok (names, rest)) e (numbers_again row 7 names rest (lit≤ tt) (lit≤ tt) digits) in
-    ap (label_at row per) text
-    ∙ rw (
-      number_again row 18 32 l.t (decimal l.p ++ 32 ∷ (signed_decimal l.v ++ stop_before per ∷ (numbers_text names ++ rest))) (lit≤ tt) (lit≤ tt) (lit≤ tt) s.t,
-      number_again row 18 32 l.p (signed_decimal l.v ++ stop_before per ∷ (numbers_text names ++ rest)) (lit≤ tt) (lit≤ tt) (lit≤ tt) s.p,
-      signed_again row 18 (stop_before per) l.v (numbers_text names ++ rest) (lit≤ tt) (lit≤ tt) (stop_low per) s.v,
-      last,
-    ) refl
+    let read : values_at row (label_line per) (fields_line (label_fields l names) ++ rest) ≡ Ok ((l.t, (l.p, (l.v, names))), rest) =
+    line_again row (label_line per) (l.t, (l.p, (l.v, names))) rest (can_label per) (omega arith) (s.t, (s.p, (s.v, (e, digits)))) in
+    rw read refl
 
 -- ---- labels
 
@@ -113,7 +86,7 @@ unfolding labels_at
 labels_take row per zero bytes x h =
     let none : ChainParts = record { labels = []; names = [] } in
     subst (λ (y : ChainParts × Text). TakesLabels per 0 bytes y) (ok_is (none, bytes) x h)
-    (record { text = refl; count_is = refl; chain = record { labels = All-nil IsSpelled; whole = omega arith; names = All-nil (HasDigits 7) } })
+    (record { text = refl; count_is = refl; chain = record { labels = All-nil IsSpelled; whole = omega arith; names = All-nil (HasDigits place_digits) } })
 labels_take row per (suc more) bytes x h =
     let one = bind_ok (label_at row per bytes) (λ one. labels_at (row + 1) per more one.1 >>= λ others. Ok (joined one.0 others.0, others.1)) x h in
     let others = bind_ok (labels_at (row + 1) per more one.0.1) (λ others. Ok (joined one.0.0 others.0, others.1)) x one.2 in
@@ -128,7 +101,7 @@ labels_take row per (suc more) bytes x h =
       chain = record {
         labels = All-cons IsSpelled t.label others.0.0.labels t.spelled ts.chain.labels;
         whole = length-append t.own others.0.0.names ∙ whole_length per (length others.0.0.labels) (length t.own) (length others.0.0.names) t.count_is ts.chain.whole;
-        names = All-append (HasDigits 7) t.own others.0.0.names t.digits_are ts.chain.names;
+        names = All-append (HasDigits place_digits) t.own others.0.0.names t.digits_are ts.chain.names;
       };
     })
   where
@@ -139,7 +112,7 @@ no_names : (ns : List ℕ) → length ns ≡ 0 → ns ≡ []
 no_names [] h = refl
 no_names (n ∷ ns) h = absurd (omega (arith, h))
 
-labels_again : (row per : ℕ) (ls : List Label) (ns : List ℕ) (rest : Text) → All IsSpelled ls → length ns ≡ length ls * per → All (HasDigits 7) ns
+labels_again : (row per : ℕ) (ls : List Label) (ns : List ℕ) (rest : Text) → All IsSpelled ls → length ns ≡ length ls * per → All (HasDigits place_digits) ns
     → labels_at row per (length ls) (lines_text (label_lines per ls ns) ++ rest) ≡ Ok (record { labels = ls; names = ns }, rest)
 unfolding labels_at
 labels_again row per [] ns rest spelled whole digits =
@@ -154,8 +127,8 @@ labels_again row per (l ∷ ls) ns rest spelled whole digits =
     let later = drop per ns in
     let own_length : length own ≡ per = omega (arith, length-take per ns, split.0) in
     let later_length : length later ≡ length ls * per = omega (arith, length-drop per ns, split.1) in
-    let first = label_again row per l own (lines_text (label_lines per ls later) ++ rest) own_length (All-head IsSpelled l ls spelled) (All-take (HasDigits 7) per ns digits) in
-    let others = labels_again (row + 1) per ls later rest (All-tail IsSpelled l ls spelled) later_length (All-drop (HasDigits 7) per ns digits) in
+    let first = label_again row per l own (lines_text (label_lines per ls later) ++ rest) own_length (All-head IsSpelled l ls spelled) (All-take (HasDigits place_digits) per ns digits) in
+    let others = labels_again (row + 1) per ls later rest (All-tail IsSpelled l ls spelled) later_length (All-drop (HasDigits place_digits) per ns digits) in
     rw (append_assoc (fields_line (label_fields l own)) (lines_text (label_lines per ls later)) rest, first, others, take-append-drop per ns) refl
   where
     split_names : (per count names : ℕ) → names ≡ suc count * per → (per ≤ names) × (names ≡ per + count * per)
@@ -163,44 +136,23 @@ labels_again row per (l ∷ ls) ns rest spelled whole digits =
 
 -- ---- a chain
 
-layer_line : (segment rung count : ℕ) (rest : Text) → fields_line (layer_fields segment rung count) ++ rest
-    ≡ codes "layer" ++ 32 ∷ (decimal segment ++ 32 ∷ (decimal rung ++ 32 ∷ (decimal count ++ 10 ∷ rest)))
-layer_line segment rung count rest =
-    ap (λ (t : Text). codes "layer" ++ 32 ∷ t)
-    (append_assoc (decimal segment) (32 ∷ (decimal rung ++ 32 ∷ (decimal count ++ 10 ∷ []))) rest
-    ∙ ap (λ (t : Text). decimal segment ++ 32 ∷ t) (append_assoc (decimal rung) (32 ∷ (decimal count ++ 10 ∷ [])) rest
-    ∙ ap (λ (t : Text). decimal rung ++ 32 ∷ t) (append_assoc (decimal count) (10 ∷ []) rest)))
+can_layer : (segment rung : ℕ) → IsSpellable (layer_line segment rung)
+can_layer segment rung = (refl, ((lit≤ tt, lit≤ tt), tt))
 
 layer_takes : (row segment rung left : ℕ) (bytes : Text) (x : ℕ × Text) → layer_at row segment rung left bytes ≡ Ok x → (bytes ≡ fields_line (layer_fields segment rung x.0) ++ x.1) × (x.0 ≤ left)
 unfolding layer_at
 layer_takes row segment rung left bytes x h =
-    let w = bind_ok (word_at row (codes "layer") 32 bytes) (λ word. known_at row segment 32 word >>= λ first. known_at row rung 32 first >>= λ second. number_at row 7 10 second >>= λ count. passed row (nat_le count.0 left) count) x h in
-    let a = bind_ok (known_at row segment 32 w.0) (λ first. known_at row rung 32 first >>= λ second. number_at row 7 10 second >>= λ count. passed row (nat_le count.0 left) count) x w.2 in
-    let b = bind_ok (known_at row rung 32 a.0) (λ second. number_at row 7 10 second >>= λ count. passed row (nat_le count.0 left) count) x a.2 in
-    let n = bind_ok (number_at row 7 10 b.0) (λ count. passed row (nat_le count.0 left) count) x b.2 in
-    let p = passed_ok row (nat_le n.0.0 left) n.0 x n.2 in
-    let tw = word_takes row (codes "layer") 32 bytes w.0 w.1 in
-    let ta = known_takes row segment 32 w.0 a.0 a.1 in
-    let tb = known_takes row rung 32 a.0 b.0 b.1 in
-    let tn = number_takes row 7 10 b.0 n.0 (lit≤ tt) n.1 in
-    subst (λ (y : ℕ × Text). (bytes ≡ fields_line (layer_fields segment rung y.0) ++ y.1) × (y.0 ≤ left)) p.1 (
-      tw ∙ ap (λ (t : Text). codes "layer" ++ 32 ∷ t) (ta ∙ ap (λ (t : Text). decimal segment ++ 32 ∷ t) (tb ∙ ap (λ (t : Text). decimal rung ++ 32 ∷ t) tn.0)) ∙ sym (layer_line segment rung n.0.0 n.0.1),
-      grind (arith, nat_tests, p.0),
-    )
+    let n = bind_ok (values_at row (layer_line segment rung) bytes) (λ count. passed row (nat_le count.0.0 left) (count.0.0, count.1)) x h in
+    let p = passed_ok row (nat_le n.0.0.0 left) (n.0.0.0, n.0.1) x n.2 in
+    let t = line_takes row (layer_line segment rung) bytes n.0 (can_layer segment rung) (lit≤ tt) n.1 in
+    subst (λ (y : ℕ × Text). (bytes ≡ fields_line (layer_fields segment rung y.0) ++ y.1) × (y.0 ≤ left)) p.1 (t.text, grind (arith, nat_tests, p.0))
 
-layer_again : (row segment rung left count : ℕ) (rest : Text) → HasDigits 7 segment → HasDigits 7 rung → HasDigits 7 count → count ≤ left
+layer_again : (row segment rung left count : ℕ) (rest : Text) → Holds (layer_line segment rung) (count, tt) → count ≤ left
     → layer_at row segment rung left (fields_line (layer_fields segment rung count) ++ rest) ≡ Ok (count, rest)
 unfolding layer_at
-layer_again row segment rung left count rest a b n le =
+layer_again row segment rung left count rest holds le =
     let test : nat_le count left ≡ true = grind (arith, nat_tests) in
-    ap (layer_at row segment rung left) (layer_line segment rung count rest)
-    ∙ rw (
-      word_again row (codes "layer") 32 (decimal segment ++ 32 ∷ (decimal rung ++ 32 ∷ (decimal count ++ 10 ∷ rest))) refl,
-      known_again row segment 32 (decimal rung ++ 32 ∷ (decimal count ++ 10 ∷ rest)) (lit≤ tt) a,
-      known_again row rung 32 (decimal count ++ 10 ∷ rest) (lit≤ tt) b,
-      number_again row 7 10 count rest (lit≤ tt) (lit≤ tt) (lit≤ tt) n,
-      test,
-    ) refl
+    rw (line_again row (layer_line segment rung) (count, tt) rest (can_layer segment rung) (lit≤ tt) holds, test) refl
 
 -- what was read as a chain
 record TakesChain (per segment rung : ℕ) (p : Place) (x : ChainParts × Place) : Type 0 where
@@ -223,14 +175,14 @@ chain_takes per segment rung p x h =
       left = omega (arith, tn.1, tc.count_is);
     })
 
-chain_again : (per segment rung : ℕ) (c : ChainParts) (p : Place) (rest : Text) → p.rest ≡ lines_text (chain_lines per segment rung c) ++ rest → IsChain per c → HasDigits 7 segment → HasDigits 7 rung
+chain_again : (per segment rung : ℕ) (c : ChainParts) (p : Place) (rest : Text) → p.rest ≡ lines_text (chain_lines per segment rung c) ++ rest → IsChain per c → HasDigits place_digits segment → HasDigits place_digits rung
     → length c.labels ≤ p.left → p.left ≤ 1000000 → chain_at per segment rung p ≡ Ok (c, place (p.row + 1 + length c.labels) (p.left - length c.labels) rest)
 unfolding chain_at
 chain_again per segment rung c p rest e form a b le most =
     let text : p.rest ≡ fields_line (layer_fields segment rung (length c.labels)) ++ (lines_text (label_lines per c.labels c.names) ++ rest) =
     e ∙ append_assoc (fields_line (layer_fields segment rung (length c.labels))) (lines_text (label_lines per c.labels c.names)) rest in
     let first : layer_at p.row segment rung p.left p.rest ≡ Ok (length c.labels, lines_text (label_lines per c.labels c.names) ++ rest) =
-    ap (layer_at p.row segment rung p.left) text ∙ layer_again p.row segment rung p.left (length c.labels) (lines_text (label_lines per c.labels c.names) ++ rest) a b (omega arith) le in
+    ap (layer_at p.row segment rung p.left) text ∙ layer_again p.row segment rung p.left (length c.labels) (lines_text (label_lines per c.labels c.names) ++ rest) (a, (b, (omega arith, tt))) le in
     rw (first, labels_again (p.row + 1) per c.labels c.names rest form.labels form.whole form.names) refl
 
 -- ---- chains
@@ -277,8 +229,8 @@ chains_again segments rungs number (c ∷ cs) p rest one few far e form fits mos
     let others = chains_again segments rungs (number + 1) cs (place (p.row + 1 + length c.labels) (p.left - length c.labels) later) rest one few (omega (arith, far)) refl form.1 (omega (arith, fits)) (omega (arith, most)) in
     (others.0, rw (first, others.1) refl, others.2)
   where
-    small_quotient : (n d : ℕ) → n ≤ 32000 → n / d < 10 ^ 7
+    small_quotient : (n d : ℕ) → n ≤ 32000 → n / d < 10 ^ place_digits
     small_quotient n d le = let q = div-le_self n d in omega (arith, q, le)
 
-    small_rest : (n d : ℕ) → 1 ≤ d → d ≤ 16 → n % d < 10 ^ 7
+    small_rest : (n d : ℕ) → 1 ≤ d → d ≤ 16 → n % d < 10 ^ place_digits
     small_rest n d low high = let r = mod-lt n {m = d} low in omega (arith, r, high)

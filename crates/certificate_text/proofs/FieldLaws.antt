@@ -18,9 +18,8 @@ use Rattle.lab_io.specs.Sink.{Text}
 use Rattle.lab_io.specs.Number.{numeral}
 use Rattle.lab_io.specs.Piece.{later_fields}
 use Rattle.lab_io.proofs.Numbers.{decimal-spelling, digit_at, numeral-decimal, numeral-takes}
-use Rattle.certificate_text.specs.Form.{HasDigits, HasSignedDigits}
-use Rattle.certificate_text.specs.Fields.{◌>>=◌, field_at, known_at, negative, number_at, numbers_at, parted, passed, signed_at, signed_of, some_at, stop_before, unsigned_of, word_at}
-use Rattle.certificate_text.specs.Reading.{list_at}
+use Rattle.lab_model.specs.Film.{IsWithin}
+use Rattle.certificate_text.specs.Fields.{◌>>=◌, HasDigits, HasSignedDigits, field_at, known_at, negative, number_at, numbers_at, parted, passed, place_digits, signed_at, signed_of, some_at, stop_before, unsigned_of, within_at, word_at}
 use Rattle.certificate_text.proofs.Loops.{given, ok_is}
 
 -- ---- steps
@@ -150,20 +149,38 @@ unfolding number_at
 number_again row digits stop n rest one short low lt =
     rw (field_again row stop (decimal n) rest (decimal_free stop n low (wide digits n short lt)), numeral-decimal digits n one short lt) refl
 
--- a known number that was read is spelled so
-pub known_takes : (row known stop : ℕ) (bytes rest : Text) → known_at row known stop bytes ≡ Ok rest → bytes ≡ decimal known ++ stop ∷ rest
+-- a known number that was read is short and spelled so
+pub known_takes : (row known stop : ℕ) (bytes rest : Text) → known_at row known stop bytes ≡ Ok rest → (bytes ≡ decimal known ++ stop ∷ rest) × HasDigits place_digits known
 unfolding known_at
 known_takes row known stop bytes rest h =
-    let n = bind_ok (number_at row 7 stop bytes) (λ n. passed row (n.0 == known) n.1) rest h in
+    let n = bind_ok (number_at row place_digits stop bytes) (λ n. passed row (n.0 == known) n.1) rest h in
     let p = passed_ok row (n.0.0 == known) n.0.1 rest n.2 in
-    let t = number_takes row 7 stop bytes n.0 (lit≤ tt) n.1 in
+    let t = number_takes row place_digits stop bytes n.0 (lit≤ tt) n.1 in
     let e : n.0.0 ≡ known = eqb-true n.0.0 known p.0 in
-    t.0 ∙ rw (e, p.1) refl
+    (t.0 ∙ rw (e, p.1) refl, subst (HasDigits place_digits) e t.1)
 
 -- a known number is read from its spelling
-pub known_again : (row known stop : ℕ) (rest : Text) → IsStop stop → HasDigits 7 known → known_at row known stop (decimal known ++ stop ∷ rest) ≡ Ok rest
+pub known_again : (row known stop : ℕ) (rest : Text) → IsStop stop → HasDigits place_digits known → known_at row known stop (decimal known ++ stop ∷ rest) ≡ Ok rest
 unfolding known_at
-known_again row known stop rest low lt = rw (number_again row 7 stop known rest (lit≤ tt) (lit≤ tt) low lt, same_byte known) refl
+known_again row known stop rest low lt = rw (number_again row place_digits stop known rest (lit≤ tt) (lit≤ tt) low lt, same_byte known) refl
+
+-- a number that was read is within its limits and spelled so
+pub within_takes : (row low high stop : ℕ) (bytes : Text) (x : ℕ × Text) → within_at row low high stop bytes ≡ Ok x → (bytes ≡ decimal x.0 ++ stop ∷ x.1) × IsWithin low high x.0
+unfolding within_at
+within_takes row low high stop bytes x h =
+    let n = bind_ok (number_at row place_digits stop bytes) (λ n. passed row (nat_le low n.0 && nat_le n.0 high) n) x h in
+    let p = passed_ok row (nat_le low n.0.0 && nat_le n.0.0 high) n.0 x n.2 in
+    let both = and_parts (nat_le low n.0.0) (nat_le n.0.0 high) p.0 in
+    let t = number_takes row place_digits stop bytes n.0 (lit≤ tt) n.1 in
+    subst (λ (y : ℕ × Text). (bytes ≡ decimal y.0 ++ stop ∷ y.1) × IsWithin low high y.0) p.1 (t.0, (grind (arith, nat_tests, both.0), grind (arith, nat_tests, both.1)))
+
+-- a number within its limits is read from its spelling
+pub within_again : (row low high stop n : ℕ) (rest : Text) → IsStop stop → HasDigits place_digits high → IsWithin low high n → within_at row low high stop (decimal n ++ stop ∷ rest) ≡ Ok (n, rest)
+unfolding within_at
+within_again row low high stop n rest end short within =
+    let least : nat_le low n ≡ true = grind (arith, nat_tests, within.0) in
+    let most : nat_le n high ≡ true = grind (arith, nat_tests, within.1) in
+    rw (number_again row place_digits stop n rest (lit≤ tt) (lit≤ tt) end (omega (arith, short, within.1)), least, most) refl
 
 -- ---- a number that may have a `-`
 
@@ -285,17 +302,3 @@ numbers_again row digits (n ∷ ns) rest one short all =
     let first = number_again row digits (stop_before (length ns)) n (numbers_text ns ++ rest) one short (stop_low (length ns)) (All-head (HasDigits digits) n ns all) in
     let others = numbers_again row digits ns rest one short (All-tail (HasDigits digits) n ns all) in
     rw (append_assoc (decimal n) (stop_before (length ns) ∷ numbers_text ns) rest, first, others) refl
-
--- ---- a line of a word and numbers
-
--- what was read as a line of a word and so many numbers
-pub list_takes : (row : ℕ) (word : Text) (digits count : ℕ) (bytes : Text) (x : List ℕ × Text) → digits ≤ 64 → list_at row word digits count bytes ≡ Ok x
-    → (rest : Text) × (bytes ≡ word ++ 32 ∷ rest) × TakesNumbers digits count rest x
-unfolding list_at
-list_takes row word digits count bytes x short h =
-    let w = bind_ok (word_at row word 32 bytes) (λ rest. numbers_at row digits count rest) x h in
-    (w.0, word_takes row word 32 bytes w.0 w.1, numbers_take row digits count w.0 x short w.2)
-
--- its numbers have so many digits
-pub list_digits : (row : ℕ) (word : Text) (digits count : ℕ) (bytes : Text) (x : List ℕ × Text) → digits ≤ 64 → list_at row word digits count bytes ≡ Ok x → All (HasDigits digits) x.0
-list_digits row word digits count bytes x short h = (list_takes row word digits count bytes x short h).2.digits_are

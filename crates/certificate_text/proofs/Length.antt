@@ -1,5 +1,5 @@
 -- How long the text of a certificate may be.
-use Rattle.std.proofs.Common.{◌≡◌, ◌∙◌, ◌+◌, ◌-◌, ◌*◌, ◌/◌, ◌%◌, ◌^◌, ◌<◌, ◌≤◌, ◌++◌, ◌==◌, ℕ, zero, suc, List, [], ◌∷◌, Bool, true, false, codes, drop, length, length-append, map, take, min, refl, sym, ap, subst, arith, if◌then◌else◌}
+use Rattle.std.proofs.Common.{◌≡◌, ◌∙◌, ◌+◌, ◌-◌, ◌*◌, ◌/◌, ◌%◌, ◌^◌, ◌<◌, ◌≤◌, ◌++◌, ◌==◌, ℕ, zero, suc, List, [], ◌∷◌, Bool, true, false, codes, drop, length, length-append, map, take, min, refl, sym, ap, subst, arith, if◌then◌else◌, lit≤}
 use Rattle.std.specs.Prelude.{ℤ, pos, negsuc, ◌-ℤ◌, ◌<ℤ◌}
 use Rattle.std.specs.List.{All}
 use Rattle.std.specs.Fmt.{decimal, signed_decimal}
@@ -12,8 +12,11 @@ use Rattle.lab_model.specs.declared.label.Label.{Label}
 use Rattle.lab_io.specs.Sink.{Text}
 use Rattle.lab_io.specs.Piece.{fields_line, later_fields}
 use Rattle.frontier_planner.specs.Parts.{CertificateParts, ChainParts}
-use Rattle.certificate_text.specs.Form.{AreChains, HasDigits, HasSignedDigits, IsCertificate, IsChain, IsHead, IsSpelled, label_count, names_per}
-use Rattle.certificate_text.specs.Spelling.{chain_lines, chains_lines, end_text, head_lines, label_fields, label_lines, layer_fields, lines_text, spelling, table_lines, version_text}
+use Rattle.certificate_text.specs.Fields.{HasDigits, HasSignedDigits}
+use Rattle.certificate_text.specs.Line.{fields_of}
+use Rattle.certificate_text.specs.Grammar.{end_line, plan_line, rungs_line, score_line, segments_line, start_line}
+use Rattle.certificate_text.specs.Form.{AreChains, IsCertificate, IsChain, IsHead, IsSpelled, label_count, names_per}
+use Rattle.certificate_text.specs.Spelling.{chain_lines, chains_lines, head_lines, label_fields, label_lines, layer_fields, lines_text, spelling, table_lines, version_fields, version_number}
 use Rattle.certificate_text.proofs.Texts.{spelling_parts}
 
 -- the most bytes of a certificate's text that a program has to take
@@ -119,9 +122,17 @@ chains_short segments rungs number (c ∷ cs) some few far form fits =
 
 -- ---- the whole
 
-version_short : (table : Bool) → length (fields_line (version_text table ∷ [])) ≤ 21
-version_short true = omega arith
-version_short false = omega arith
+version_short : (table : Bool) → length (fields_line (version_fields table)) ≤ 27
+version_short table =
+    let d = digits_short 7 (version_number table) (omega arith) (omega arith) (low table) in
+    let a = first_field (codes "abrlab") (codes "certificate" ∷ decimal (version_number table) ∷ []) in
+    let b = one_field (codes "certificate") (decimal (version_number table) ∷ []) in
+    let e = one_field (decimal (version_number table)) [] in
+    omega (arith, d, a, b, e)
+  where
+    low : (table : Bool) → HasDigits 7 (version_number table)
+    low true = lit≤ tt
+    low false = lit≤ tt
 
 table_short : (table : Bool) → length (lines_text (table_lines table)) ≤ 16
 table_short true = omega arith
@@ -149,26 +160,28 @@ list_short word k ns some few h =
 
 head_short : (c : CertificateParts) → IsHead c → length (lines_text (head_lines c)) ≤ 7000
 head_short c h =
-    let counts = (version_text c.table ∷ []) ∷ (codes "segments" ∷ decimal c.segments ∷ []) ∷ (codes "rungs" ∷ decimal c.rungs ∷ []) ∷ [] in
-    let score = codes "score" ∷ signed_decimal c.score ∷ [] in
-    let plan = codes "plan" ∷ map decimal c.plan in
-    let starts = codes "start" ∷ map decimal c.starts in
-    let many = h.segments.1 in
-    let high = h.rungs.1 in
-    let long = h.plan_length in
-    let wide = h.starts_length in
+    let segments = fields_of segments_line (c.segments, tt) in
+    let rungs = fields_of rungs_line (c.rungs, tt) in
+    let counts = version_fields c.table ∷ segments ∷ rungs ∷ [] in
+    let score = fields_of score_line (c.score, tt) in
+    let plan = fields_of (plan_line c.segments) c.plan in
+    let starts = fields_of (start_line c.rungs) c.starts in
+    let many = h.segments.0.1 in
+    let high = h.rungs.0.1 in
+    let long = h.plan.0 in
+    let wide = h.starts.0 in
     let a = version_short c.table in
     let b = count_short (codes "segments") c.segments (omega (arith, many)) in
     let d = count_short (codes "rungs") c.rungs (omega (arith, high)) in
     let e = table_short c.table in
-    let f = score_short c.score h.score in
-    let p = list_short (codes "plan") 2 c.plan (omega arith) (omega arith) h.plan in
-    let s = list_short (codes "start") 7 c.starts (omega arith) (omega arith) h.starts in
+    let f = score_short c.score h.score.0 in
+    let p = list_short (codes "plan") 2 c.plan (omega arith) (omega arith) h.plan.1 in
+    let s = list_short (codes "start") 7 c.starts (omega arith) (omega arith) h.starts.1 in
     let one = lines_both counts (table_lines c.table ++ (score ∷ plan ∷ starts ∷ [])) in
     let two = lines_both (table_lines c.table) (score ∷ plan ∷ starts ∷ []) in
-    let x = lines_more (version_text c.table ∷ []) ((codes "segments" ∷ decimal c.segments ∷ []) ∷ (codes "rungs" ∷ decimal c.rungs ∷ []) ∷ []) in
-    let y = lines_more (codes "segments" ∷ decimal c.segments ∷ []) ((codes "rungs" ∷ decimal c.rungs ∷ []) ∷ []) in
-    let z = lines_more (codes "rungs" ∷ decimal c.rungs ∷ []) [] in
+    let x = lines_more (version_fields c.table) (segments ∷ rungs ∷ []) in
+    let y = lines_more segments (rungs ∷ []) in
+    let z = lines_more rungs [] in
     let u = lines_more score (plan ∷ starts ∷ []) in
     let v = lines_more plan (starts ∷ []) in
     let w = lines_more starts [] in
@@ -179,13 +192,13 @@ pub spelling_fits : (c : CertificateParts) → IsCertificate c → length (spell
 spelling_fits c form =
     let head = lines_text (head_lines c) in
     let chains = lines_text (chains_lines c.segments c.rungs 0 c.chains) in
-    let few = at_most c.segments c.rungs form.head.segments.1 form.head.rungs.1 in
+    let few = at_most c.segments c.rungs form.head.segments.0.1 form.head.rungs.0.1 in
     let count = form.count in
     let a = head_short c form.head in
-    let b = chains_short c.segments c.rungs 0 c.chains form.head.rungs.0 form.head.rungs.1 (omega (arith, count, few)) form.chains form.labels in
+    let b = chains_short c.segments c.rungs 0 c.chains form.head.rungs.0.0 form.head.rungs.0.1 (omega (arith, count, few)) form.chains form.labels in
     let whole = ap length (spelling_parts c) in
-    let one = length-append head (chains ++ fields_line (end_text ∷ [])) in
-    let two = length-append chains (fields_line (end_text ∷ [])) in
+    let one = length-append head (chains ++ fields_line (fields_of end_line tt)) in
+    let two = length-append chains (fields_line (fields_of end_line tt)) in
     let labels = form.labels in
     omega (arith, few, count, a, b, whole, one, two, labels)
   where

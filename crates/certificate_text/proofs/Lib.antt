@@ -1,6 +1,7 @@
 pub mod Values
 pub mod Loops
 pub mod FieldLaws
+pub mod LineLaws
 pub mod Texts
 pub mod CertificateLaws
 pub mod HeadLaws

@@ -21,12 +21,14 @@ use Rattle.frontier_planner.specs.Planned.{IsPlanOf, IsShort, IsShortCertificate
 use Rattle.frontier_planner.specs.Read.{Chains, certificate_of, chain_list, chain_with_names, list_of_plan, names_of, names_of_label, place_above, starts_of}
 use Rattle.frontier_planner.specs.Valid.{chain_in, no_chain}
 use Rattle.frontier_planner.proofs.Accepts.{chain_at}
-use Rattle.certificate_text.specs.Form.{AreChains, HasDigits, HasSignedDigits, IsCertificate, IsChain, IsSpelled, label_count, names_per}
+use Rattle.certificate_text.specs.Fields.{HasDigits, HasSignedDigits, place_digits}
+use Rattle.certificate_text.specs.Grammar.{rung_digits, score_digits}
+use Rattle.certificate_text.specs.Form.{AreChains, IsCertificate, IsChain, IsSpelled, label_count, names_per}
 
 -- ---- numbers
 
-score_digits : (v : ℤ) → IsShortValue v → HasSignedDigits 24 v
-score_digits v h = let low = h.low in let high = h.high in (omega (arith, ints, low), omega (arith, ints, high))
+score_fits : (v : ℤ) → IsShortValue v → HasSignedDigits score_digits v
+score_fits v h = let low = h.low in let high = h.high in (omega (arith, ints, low), omega (arith, ints, high))
 
 label_digits : (l : Label) → IsShort l → IsSpelled l
 label_digits l h = let low = h.value.low in let high = h.value.high in record { t = h.time; p = h.delay; v = (omega (arith, ints, low), omega (arith, ints, high)) }
@@ -96,20 +98,21 @@ module _ (d : Grid) (g : Task) (is : IsTask g) (chains : Chains) (short : IsShor
         labels = All-weaker IsShort IsSpelled label_digits (get_or (chain_list g chains) j no_chain).labels own.labels;
         whole = ap (λ (c : ChainParts). length c.names) at ∙ names ∙ ap (λ n. length (chains i q) * names_per segments rungs n) here
             ∙ ap (λ (c : ChainParts). length c.labels * names_per segments rungs ((0 + j) / rungs)) (sym at);
-        names = All-weaker (λ k. k < 10000000) (HasDigits 7) (λ k h. omega (arith, h)) (get_or (chain_list g chains) j no_chain).names own.names;
+        names = All-weaker (λ k. k < 10000000) (HasDigits place_digits) (λ k h. omega (arith, h)) (get_or (chain_list g chains) j no_chain).names own.names;
       }
 
   -- it has a text
   pub read_has_text : length (list_of_plan d g chains) ≡ segments_of g.film → IsCertificate (certificate_of d g chains)
   read_has_text long = record {
     head = record {
-      segments = is.film.segments;
-      rungs = is.film.rungs;
-      score = score_digits (certificate_of d g chains).score short.score;
-      plan_length = long;
-      plan = All-weaker (λ k. k < 100) (HasDigits 2) (λ k h. omega (arith, h)) (list_of_plan d g chains) short.plan;
-      starts_length = length-map-range_with_len (λ q. place_above (chains 0 q) (start_label g q)) 0 (rungs_of g.film);
-      starts = All-weaker (λ k. k < 10000000) (HasDigits 7) (λ k h. omega (arith, h)) (starts_of g chains) short.starts;
+      segments = (is.film.segments, tt);
+      rungs = (is.film.rungs, tt);
+      score = (score_fits (certificate_of d g chains).score short.score, tt);
+      plan = (long, All-weaker (λ k. k < 100) (HasDigits rung_digits) (λ k h. omega (arith, h)) (list_of_plan d g chains) short.plan);
+      starts = (
+        length-map-range_with_len (λ q. place_above (chains 0 q) (start_label g q)) 0 (rungs_of g.film),
+        All-weaker (λ k. k < 10000000) (HasDigits place_digits) (λ k h. omega (arith, h)) (starts_of g chains) short.starts,
+      );
     };
     count = chains_count;
     chains = chains_from (segments_of g.film) (rungs_of g.film) 0 (chain_list g chains) chain_form;

@@ -1,5 +1,5 @@
 -- The text of a certificate, part by part, and how the writer's loops go through it.
-use Rattle.std.proofs.Common.{◌≡◌, ◌∙◌, ◌+◌, ◌-◌, ◌*◌, ◌/◌, ◌%◌, ◌<◌, ◌≤◌, ℕ, List, [], ◌∷◌, ◌++◌, Bool, codes, drop, get_or, length, map, take, refl, sym, ap, subst, suc, add-one, append_assoc, append-nil, drop-cons, arith}
+use Rattle.std.proofs.Common.{◌≡◌, ◌∙◌, ◌+◌, ◌-◌, ◌*◌, ◌/◌, ◌%◌, ◌<◌, ◌≤◌, ℕ, List, [], ◌∷◌, ◌++◌, Bool, drop, get_or, length, map, take, refl, sym, ap, subst, suc, add-one, append_assoc, append-nil, drop-cons, arith}
 use Rattle.std.specs.Fmt.{decimal, signed_decimal}
 use Rattle.std.proofs.lemmas.List.{drop_all}
 use Rattle.std.proofs.lemmas.List.Concat.{flat_map-append}
@@ -9,43 +9,45 @@ use Rattle.lab_io.specs.Piece.{fields_line, later_fields}
 use Rattle.frontier_planner.specs.declared.plans.Chain.{Chain}
 use Rattle.frontier_planner.specs.Parts.{CertificateParts, ChainParts, chain_parts}
 use Rattle.certificate_text.specs.Form.{AreChains, IsChain, names_per}
-use Rattle.certificate_text.specs.Spelling.{chain_lines, chains_lines, end_text, head_lines, label_fields, label_numbers, label_lines, lines_text, spelling, table_lines, version_text}
+use Rattle.certificate_text.specs.Line.{fields_of}
+use Rattle.certificate_text.specs.Grammar.{end_line, plan_line, rungs_line, score_line, segments_line, start_line}
+use Rattle.certificate_text.specs.Spelling.{chain_lines, chains_lines, head_lines, label_fields, label_lines, lines_text, spelling, table_lines, version_fields}
 
 -- ---- the parts
 
 -- the first lines
 abbrev pub counts_text : Bool → ℕ → ℕ → Text
 counts_text table segments rungs =
-    fields_line (version_text table ∷ [])
-    ++ (fields_line (codes "segments" ∷ decimal segments ∷ [])
-    ++ (fields_line (codes "rungs" ∷ decimal rungs ∷ []) ++ lines_text (table_lines table)))
+    fields_line (version_fields table)
+    ++ (fields_line (fields_of segments_line (segments, tt))
+    ++ (fields_line (fields_of rungs_line (rungs, tt)) ++ lines_text (table_lines table)))
 
 -- score, rung list and starts
 abbrev pub lists_text : CertificateParts → Text
 lists_text c =
-    fields_line (codes "score" ∷ signed_decimal c.score ∷ [])
-    ++ (fields_line (codes "plan" ∷ map decimal c.plan) ++ fields_line (codes "start" ∷ map decimal c.starts))
+    fields_line (fields_of score_line (c.score, tt))
+    ++ (fields_line (fields_of (plan_line c.segments) c.plan) ++ fields_line (fields_of (start_line c.rungs) c.starts))
 
 -- the text of the head in two parts
 pub head_text : (c : CertificateParts) → lines_text (head_lines c) ≡ counts_text c.table c.segments c.rungs ++ lists_text c
 head_text c =
-    let version = fields_line (version_text c.table ∷ []) in
-    let segments = fields_line (codes "segments" ∷ decimal c.segments ∷ []) in
-    let rungs = fields_line (codes "rungs" ∷ decimal c.rungs ∷ []) in
+    let version = fields_line (version_fields c.table) in
+    let segments = fields_line (fields_of segments_line (c.segments, tt)) in
+    let rungs = fields_line (fields_of rungs_line (c.rungs, tt)) in
     let table = lines_text (table_lines c.table) in
-    let later : List (List Text) = (codes "score" ∷ signed_decimal c.score ∷ []) ∷ (codes "plan" ∷ map decimal c.plan) ∷ (codes "start" ∷ map decimal c.starts) ∷ [] in
-    let last : lines_text later ≡ lists_text c = ap (λ (t : Text). fields_line (codes "score" ∷ signed_decimal c.score ∷ []) ++ (fields_line (codes "plan" ∷ map decimal c.plan) ++ t)) (append-nil (fields_line (codes "start" ∷ map decimal c.starts))) in
+    let later : List (List Text) = fields_of score_line (c.score, tt) ∷ fields_of (plan_line c.segments) c.plan ∷ fields_of (start_line c.rungs) c.starts ∷ [] in
+    let last : lines_text later ≡ lists_text c = ap (λ (t : Text). fields_line (fields_of score_line (c.score, tt)) ++ (fields_line (fields_of (plan_line c.segments) c.plan) ++ t)) (append-nil (fields_line (fields_of (start_line c.rungs) c.starts))) in
     let parted : lines_text (table_lines c.table ++ later) ≡ table ++ lists_text c = flat_map-append fields_line (table_lines c.table) later ∙ ap (λ (t : Text). table ++ t) last in
     ap (λ (t : Text). version ++ (segments ++ (rungs ++ t))) parted
     ∙ sym (append_assoc version (segments ++ (rungs ++ table)) (lists_text c)
     ∙ ap (λ (t : Text). version ++ t) (append_assoc segments (rungs ++ table) (lists_text c) ∙ ap (λ (t : Text). segments ++ t) (append_assoc rungs table (lists_text c))))
 
 -- a spelling in its parts
-pub spelling_parts : (c : CertificateParts) → spelling c ≡ lines_text (head_lines c) ++ (lines_text (chains_lines c.segments c.rungs 0 c.chains) ++ fields_line (end_text ∷ []))
+pub spelling_parts : (c : CertificateParts) → spelling c ≡ lines_text (head_lines c) ++ (lines_text (chains_lines c.segments c.rungs 0 c.chains) ++ fields_line (fields_of end_line tt))
 unfolding spelling
 spelling_parts c =
     let chains = chains_lines c.segments c.rungs 0 c.chains in
-    let last : List (List Text) = (end_text ∷ []) ∷ [] in
+    let last : List (List Text) = fields_of end_line tt ∷ [] in
     flat_map-append fields_line (head_lines c) (chains ++ last)
     ∙ ap (λ (t : Text). lines_text (head_lines c) ++ t) (flat_map-append fields_line chains last)
 
@@ -93,6 +95,10 @@ chains_form segments rungs cs i c lt is form =
     subst (λ (rest : List ChainParts). AreChains segments rungs i rest) (ap (map chain_parts) (chains_cut cs i c lt is)) form
 
 -- ---- a label
+
+-- the three numbers of a label
+abbrev pub label_numbers : Label → Text
+label_numbers l = decimal l.t ++ (32 ∷ (decimal l.p ++ (32 ∷ (signed_decimal l.v ++ []))))
 
 -- a label's line is its numbers and its names
 pub label_text : (l : Label) (names : List ℕ) → label_numbers l ++ later_fields (map decimal names) ≡ fields_line (label_fields l names)

@@ -1,5 +1,5 @@
 -- The fields of a line, read one after the other: each is what the bytes say and what stands behind it, or the line is bad.
-use Rattle.std.specs.Prelude.{ℕ, zero, suc, ◌+◌, ◌==◌, Bool, List, [], ◌∷◌, ◌++◌, take, drop, position, Option, Some, None, Result, Ok, Err, if◌then◌else◌, ℤ, pos, ◌-ℤ◌, nat_le}
+use Rattle.std.specs.Prelude.{ℕ, zero, suc, ◌+◌, ◌^◌, ◌<◌, ◌==◌, ◌&&◌, Bool, List, [], ◌∷◌, ◌++◌, take, drop, position, Option, Some, None, Result, Ok, Err, if◌then◌else◌, ℤ, pos, ◌-ℤ◌, ◌<ℤ◌, nat_le}
 use Rattle.std.specs.Str.{bytes_eq}
 use Rattle.lab_model.specs.declared.fault.Kind.TheVariants as kind
 use Rattle.lab_model.specs.declared.fault.Key.TheVariants as key
@@ -8,8 +8,20 @@ use Rattle.lab_model.specs.Reading.{refusal}
 use Rattle.lab_io.specs.Sink.{Text}
 use Rattle.lab_io.specs.Number.{numeral}
 
--- one step and then the next, unless the first was refused
+-- a number of at most so many digits
+abbrev pub HasDigits : ℕ → ℕ → Type 0
+HasDigits digits n = n < 10 ^ digits
+
+-- the same behind a `-`, too
+abbrev pub HasSignedDigits : ℕ → ℤ → Type 0
+HasSignedDigits digits z = ((pos 0 -ℤ pos (10 ^ digits)) <ℤ z) × (z <ℤ pos (10 ^ digits))
+
+-- the digits of a number that names a place, or counts
+abbrev pub place_digits : ℕ
+place_digits = 7
+
 infixl 10 ◌>>=◌
+-- one step and then the next, unless the first was refused
 abbrev pub ◌>>=◌ : {X Y : Type 0} → Result X Refusal → (X → Result Y Refusal) → Result Y Refusal
 (Ok x) >>= f = f x
 (Err e) >>= f = Err e
@@ -56,8 +68,14 @@ number_at row digits stop bytes = do
 -- this number
 unfoldable pub known_at : ℕ → ℕ → ℕ → Text → Result Text Refusal
 known_at row known stop bytes = do
-  n ← number_at row 7 stop bytes
+  n ← number_at row place_digits stop bytes
   passed row (n.0 == known) n.1
+
+-- a number from the first to the second
+unfoldable pub within_at : ℕ → ℕ → ℕ → ℕ → Text → Read ℕ
+within_at row low high stop bytes = do
+  n ← number_at row place_digits stop bytes
+  passed row (nat_le low n.0 && nat_le n.0 high) n
 
 -- the number below 0 that a text spells behind its `-`
 abbrev pub negative : ℕ → ℕ → Text → Result ℤ Refusal

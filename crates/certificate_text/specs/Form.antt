@@ -1,10 +1,12 @@
 -- The form of certificates: the counts and the digits that the grammar allows.
-use Rattle.std.specs.Prelude.{◌≡◌, ℕ, ◌+◌, ◌*◌, ◌/◌, ◌^◌, ◌<◌, ◌≤◌, ◌==◌, List, [], ◌∷◌, length, map, if◌then◌else◌, ℤ, pos, ◌-ℤ◌, ◌<ℤ◌}
+use Rattle.std.specs.Prelude.{◌≡◌, ℕ, ◌+◌, ◌*◌, ◌/◌, ◌≤◌, ◌==◌, List, [], ◌∷◌, length, map, if◌then◌else◌}
 use Rattle.std.specs.List.{All}
 use Rattle.lab_model.specs.declared.label.Label.{Label}
-use Rattle.lab_model.specs.Film.{IsWithin}
 use Rattle.frontier_planner.specs.Parts.{CertificateParts, ChainParts, chain_parts}
 use Rattle.certificate_text.specs.declared.certificate.Certificate.{Certificate}
+use Rattle.certificate_text.specs.Fields.{HasDigits, HasSignedDigits, place_digits}
+use Rattle.certificate_text.specs.Line.{Holds}
+use Rattle.certificate_text.specs.Grammar.{label_digits, most_labels, plan_line, rungs_line, score_line, segments_line, start_line}
 
 -- the parts of a certificate
 abbrev pub certificate_parts : Certificate → CertificateParts
@@ -18,19 +20,11 @@ certificate_parts c = record {
   chains = map chain_parts c.chains.items;
 }
 
--- a number of at most so many digits
-abbrev pub HasDigits : ℕ → ℕ → Type 0
-HasDigits digits n = n < 10 ^ digits
-
--- the same behind a `-`, too
-abbrev pub HasSignedDigits : ℕ → ℤ → Type 0
-HasSignedDigits digits z = ((pos 0 -ℤ pos (10 ^ digits)) <ℤ z) × (z <ℤ pos (10 ^ digits))
-
--- a label whose numbers have at most 18 digits
+-- a label whose numbers have no more digits than its line allows
 pub record IsSpelled (l : Label) : Type 0 where
-  pub t : HasDigits 18 l.t
-  pub p : HasDigits 18 l.p
-  pub v : HasSignedDigits 18 l.v
+  pub t : HasDigits label_digits l.t
+  pub p : HasDigits label_digits l.p
+  pub v : HasSignedDigits label_digits l.v
 
 -- how many names stand behind each label of a segment: one for each rung of the next
 abbrev pub names_per : ℕ → ℕ → ℕ → ℕ
@@ -40,7 +34,7 @@ names_per segments rungs segment = if segment + 1 == segments then 0 else rungs
 pub record IsChain (per : ℕ) (c : ChainParts) : Type 0 where
   pub labels : All IsSpelled c.labels
   pub whole : length c.names ≡ length c.labels * per
-  pub names : All (HasDigits 7) c.names
+  pub names : All (HasDigits place_digits) c.names
 
 -- the chains from the one with this number on, by segment, then rung
 abbrev pub AreChains : ℕ → ℕ → ℕ → List ChainParts → Type 0
@@ -52,19 +46,17 @@ abbrev pub label_count : List ChainParts → ℕ
 label_count [] = 0
 label_count (c ∷ cs) = length c.labels + label_count cs
 
--- all that stands before the chains
+-- what stands before the chains has its lines
 pub record IsHead (c : CertificateParts) : Type 0 where
-  pub segments : IsWithin 1 2000 c.segments
-  pub rungs : IsWithin 1 16 c.rungs
-  pub score : HasSignedDigits 24 c.score
-  pub plan_length : length c.plan ≡ c.segments
-  pub plan : All (HasDigits 2) c.plan
-  pub starts_length : length c.starts ≡ c.rungs
-  pub starts : All (HasDigits 7) c.starts
+  pub segments : Holds segments_line (c.segments, tt)
+  pub rungs : Holds rungs_line (c.rungs, tt)
+  pub score : Holds score_line (c.score, tt)
+  pub plan : Holds (plan_line c.segments) c.plan
+  pub starts : Holds (start_line c.rungs) c.starts
 
 -- a certificate that has a text
 pub record IsCertificate (c : CertificateParts) : Type 0 where
   pub head : IsHead c
   pub count : length c.chains ≡ c.segments * c.rungs
   pub chains : AreChains c.segments c.rungs 0 c.chains
-  pub labels : label_count c.chains ≤ 1000000
+  pub labels : label_count c.chains ≤ most_labels

@@ -1,5 +1,7 @@
+pub mod Fields
+pub mod Line
+pub mod Grammar
 pub mod Form
 pub mod Spelling
-pub mod Fields
 pub mod Reading
 pub mod Walk

@@ -1,6 +1,5 @@
 -- What the bytes of a certificate stand for, or their first bad line.
-use Rattle.std.specs.Prelude.{ℕ, zero, suc, ◌+◌, ◌-◌, ◌*◌, ◌/◌, ◌%◌, ◌&&◌, Bool, true, false, List, [], ◌∷◌, ◌++◌, codes, Result, Ok, Err, if◌then◌else◌, nat_le, ℤ}
-use Rattle.std.specs.Str.{bytes_eq}
+use Rattle.std.specs.Prelude.{ℕ, zero, suc, ◌+◌, ◌-◌, ◌*◌, ◌/◌, ◌%◌, ◌==◌, Bool, List, [], ◌∷◌, ◌++◌, Result, Ok, Err, if◌then◌else◌, nat_le}
 use Rattle.lab_model.specs.declared.fault.Refusal.{Refusal}
 use Rattle.lab_model.specs.declared.label.Label.{Label}
 use Rattle.lab_io.specs.Sink.{Text}
@@ -8,8 +7,9 @@ use Rattle.frontier_planner.specs.Parts.{CertificateParts, ChainParts}
 use Rattle.certificate_text.specs.declared.chains.Spot.{Spot}
 use Rattle.certificate_text.specs.declared.head.Counts as head
 use Rattle.certificate_text.specs.Form.{names_per}
-use Rattle.certificate_text.specs.Spelling.{version_text, table_text, end_text}
-use Rattle.certificate_text.specs.Fields.{◌>>=◌, Read, bad_line, field_at, known_at, number_at, numbers_at, passed, signed_at, stop_before, word_at}
+use Rattle.certificate_text.specs.Fields.{◌>>=◌, Read, bad_line, passed}
+use Rattle.certificate_text.specs.Line.{values_at}
+use Rattle.certificate_text.specs.Grammar.{end_line, label_line, layer_line, most_labels, plan_line, rungs_line, score_line, segments_line, start_line, table_line, version_line}
 
 -- where a reader stands: the number of the next line, how many labels may still come, and the bytes that are left
 pub record Place : Type 0 where
@@ -27,41 +27,15 @@ place_of spot = record { row = spot.row; left = spot.left; rest = spot.rest.now 
 
 -- ---- the lines before the chains
 
--- the version that a first line tells
-abbrev pub version_of : ℕ → Text → Result Bool Refusal
-version_of row line =
-    if bytes_eq line (version_text false) then Ok false
-    else passed row (bytes_eq line (version_text true)) true
-
--- the first line
+-- whether the version is that of a setup with a utility table
 unfoldable pub version_at : ℕ → Text → Read Bool
 version_at row bytes = do
-  line ← field_at row 10 bytes
-  table ← version_of row line.0
-  Ok (table, line.1)
-
--- a line of a word and a number from 1 to the most
-unfoldable pub count_at : ℕ → Text → ℕ → Text → Read ℕ
-count_at row word most bytes = do
-  rest ← word_at row word 32 bytes
-  n ← number_at row 7 10 rest
-  passed row (nat_le 1 n.0 && nat_le n.0 most) n
+  version ← values_at row version_line bytes
+  Ok (version.0.0 == 2, version.1)
 
 -- the line of version 2
-unfoldable pub table_at : ℕ → Bool → Text → Result Text Refusal
-table_at row table bytes = if table then word_at row table_text 10 bytes else Ok bytes
-
--- the line of the score
-unfoldable pub score_at : ℕ → Text → Read ℤ
-score_at row bytes = do
-  rest ← word_at row (codes "score") 32 bytes
-  signed_at row 24 10 rest
-
--- a line of a word and so many numbers
-unfoldable pub list_at : ℕ → Text → ℕ → ℕ → Text → Read (List ℕ)
-list_at row word digits count bytes = do
-  rest ← word_at row word 32 bytes
-  numbers_at row digits count rest
+unfoldable pub table_at : ℕ → Bool → Text → Read (Unit {0})
+table_at row table bytes = if table then values_at row table_line bytes else Ok (tt, bytes)
 
 -- version and counts
 pub record Counts : Type 0 where
@@ -77,10 +51,10 @@ counts_of c = record { table = c.table; segments = c.segments; rungs = c.rungs }
 unfoldable pub counts_at : Text → Read Counts
 counts_at bytes = do
   table ← version_at 1 bytes
-  segments ← count_at 2 (codes "segments") 2000 table.1
-  rungs ← count_at 3 (codes "rungs") 16 segments.1
+  segments ← values_at 2 segments_line table.1
+  rungs ← values_at 3 rungs_line segments.1
   rest ← table_at 4 table.0 rungs.1
-  Ok (record { table = table.0; segments = segments.0; rungs = rungs.0 }, rest)
+  Ok (record { table = table.0; segments = segments.0.0; rungs = rungs.0.0 }, rest.1)
 
 -- the number of the line of the score
 abbrev pub score_row : Bool → ℕ
@@ -90,12 +64,12 @@ score_row table = if table then 5 else 4
 unfoldable pub head_at : Text → Walks CertificateParts
 head_at bytes = do
   counts ← counts_at bytes
-  score ← score_at (score_row counts.0.table) counts.1
-  plan ← list_at (score_row counts.0.table + 1) (codes "plan") 2 counts.0.segments score.1
-  starts ← list_at (score_row counts.0.table + 2) (codes "start") 7 counts.0.rungs plan.1
+  score ← values_at (score_row counts.0.table) score_line counts.1
+  plan ← values_at (score_row counts.0.table + 1) (plan_line counts.0.segments) score.1
+  starts ← values_at (score_row counts.0.table + 2) (start_line counts.0.rungs) plan.1
   Ok (
-    record { table = counts.0.table; segments = counts.0.segments; rungs = counts.0.rungs; score = score.0; plan = plan.0; starts = starts.0; chains = [] },
-    record { row = score_row counts.0.table + 3; left = 1000000; rest = starts.1 },
+    record { table = counts.0.table; segments = counts.0.segments; rungs = counts.0.rungs; score = score.0.0; plan = plan.0; starts = starts.0; chains = [] },
+    record { row = score_row counts.0.table + 3; left = most_labels; rest = starts.1 },
   )
 
 -- ---- the chains
@@ -108,20 +82,11 @@ joined c d = record { labels = c.labels ++ d.labels; names = c.names ++ d.names 
 abbrev pub behind : ChainParts → Read ChainParts → Read ChainParts
 behind c read = read >>= λ d. Ok (joined c d.0, d.1)
 
--- the three numbers of a label, before so many names
-unfoldable pub numbers_of_label_at : ℕ → ℕ → Text → Read Label
-numbers_of_label_at row per bytes = do
-  t ← number_at row 18 32 bytes
-  p ← number_at row 18 32 t.1
-  v ← signed_at row 18 (stop_before per) p.1
-  Ok (record { t = t.0; p = p.0; v = v.0 }, v.1)
-
 -- the line of a label with so many names: a chain of this label alone
 unfoldable pub label_at : ℕ → ℕ → Text → Read ChainParts
 label_at row per bytes = do
-  label ← numbers_of_label_at row per bytes
-  names ← numbers_at row 7 per label.1
-  Ok (record { labels = label.0 ∷ []; names = names.0 }, names.1)
+  label ← values_at row (label_line per) bytes
+  Ok (record { labels = (record { t = label.0.0; p = label.0.1.0; v = label.0.1.1.0 }) ∷ []; names = label.0.1.1.1 }, label.1)
 
 -- the lines of so many labels
 unfoldable pub labels_at : ℕ → ℕ → ℕ → Text → Read ChainParts
@@ -134,11 +99,8 @@ labels_at row per (suc more) bytes = do
 -- the line before the labels of a chain: how many they are, which may be no more than are left
 unfoldable pub layer_at : ℕ → ℕ → ℕ → ℕ → Text → Read ℕ
 layer_at row segment rung left bytes = do
-  word ← word_at row (codes "layer") 32 bytes
-  first ← known_at row segment 32 word
-  second ← known_at row rung 32 first
-  count ← number_at row 7 10 second
-  passed row (nat_le count.0 left) count
+  count ← values_at row (layer_line segment rung) bytes
+  passed row (nat_le count.0.0 left) (count.0.0, count.1)
 
 -- the chain of a segment and rung, whose labels have so many names each
 unfoldable pub chain_at : ℕ → ℕ → ℕ → Place → Walks ChainParts
@@ -165,8 +127,8 @@ nothing_at row (b ∷ bytes) = Err (bad_line row)
 -- the last line
 unfoldable pub end_at : Place → Result (Unit {0}) Refusal
 end_at p = do
-  rest ← word_at p.row end_text 10 p.rest
-  nothing_at (p.row + 1) rest
+  rest ← values_at p.row end_line p.rest
+  nothing_at (p.row + 1) rest.1
 
 -- the certificate that the bytes spell, or the first bad line
 unfoldable pub certificate_of : Text → Result CertificateParts Refusal

@@ -1,43 +1,36 @@
 -- The text of a certificate: its lines, each with its fields.
-use Rattle.std.specs.Prelude.{ℕ, ◌+◌, ◌/◌, ◌%◌, Bool, List, [], ◌∷◌, ◌++◌, length, map, take, drop, codes, if◌then◌else◌}
+use Rattle.std.specs.Prelude.{ℕ, ◌+◌, ◌/◌, ◌%◌, Bool, List, [], ◌∷◌, ◌++◌, length, take, drop, if◌then◌else◌}
 use Rattle.std.specs.List.{flat_map}
-use Rattle.std.specs.Fmt.{decimal, signed_decimal}
 use Rattle.lab_model.specs.declared.label.Label.{Label}
 use Rattle.lab_io.specs.Sink.{Text}
 use Rattle.lab_io.specs.Piece.{fields_line}
 use Rattle.frontier_planner.specs.Parts.{CertificateParts, ChainParts}
+use Rattle.certificate_text.specs.Line.{fields_of}
+use Rattle.certificate_text.specs.Grammar.{end_line, label_line, layer_line, plan_line, rungs_line, score_line, segments_line, start_line, table_line, version_line}
 use Rattle.certificate_text.specs.Form.{names_per}
 
--- the first line, which tells the version: 2 for a setup with a utility table
-abbrev pub version_text : Bool → Text
-version_text table = if table then codes "abrlab certificate 2" else codes "abrlab certificate 1"
+-- the number of the version: 2 for a setup with a utility table
+abbrev pub version_number : Bool → ℕ
+version_number table = if table then 2 else 1
 
--- the line of version 2 behind its counts
-abbrev pub table_text : Text
-table_text = codes "utilities table"
+-- the first line
+abbrev pub version_fields : Bool → List Text
+version_fields table = fields_of version_line (version_number table, tt)
 
--- the last line
-abbrev pub end_text : Text
-end_text = codes "end"
-
--- that line of version 2
+-- the line of version 2
 abbrev pub table_lines : Bool → List (List Text)
-table_lines table = if table then ((table_text ∷ []) ∷ []) else []
+table_lines table = if table then (fields_of table_line tt ∷ []) else []
 
 -- the lines before the chains
 abbrev pub head_lines : CertificateParts → List (List Text)
 head_lines c =
-    ((version_text c.table ∷ []) ∷ (codes "segments" ∷ decimal c.segments ∷ []) ∷ (codes "rungs" ∷ decimal c.rungs ∷ []) ∷ [])
+    (version_fields c.table ∷ fields_of segments_line (c.segments, tt) ∷ fields_of rungs_line (c.rungs, tt) ∷ [])
     ++ (table_lines c.table
-    ++ ((codes "score" ∷ signed_decimal c.score ∷ []) ∷ (codes "plan" ∷ map decimal c.plan) ∷ (codes "start" ∷ map decimal c.starts) ∷ []))
+    ++ (fields_of score_line (c.score, tt) ∷ fields_of (plan_line c.segments) c.plan ∷ fields_of (start_line c.rungs) c.starts ∷ []))
 
--- the line of a label: its instant, its delay, its value and its names
+-- the line of a label with its names
 abbrev pub label_fields : Label → List ℕ → List Text
-label_fields l names = decimal l.t ∷ decimal l.p ∷ signed_decimal l.v ∷ map decimal names
-
--- its three numbers
-abbrev pub label_numbers : Label → Text
-label_numbers l = decimal l.t ++ (32 ∷ (decimal l.p ++ (32 ∷ (signed_decimal l.v ++ []))))
+label_fields l names = fields_of (label_line (length names)) (l.t, (l.p, (l.v, names)))
 
 -- the lines of the labels, each with so many of the names
 abbrev pub label_lines : ℕ → List Label → List ℕ → List (List Text)
@@ -46,7 +39,7 @@ label_lines per (l ∷ ls) names = label_fields l (take per names) ∷ label_lin
 
 -- the line before the labels of a chain
 abbrev pub layer_fields : ℕ → ℕ → ℕ → List Text
-layer_fields segment rung count = codes "layer" ∷ decimal segment ∷ decimal rung ∷ decimal count ∷ []
+layer_fields segment rung count = fields_of (layer_line segment rung) (count, tt)
 
 -- the lines of the chain of a segment and rung, whose labels have so many names each
 abbrev pub chain_lines : ℕ → ℕ → ℕ → ChainParts → List (List Text)
@@ -60,7 +53,7 @@ chains_lines segments rungs number (c ∷ cs) =
 
 -- all lines of a certificate
 abbrev pub cert_lines : CertificateParts → List (List Text)
-cert_lines c = head_lines c ++ (chains_lines c.segments c.rungs 0 c.chains ++ ((end_text ∷ []) ∷ []))
+cert_lines c = head_lines c ++ (chains_lines c.segments c.rungs 0 c.chains ++ (fields_of end_line tt ∷ []))
 
 -- the lines, one after the other
 abbrev pub lines_text : List (List Text) → Text

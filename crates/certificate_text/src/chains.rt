@@ -4,14 +4,18 @@ ghost use Rattle.lab_model.specs.Reading.{Gives};
 ghost use Rattle.lab_model.specs.Film.{IsWithin};
 ghost use Rattle.frontier_planner.specs.Parts.{chain_parts};
 ghost use Rattle.certificate_text.specs.Form.{names_per};
-ghost use Rattle.certificate_text.specs.Reading.{behind, chain_at, chains_at, end_at, label_at, labels_at, layer_at, nothing_at, numbers_of_label_at, place_of};
+ghost use Rattle.certificate_text.specs.Reading.{behind, chain_at, chains_at, end_at, label_at, labels_at, layer_at, nothing_at, place_of};
 
 use crate::fields::{
-    bad_line, known_at, number_at, push, push_numbers, signed_at, stop_before, word_at,
+    PLACE_DIGITS, bad_line, known_at, number_at, push, push_numbers, signed_at, stop_before,
+    word_at,
 };
 use frontier_planner::Chain;
 use lab_model::{InputFault, Label};
 use std::alloc::Global;
+
+/// The most digits of a label's numbers.
+const LABEL_DIGITS: usize = 18;
 
 /// Where a reader stands.
 #[derive(Clone, Copy)]
@@ -24,19 +28,8 @@ pub(crate) struct Spot<'a> {
     pub(crate) rest: &'a [u8],
 }
 
-/// The three numbers of a label, before so many names.
-#[tactic(auto, unfolding(crate::specs::Reading::numbers_of_label_at))]
-fn numbers_of_label_at(row: u32, per: usize, bytes: &[u8]) -> Result<(Label, &[u8]), InputFault>
-    ensures { Gives (λ x. (x.0, x.1.now)) result (numbers_of_label_at row per bytes.now) }
-{
-    let (t, rest) = number_at(row, 18, b' ', bytes)?;
-    let (p, rest) = number_at(row, 18, b' ', rest)?;
-    let (v, rest) = signed_at(row, 18, stop_before(per), rest)?;
-    Ok((Label { t, p, v: v as i64 }, rest))
-}
-
 /// Appends a label with so many names.
-#[tactic(auto, unfolding(crate::specs::Reading::label_at))]
+#[tactic(auto, unfolding(crate::specs::Reading::label_at, crate::specs::Line::values_at))]
 fn push_label<'a>(
     chain: &mut Chain,
     row: u32,
@@ -46,9 +39,11 @@ fn push_label<'a>(
     ensures { Gives (λ rest. (chain_parts chain.new, rest.now)) result
         (behind (chain_parts chain.old) (label_at row per bytes.now)) }
 {
-    let (label, rest) = numbers_of_label_at(row, per, bytes)?;
-    push(&mut chain.labels, label)?;
-    push_numbers(&mut chain.names, row, 7, per, rest)
+    let (t, rest) = number_at(row, LABEL_DIGITS, b' ', bytes)?;
+    let (p, rest) = number_at(row, LABEL_DIGITS, b' ', rest)?;
+    let (v, rest) = signed_at(row, LABEL_DIGITS, stop_before(per), rest)?;
+    push(&mut chain.labels, Label { t, p, v: v as i64 })?;
+    push_numbers(&mut chain.names, row, PLACE_DIGITS, per, rest)
 }
 
 /// Appends so many labels, each in a line of its own.
@@ -71,7 +66,7 @@ fn push_labels<'a>(
 }
 
 /// The line before the labels of a chain: how many they are.
-#[tactic(auto, unfolding(crate::specs::Reading::layer_at))]
+#[tactic(auto, unfolding(crate::specs::Reading::layer_at, crate::specs::Line::values_at))]
 fn layer_at<'a>(segment: u32, rung: u32, at: Spot<'a>) -> Result<(u32, &'a [u8]), InputFault>
     ensures count { Gives (λ x. (x.0, x.1.now)) result
         (layer_at at.entry.row segment rung at.entry.left at.entry.rest.now) }
@@ -80,7 +75,7 @@ fn layer_at<'a>(segment: u32, rung: u32, at: Spot<'a>) -> Result<(u32, &'a [u8])
     let rest = word_at(at.row, "layer", b' ', at.rest)?;
     let rest = known_at(at.row, segment, b' ', rest)?;
     let rest = known_at(at.row, rung, b' ', rest)?;
-    let (count, rest) = number_at(at.row, 7, b'\n', rest)?;
+    let (count, rest) = number_at(at.row, PLACE_DIGITS, b'\n', rest)?;
     if count <= u64::from(at.left) {
         Ok((count as u32, rest))
     } else {
@@ -155,7 +150,7 @@ pub(crate) fn chains_at<'a>(
 }
 
 /// The last line, behind which nothing stands.
-#[tactic(auto, unfolding(crate::specs::Reading::end_at))]
+#[tactic(auto, unfolding(crate::specs::Reading::end_at, crate::specs::Line::values_at))]
 pub(crate) fn end_at(at: Spot<'_>) -> Result<(), InputFault>
     requires { at.row ≤ 4000000000 }
     ensures { Gives (λ done. done) result (end_at (place_of at.entry)) }

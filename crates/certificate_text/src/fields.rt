@@ -4,11 +4,14 @@ ghost use Rattle.std.specs.Str.{all_ascii_digits};
 ghost use Rattle.std.specs.Str.Parse.{digits_value};
 ghost use Rattle.lab_io.specs.Number.{is_number, numeral};
 ghost use Rattle.lab_model.specs.Reading.{Gives};
-ghost use Rattle.certificate_text.specs.Form.{HasDigits, HasSignedDigits};
-ghost use Rattle.certificate_text.specs.Fields.{bad_line, field_at, known_at, negative, number_at, numbers_at, passed, prepended, signed_at, signed_of, some_at, stop_before, unsigned_of, word_at};
+ghost use Rattle.lab_model.specs.Film.{IsWithin};
+ghost use Rattle.certificate_text.specs.Fields.{HasDigits, HasSignedDigits, bad_line, field_at, known_at, negative, number_at, numbers_at, passed, prepended, signed_at, signed_of, some_at, stop_before, unsigned_of, within_at, word_at};
 
 use lab_model::{InputFault, Key, Kind, Refusal};
 use std::alloc::Global;
+
+/// The most digits of a number that names a place, or counts.
+pub(crate) const PLACE_DIGITS: usize = 7;
 
 /// The line of this number, the first being 1, is the first without its form.
 pub(crate) fn bad_line(row: u32) -> InputFault
@@ -134,8 +137,28 @@ pub(crate) fn number_at(
 pub(crate) fn known_at(row: u32, known: u32, stop: u8, bytes: &[u8]) -> Result<&[u8], InputFault>
     ensures { Gives (λ rest. rest.now) result (known_at row known stop bytes.now) }
 {
-    let (n, rest) = number_at(row, 7, stop, bytes)?;
+    let (n, rest) = number_at(row, PLACE_DIGITS, stop, bytes)?;
     passed(row, n == u64::from(known), rest)
+}
+
+/// A number from the first to the second.
+#[tactic(auto, unfolding(crate::specs::Fields::within_at))]
+pub(crate) fn within_at(
+    row: u32,
+    low: u32,
+    high: u32,
+    stop: u8,
+    bytes: &[u8],
+) -> Result<(u32, &[u8]), InputFault>
+    ensures number { Gives (λ x. (x.0, x.1.now)) result (within_at row low high stop bytes.now) }
+    ensures within { IfOk result (λ x. IsWithin low high x.0) }
+{
+    let (n, rest) = number_at(row, PLACE_DIGITS, stop, bytes)?;
+    if u64::from(low) <= n && n <= u64::from(high) {
+        Ok((n as u32, rest))
+    } else {
+        Err(bad_line(row))
+    }
 }
 
 /// The same number with a sign.

@@ -2,101 +2,91 @@
 ghost use Rattle.std.specs.Prelude.{◌≡◌, ◌+◌, ◌≤◌, ◌<◌, All, IfErr, IfOk};
 ghost use Rattle.lab_model.specs.Reading.{Gives};
 ghost use Rattle.lab_model.specs.Film.{IsWithin};
-ghost use Rattle.certificate_text.specs.Form.{HasDigits, certificate_parts};
-ghost use Rattle.certificate_text.specs.Reading.{count_at, counts_at, counts_of, head_at, list_at, place_of, score_at, table_at, version_at, version_of};
+ghost use Rattle.certificate_text.specs.Fields.{HasDigits, place_digits};
+ghost use Rattle.certificate_text.specs.Line.{values_at};
+ghost use Rattle.certificate_text.specs.Grammar.{count_line, list_line, rung_digits, score_line};
+ghost use Rattle.certificate_text.specs.Form.{certificate_parts};
+ghost use Rattle.certificate_text.specs.Reading.{counts_at, counts_of, head_at, place_of, table_at, version_at};
 
 use crate::certificate::Certificate;
 use crate::chains::Spot;
-use crate::fields::{
-    bad_line, field_at, number_at, passed, push, push_numbers, signed_at, word_at,
-};
+use crate::fields::{PLACE_DIGITS, push, push_numbers, signed_at, stop_before, within_at, word_at};
 use lab_model::InputFault;
 use std::alloc::Global;
 
 /// The most labels of a certificate.
 const MOST_LABELS: u32 = 1_000_000;
 /// The most segments.
-const MOST_SEGMENTS: u16 = 2000;
+const MOST_SEGMENTS: u32 = 2000;
 /// The most rungs.
-const MOST_RUNGS: u16 = 16;
-
-/// Whether the version is that of a setup with a utility table.
-fn version_of(row: u32, line: &[u8]) -> Result<bool, InputFault>
-    ensures { Gives (λ table. table) result (version_of row line.now) }
-{
-    if line == "abrlab certificate 1".as_bytes() {
-        Ok(false)
-    } else {
-        passed(row, line == "abrlab certificate 2".as_bytes(), true)
-    }
-}
-
-/// The first line.
-#[tactic(auto, unfolding(crate::specs::Reading::version_at))]
-fn version_at(row: u32, bytes: &[u8]) -> Result<(bool, &[u8]), InputFault>
-    ensures { Gives (λ x. (x.0, x.1.now)) result (version_at row bytes.now) }
-{
-    let (line, rest) = field_at(row, b'\n', bytes)?;
-    let table = version_of(row, line)?;
-    Ok((table, rest))
-}
+const MOST_RUNGS: u32 = 16;
+/// The most digits of a score.
+const SCORE_DIGITS: usize = 24;
+/// The most digits of a rung.
+const RUNG_DIGITS: usize = 2;
 
 /// A line of a word and a number from 1 to the most.
-#[tactic(auto, unfolding(crate::specs::Reading::count_at))]
+#[tactic(auto, unfolding(crate::specs::Line::values_at))]
 fn count_at<'a>(
     row: u32,
     word: &str,
-    most: u16,
+    most: u32,
     bytes: &'a [u8],
-) -> Result<(u16, &'a [u8]), InputFault>
-    ensures count { Gives (λ x. (x.0, x.1.now)) result (count_at row word.now most bytes.now) }
+) -> Result<(u32, &'a [u8]), InputFault>
+    ensures count { Gives (λ x. ((x.0, tt), x.1.now)) result
+        (values_at row (count_line word.now most) bytes.now) }
     ensures within { IfOk result (λ x. IsWithin 1 most x.0) }
 {
     let rest = word_at(row, word, b' ', bytes)?;
-    let (n, rest) = number_at(row, 7, b'\n', rest)?;
-    if 1 <= n && n <= u64::from(most) {
-        Ok((n as u16, rest))
-    } else {
-        Err(bad_line(row))
-    }
+    within_at(row, 1, most, b'\n', rest)
+}
+
+/// The first line: whether its version is that of a setup with a utility table.
+#[tactic(auto, unfolding(crate::specs::Reading::version_at, crate::specs::Line::values_at))]
+fn version_at(row: u32, bytes: &[u8]) -> Result<(bool, &[u8]), InputFault>
+    ensures { Gives (λ x. (x.0, x.1.now)) result (version_at row bytes.now) }
+{
+    let rest = word_at(row, "abrlab", b' ', bytes)?;
+    let (version, rest) = count_at(row, "certificate", 2, rest)?;
+    Ok((version == 2, rest))
 }
 
 /// The line of version 2.
-#[tactic(auto, unfolding(crate::specs::Reading::table_at))]
+#[tactic(auto, unfolding(crate::specs::Reading::table_at, crate::specs::Line::values_at))]
 fn table_at(row: u32, table: bool, bytes: &[u8]) -> Result<&[u8], InputFault>
-    ensures { Gives (λ rest. rest.now) result (table_at row table bytes.now) }
+    ensures { Gives (λ rest. (tt, rest.now)) result (table_at row table bytes.now) }
 {
-    if table {
-        word_at(row, "utilities table", b'\n', bytes)
-    } else {
-        Ok(bytes)
+    if !table {
+        return Ok(bytes);
     }
+    let rest = word_at(row, "utilities", b' ', bytes)?;
+    word_at(row, "table", b'\n', rest)
 }
 
 /// The line of the score.
-#[tactic(auto, unfolding(crate::specs::Reading::score_at))]
+#[tactic(auto, unfolding(crate::specs::Line::values_at))]
 fn score_at(row: u32, bytes: &[u8]) -> Result<(i128, &[u8]), InputFault>
-    ensures { Gives (λ x. (x.0, x.1.now)) result (score_at row bytes.now) }
+    ensures { Gives (λ x. ((x.0, tt), x.1.now)) result (values_at row score_line bytes.now) }
 {
     let rest = word_at(row, "score", b' ', bytes)?;
-    signed_at(row, 24, b'\n', rest)
+    signed_at(row, SCORE_DIGITS, b'\n', rest)
 }
 
 /// A line of a word and so many numbers.
-#[tactic(auto, unfolding(crate::specs::Reading::list_at))]
+#[tactic(auto, unfolding(crate::specs::Line::values_at))]
 fn list_at<'a>(
     alloc: Global,
     row: u32,
     word: &str,
-    digits: usize,
     count: usize,
+    digits: usize,
     bytes: &'a [u8],
 ) -> Result<(Vec<u32>, &'a [u8]), InputFault>
-    requires { digits ≤ 7 }
+    requires { digits ≤ place_digits }
     ensures { Gives (λ x. (x.0.items, x.1.now)) result
-        (list_at row word.now digits count bytes.now) }
+        (values_at row (list_line word.now count digits) bytes.now) }
 {
-    let rest = word_at(row, word, b' ', bytes)?;
+    let rest = word_at(row, word, stop_before(count), bytes)?;
     let mut numbers = Vec::new(alloc);
     let rest = push_numbers(&mut numbers, row, digits, count, rest)?;
     Ok((numbers, rest))
@@ -123,7 +113,7 @@ fn counts_at(bytes: &[u8]) -> Result<(Counts, &[u8]), InputFault>
     let rest = table_at(4, table, rest)?;
     let counts = Counts {
         table,
-        segments,
+        segments: segments as u16,
         rungs: rungs as u8,
     };
     Ok((counts, rest))
@@ -131,7 +121,7 @@ fn counts_at(bytes: &[u8]) -> Result<(Counts, &[u8]), InputFault>
 
 /// The numbers in one byte each.
 fn small_numbers(alloc: Global, numbers: &[u32]) -> Result<Vec<u8>, InputFault>
-    requires { All (HasDigits 2) numbers.now }
+    requires { All (HasDigits rung_digits) numbers.now }
     ensures numbers { IfOk result (λ v. v.items ≡ numbers.now) }
     ensures memory { IfErr result (λ e. e ≡ InputFault.Memory) }
 {
@@ -153,8 +143,9 @@ pub(crate) fn head_at(alloc: Global, bytes: &[u8]) -> Result<(Certificate, Spot<
     let (counts, rest) = counts_at(bytes)?;
     let row = if counts.table { 5 } else { 4 };
     let (score, rest) = score_at(row, rest)?;
-    let (plan, rest) = list_at(alloc, row + 1, "plan", 2, counts.segments as usize, rest)?;
-    let (starts, rest) = list_at(alloc, row + 2, "start", 7, counts.rungs as usize, rest)?;
+    let (segments, rungs) = (counts.segments as usize, counts.rungs as usize);
+    let (plan, rest) = list_at(alloc, row + 1, "plan", segments, RUNG_DIGITS, rest)?;
+    let (starts, rest) = list_at(alloc, row + 2, "start", rungs, PLACE_DIGITS, rest)?;
     let certificate = Certificate {
         table: counts.table,
         segments: counts.segments,

@@ -1,12 +1,14 @@
 //! Certificates that are written.
-ghost use Rattle.std.specs.Prelude.{◌≡◌, ◌≤◌, ◌∷◌, ◌++◌, ◌*◌, [], codes, length, map};
-ghost use Rattle.std.specs.Fmt.{decimal, signed_decimal};
+ghost use Rattle.std.specs.Prelude.{◌≡◌, ◌∷◌, ◌++◌, ◌*◌, ◌≤◌, [], length, map};
+ghost use Rattle.std.specs.Fmt.{decimal};
 ghost use Rattle.lab_io.specs.Piece.{fields_line, later_fields};
 ghost use Rattle.lab_io.specs.Sink.{Puts};
 ghost use Rattle.lab_model.specs.Film.{IsWithin, rungs_of, segments_of};
 ghost use Rattle.frontier_planner.specs.Parts.{chain_parts, plan_parts};
+ghost use Rattle.certificate_text.specs.Line.{fields_of};
+ghost use Rattle.certificate_text.specs.Grammar.{plan_line, rungs_line, score_line, segments_line, start_line, version_line};
 ghost use Rattle.certificate_text.specs.Form.{AreChains, IsCertificate};
-ghost use Rattle.certificate_text.specs.Spelling.{chain_lines, chains_lines, head_lines, label_fields, label_numbers, label_lines, layer_fields, lines_text, spelling, table_lines, version_text};
+ghost use Rattle.certificate_text.specs.Spelling.{chain_lines, chains_lines, head_lines, label_fields, label_lines, layer_fields, lines_text, spelling, table_lines, version_fields, version_number};
 
 use crate::chains::names_per;
 use frontier_planner::{Chain, Plan};
@@ -45,8 +47,8 @@ fn put_rungs<O: Sink>(out: &mut O, rungs: &[u8]) -> Result<(), PutErr>
 
 /// Puts the line of a rung list: `plan` and its numbers. It takes no memory of its own; after an `Err` a prefix went out.
 pub fn put_plan<O: Sink>(out: &mut O, rungs: &[u8]) -> Result<(), PutErr>
-    ensures { Puts (O.seen out.old) (fields_line (codes "plan" ∷ map decimal rungs.now))
-        (O.seen out.new) result }
+    ensures { Puts (O.seen out.old)
+        (fields_line (fields_of (plan_line (length rungs.now)) rungs.now)) (O.seen out.new) result }
 {
     put_text(out, "plan")?;
     put_rungs(out, rungs)
@@ -54,23 +56,30 @@ pub fn put_plan<O: Sink>(out: &mut O, rungs: &[u8]) -> Result<(), PutErr>
 
 /// The line of the starts.
 fn put_starts<O: Sink>(out: &mut O, starts: &[u32]) -> Result<(), PutErr>
-    ensures { Puts (O.seen out.old) (fields_line (codes "start" ∷ map decimal starts.now))
+    ensures { Puts (O.seen out.old)
+        (fields_line (fields_of (start_line (length starts.now)) starts.now))
         (O.seen out.new) result }
 {
     put_text(out, "start")?;
     put_numbers(out, starts)
 }
 
+/// The number of the version: 2 for a setup with a utility table.
+fn version_number(table: bool) -> u16
+    ensures { result ≡ version_number table }
+{
+    if table { 2 } else { 1 }
+}
+
 /// The first line.
-fn put_version<O: Sink>(out: &mut O, table: bool) -> Result<(), PutErr>
-    ensures { Puts (O.seen out.old) (fields_line (version_text table ∷ []))
+fn put_version<O: Sink>(out: &mut O, version: u16) -> Result<(), PutErr>
+    ensures { Puts (O.seen out.old) (fields_line (fields_of version_line (version, tt)))
         (O.seen out.new) result }
 {
-    if table {
-        put_line(out, "abrlab certificate 2")
-    } else {
-        put_line(out, "abrlab certificate 1")
-    }
+    put_fields(
+        out,
+        &[Word("abrlab"), Word("certificate"), Number(version as i128)],
+    )
 }
 
 /// A line of a word and a count.
@@ -81,12 +90,13 @@ fn put_count<O: Sink>(out: &mut O, word: &str, count: u16) -> Result<(), PutErr>
     put_fields(out, &[Word(word), Number(count as i128)])
 }
 
-/// The line of the score.
-fn put_score<O: Sink>(out: &mut O, plan: &Plan) -> Result<(), PutErr>
-    ensures { Puts (O.seen out.old)
-        (fields_line (codes "score" ∷ signed_decimal plan.now.score ∷ [])) (O.seen out.new) result }
+/// Puts the line of a score, in thousandths of a point: `score` and the number. It takes no memory of its own; after an `Err` a
+/// prefix went out.
+pub fn put_score<O: Sink>(out: &mut O, score: i128) -> Result<(), PutErr>
+    ensures { Puts (O.seen out.old) (fields_line (fields_of score_line (score, tt)))
+        (O.seen out.new) result }
 {
-    put_fields(out, &[Word("score"), Number(plan.score)])
+    put_fields(out, &[Word("score"), Number(score)])
 }
 
 /// The line of version 2.
@@ -94,7 +104,7 @@ fn put_table<O: Sink>(out: &mut O, table: bool) -> Result<(), PutErr>
     ensures { Puts (O.seen out.old) (lines_text (table_lines table)) (O.seen out.new) result }
 {
     if table {
-        put_line(out, "utilities table")?;
+        put_fields(out, &[Word("utilities"), Word("table")])?;
     }
     Ok(())
 }
@@ -102,12 +112,12 @@ fn put_table<O: Sink>(out: &mut O, table: bool) -> Result<(), PutErr>
 /// The lines of version and counts.
 fn put_counts<O: Sink>(out: &mut O, m: &Manifest, table: bool) -> Result<(), PutErr>
     ensures { Puts (O.seen out.old)
-        (fields_line (version_text table ∷ [])
-        ++ (fields_line (codes "segments" ∷ decimal (segments_of m.now) ∷ [])
-        ++ (fields_line (codes "rungs" ∷ decimal (rungs_of m.now) ∷ [])
+        (fields_line (version_fields table)
+        ++ (fields_line (fields_of segments_line (segments_of m.now, tt))
+        ++ (fields_line (fields_of rungs_line (rungs_of m.now, tt))
         ++ lines_text (table_lines table)))) (O.seen out.new) result }
 {
-    put_version(out, table)?;
+    put_version(out, version_number(table))?;
     put_count(out, "segments", m.segments())?;
     put_count(out, "rungs", u16::from(m.rungs()))?;
     put_table(out, table)
@@ -119,14 +129,15 @@ fn put_head<O: Sink>(out: &mut O, m: &Manifest, plan: &Plan) -> Result<(), PutEr
         (O.seen out.new) result }
 {
     put_counts(out, m, plan.table)?;
-    put_score(out, plan)?;
+    put_score(out, plan.score)?;
     put_plan(out, &plan.rungs)?;
     put_starts(out, &plan.starts)
 }
 
-/// The three numbers of a label.
-fn put_numbers_of_label<O: Sink>(out: &mut O, label: Label) -> Result<(), PutErr>
-    ensures { Puts (O.seen out.old) (label_numbers label) (O.seen out.new) result }
+/// The line of a label.
+fn put_label<O: Sink>(out: &mut O, label: Label, names: &[u32]) -> Result<(), PutErr>
+    ensures { Puts (O.seen out.old) (fields_line (label_fields label names.now))
+        (O.seen out.new) result }
 {
     put_pieces(
         out,
@@ -137,15 +148,7 @@ fn put_numbers_of_label<O: Sink>(out: &mut O, label: Label) -> Result<(), PutErr
             Word(" "),
             Number(label.v as i128),
         ],
-    )
-}
-
-/// The line of a label.
-fn put_label<O: Sink>(out: &mut O, label: Label, names: &[u32]) -> Result<(), PutErr>
-    ensures { Puts (O.seen out.old) (fields_line (label_fields label names.now))
-        (O.seen out.new) result }
-{
-    put_numbers_of_label(out, label)?;
+    )?;
     put_numbers(out, names)
 }
 
