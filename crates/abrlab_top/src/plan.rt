@@ -1,7 +1,7 @@
 //! `plan`: the best rung list that the network allowed, or its certificate.
 
 ghost use Rattle.std.specs.Prelude.{◌≡◌, ◌∷◌, [], codes};
-ghost use Rattle.std.specs.Fmt.{decimal, signed_decimal};
+ghost use Rattle.std.specs.Fmt.{decimal};
 ghost use Rattle.lab_io.specs.Piece.{fields_line};
 ghost use Rattle.lab_io.specs.Sink.{Puts};
 ghost use Rattle.lab_words.specs.declared.Verb.TheVariants as verb;
@@ -19,7 +19,7 @@ ghost use Rattle.abrlab_top.specs.Plan.{parts_text, plan_lines};
 ghost use Rattle.abrlab_top.specs.Stages.{Ends, Plans};
 
 use crate::ending::ending_of;
-use certificate_text::{put_plan, write_certificate};
+use certificate_text::{put_plan, put_score, write_certificate};
 use frontier_planner::{Plan, PlanErr};
 use lab_inputs::{Ending, Halt, Ready, Stop, prepare};
 use lab_io::Piece::{Number, Word};
@@ -28,15 +28,6 @@ use lab_model::{Manifest, Setup};
 use lab_words::Command;
 use network_clock::Clock;
 use std::alloc::Global;
-
-/// Writes the line of the score.
-fn put_score<O: Sink>(out: &mut O, plan: &Plan) -> Result<(), PutErr>
-    ensures { Puts (O.seen out.old)
-        (fields_line (codes "score" ∷ signed_decimal plan.now.score ∷ []))
-        (O.seen out.new) result }
-{
-    put_fields(out, &[Word("score"), Number(plan.score)])
-}
 
 /// Writes the line of the number of labels.
 fn put_labels<O: Sink>(out: &mut O, labels: u32) -> Result<(), PutErr>
@@ -51,7 +42,7 @@ fn put_lines<O: Sink>(out: &mut O, plan: &Plan) -> Result<(), PutErr>
     ensures { Puts (O.seen out.old) (plan_lines plan.now.score plan.now.labels plan.now.rungs.items)
         (O.seen out.new) result }
 {
-    put_score(out, plan)?;
+    put_score(out, plan.score)?;
     put_labels(out, plan.labels)?;
     put_plan(out, &plan.rungs)
 }

@@ -138,7 +138,7 @@ head_read w begun =
 
 -- the first layer
 pub first_read : (first w : Walk) (here : List Chain) → IsBegun first → layer_of first ≡ Ok (Some (map chain_parts here), w) → LayerRead first w 0 here
-first_read first w here begun h = let known = head_read first begun in layer_read first w 0 here known.form.rungs.1 known.segment known.room h
+first_read first w here begun h = let known = head_read first begun in layer_read first w 0 here known.form.rungs.0.1 known.segment known.room h
 
 -- ---- how the checks go on
 
@@ -149,7 +149,7 @@ pub stands_begun : (g : Task) (first w : Walk) (head : Verdict) (here : List Cha
     → (f.ranges ≡ Yes → f.claims ≡ starts_held g (length first.head.starts) first.head.starts (chains_by_rung here)) → StandsAt g first w 0 here f
 stands_begun g first w head here f begun h is ranges claims =
     let known = head_read first begun in
-    let r = layer_read first w 0 here known.form.rungs.1 known.segment known.room h in
+    let r = layer_read first w 0 here known.form.rungs.0.1 known.segment known.room h in
     record {
       before = [];
       past = omega arith;
@@ -160,7 +160,7 @@ stands_begun g first w head here f begun h is ranges claims =
       long = r.long;
       form = r.form;
       stands = λ more.
-          stands_first g (with_chains first.head (map chain_parts here ++ more)) head here f known.form.starts_length
+          stands_first g (with_chains first.head (map chain_parts here ++ more)) head here f known.form.starts.0
           (layer_there first.head [] more 0 here (omega arith) r.long) is ranges claims;
     }
 
@@ -170,7 +170,7 @@ pub stands_on : (g : Task) (first w v : Walk) (i : ℕ) (here next : List Chain)
     → (h.ranges ≡ Yes → h.claims ≡ both f.claims (names_verdict g (length next) (length here) i (chains_by_rung here) (chains_by_rung next))) → StandsAt g first v (i + 1) next h
 stands_on g first w v i here next f h begun inside s read ranges claims =
     let known = head_read first begun in
-    let few : w.head.rungs ≤ 16 = subst (λ (x : CertificateParts). x.rungs ≤ 16) (sym s.head) known.form.rungs.1 in
+    let few : w.head.rungs ≤ 16 = subst (λ (x : CertificateParts). x.rungs ≤ 16) (sym s.head) known.form.rungs.0.1 in
     let r = layer_read w v (i + 1) next few s.segment s.room read in
     let past = s.past in
     let long = s.long in
@@ -217,7 +217,7 @@ pub more_fits : (g : Task) (first w v : Walk) (i : ℕ) (here next : List Chain)
     → MoreFits g i here next f
 more_fits g first w v i here next f begun inside s read =
     let known = head_read first begun in
-    let few = known.form.rungs.1 in
+    let few = known.form.rungs.0.1 in
     let r = layer_read w v (i + 1) next (subst (λ (x : CertificateParts). x.rungs ≤ 16) (sym s.head) few) s.segment s.room read in
     let next_long : length next ≡ first.head.rungs = r.long ∙ ap (λ (x : CertificateParts). x.rungs) s.head in
     let past = s.past in
@@ -246,7 +246,7 @@ end_fits g first w i here f begun last s =
     let known = head_read first begun in
     record {
       form = subst (λ n. IsLayer n here) (per_last first.head.segments first.head.rungs i last) s.form;
-      fits = may_end g (with_chains first.head (s.before ++ (map chain_parts here ++ []))) i here f last known.form.plan_length (layer_there first.head s.before [] i here s.past s.long) (s.stands []);
+      fits = may_end g (with_chains first.head (s.before ++ (map chain_parts here ++ []))) i here f last known.form.plan.0 (layer_there first.head s.before [] i here s.past s.long) (s.stands []);
     }
 
 -- a walk within its segments

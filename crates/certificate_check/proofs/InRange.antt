@@ -9,7 +9,8 @@ use Rattle.frontier_planner.specs.Near.{CanFollow, IsNear, farthest_ms}
 use Rattle.frontier_planner.specs.Parts.{ChainParts}
 use Rattle.frontier_planner.specs.Read.{no_label}
 use Rattle.certificate_text.specs.declared.certificate.Verdict.TheVariants.{Yes}
-use Rattle.certificate_text.specs.Form.{HasSignedDigits, IsChain}
+use Rattle.certificate_text.specs.Fields.{HasSignedDigits}
+use Rattle.certificate_text.specs.Form.{IsChain}
 use Rattle.certificate_check.specs.Scheme.{tested}
 use Rattle.certificate_check.specs.Clauses.{Layer, count_of, is_near, label_of, name_of, name_ranges, range_verdict, starts_verdict}
 use Rattle.certificate_check.proofs.Scheme.{both_first, both_second, yes_at, yes_tested}

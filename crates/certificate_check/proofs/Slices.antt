@@ -42,7 +42,7 @@ module _ (cert : Certificate) (form : IsCertificate (certificate_parts cert)) wh
 
   slice_length : (i : ℕ) → i < cert.segments → length (take cert.rungs (drop (i * cert.rungs) cert.chains.items)) ≡ cert.rungs
   slice_length i low =
-      let some = form.head.rungs.0 in
+      let some = form.head.rungs.0.0 in
       let place = place_in i (cert.rungs - 1) low (omega (arith, some)) in
       let long = length-map cert.chains.items chain_parts in
       let rest = length-drop (i * cert.rungs) cert.chains.items in
@@ -55,7 +55,7 @@ module _ (cert : Certificate) (form : IsCertificate (certificate_parts cert)) wh
   -- and has the form of one
   pub slice_form : (i : ℕ) → i < cert.segments → IsLayer (names_per cert.segments cert.rungs i) (take cert.rungs (drop (i * cert.rungs) cert.chains.items))
   slice_form i low =
-      let few = form.head.rungs.1 in
+      let few = form.head.rungs.0.1 in
       let long = slice_length i low in
       let cs = map chain_parts cert.chains.items in
       let own = λ (q : ℕ) (here : q < length (take cert.rungs (drop (i * cert.rungs) cert.chains.items))). subst (λ n. q < n) long here in

@@ -71,8 +71,8 @@ certifies g c bound is some long h =
 
 -- a Yes to a certificate proves what it claims, with the bound for all rung lists
 pub yes_certifies : (g : Task) (c : CertificateParts) (bound : ℤ) → IsTask g → IsCertificate c → verdict_of g c bound ≡ Yes → Certifies g c.plan c.score bound
-yes_certifies g c bound is form passed = certifies g c bound is form.head.segments.0 form.head.plan_length (yes_valid g c bound passed)
+yes_certifies g c bound is form passed = certifies g c bound is form.head.segments.0.0 form.head.plan.0 (yes_valid g c bound passed)
 
 -- a valid certificate is accepted, whoever made it
 pub valid_accepted : (g : Task) (c : CertificateParts) (bound : ℤ) → IsCertificate c → IsValid g c bound → verdict_of g c bound ≡ Yes
-valid_accepted g c bound form valid = valid_yes g c bound form.head.segments.0 valid
+valid_accepted g c bound form valid = valid_yes g c bound form.head.segments.0.0 valid

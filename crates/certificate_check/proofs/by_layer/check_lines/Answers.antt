@@ -17,14 +17,14 @@ use Rattle.certificate_check.proofs.by_layer.check_lines.Goals as goal
 pub head_verdict-head-requires : goal.head_verdict-head-requires
 head_verdict-head-requires c =
     let form = (head_read c.args.lines c.requires.begun).form in
-    let long = form.plan_length in
-    let most = form.segments.1 in
+    let long = form.plan.0 in
+    let most = form.segments.0.1 in
     (ap length c.plan.ensures ∙ long ∙ sym c.segments.ensures, subst (λ n. n ≤ 2000) (sym c.segments.ensures) most)
 
 pub next_layer-requires : goal.next_layer-requires
 next_layer-requires c =
     let known = head_read c.args.lines c.requires.begun in
-    let some = known.form.segments.0 in
+    let some = known.form.segments.0.0 in
     let none = known.segment in
     omega (arith, some, none)
 
@@ -35,8 +35,8 @@ returns-in_err-here-clause-verdict c = λ bytes is.
 pub found_first-found-requires-clause-rungs : goal.found_first-found-requires-clause-rungs
 found_first-found-requires-clause-rungs c =
     let known = head_read c.args.lines c.requires.begun in
-    let few = known.form.rungs.1 in
-    let long = known.form.starts_length in
+    let few = known.form.rungs.0.1 in
+    let long = known.form.starts.0 in
     let r = first_read c.args.lines c.next_layer.new.lines c.in_ok-here.here.chains.items c.requires.begun c.in_ok-here.ensures in
     subst (λ xs. length xs ≤ 16) (sym (c.starts.ensures ∙ ap (λ h. h.starts) r.head)) (omega (arith, few, long))
 
@@ -44,7 +44,7 @@ pub found_first-found-requires-clause-chains : goal.found_first-found-requires-c
 found_first-found-requires-clause-chains c =
     let known = head_read c.args.lines c.requires.begun in
     let r = first_read c.args.lines c.next_layer.new.lines c.in_ok-here.here.chains.items c.requires.begun c.in_ok-here.ensures in
-    ap length c.deref.ensures.value ∙ r.long ∙ sym known.form.starts_length ∙ sym (ap length (c.starts.ensures ∙ ap (λ h. h.starts) r.head))
+    ap length c.deref.ensures.value ∙ r.long ∙ sym known.form.starts.0 ∙ sym (ap length (c.starts.ensures ∙ ap (λ h. h.starts) r.head))
 
 pub found_first-found-requires-clause-fits : goal.found_first-found-requires-clause-fits
 found_first-found-requires-clause-fits c = λ passed.
@@ -52,7 +52,7 @@ found_first-found-requires-clause-fits c = λ passed.
     let known = head_read c.args.lines c.requires.begun in
     let r = first_read c.args.lines c.next_layer.new.lines c.in_ok-here.here.chains.items c.requires.begun c.in_ok-here.ensures in
     let said = c.head_verdict-head.ensures ∙ rw (c.table.ensures, c.segments.ensures, c.rungs.ensures, c.plan.ensures) refl in
-    ap length (c.starts.ensures ∙ ap (λ x. x.starts) r.head) ∙ known.form.starts_length
+    ap length (c.starts.ensures ∙ ap (λ x. x.starts) r.head) ∙ known.form.starts.0
     ∙ (counts_match c.new-checker.result h (both_first (counts_verdict c.new-checker.result h.table h.segments h.rungs) (plan_verdict h.segments h.rungs h.plan) (sym said ∙ passed))).rungs
 
 pub loop-segment-init : goal.loop-segment-init

@@ -18,7 +18,7 @@ returns-clause-valid c =
     let g = task_of c.args.m.now c.args.clock.now c.args.set.now c.args.ahead in
     let parts = certificate_parts c.args.cert.now in
     let said : c.verdict_on.result ≡ verdict_of g parts c.args.bound = returns-clause-verdict c in
-    (λ passed. yes_valid g parts c.args.bound (sym said ∙ passed), λ valid. said ∙ valid_yes g parts c.args.bound c.requires.form.head.segments.0 valid)
+    (λ passed. yes_valid g parts c.args.bound (sym said ∙ passed), λ valid. said ∙ valid_yes g parts c.args.bound c.requires.form.head.segments.0.0 valid)
 
 pub returns-clause-sound : goal.returns-clause-sound
 returns-clause-sound c =
@@ -26,4 +26,4 @@ returns-clause-sound c =
     let parts = certificate_parts c.args.cert.now in
     let said : c.verdict_on.result ≡ verdict_of g parts c.args.bound = returns-clause-verdict c in
     let is : IsTask g = subst IsTask c.new-checker.ensures.value c.new-checker.ensures.task in
-    λ passed. certifies g parts c.args.bound is c.requires.form.head.segments.0 c.requires.form.head.plan_length (yes_valid g parts c.args.bound (sym said ∙ passed))
+    λ passed. certifies g parts c.args.bound is c.requires.form.head.segments.0.0 c.requires.form.head.plan.0 (yes_valid g parts c.args.bound (sym said ∙ passed))

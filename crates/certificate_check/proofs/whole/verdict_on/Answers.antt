@@ -15,8 +15,8 @@ pub found_first-found-requires : goal.found_first-found-requires
 found_first-found-requires c =
     let parts = certificate_parts c.args.cert.now in
     let long = ap length c.deref-2.ensures.value in
-    let starts = c.requires.head.starts_length in
-    let few = c.requires.head.rungs.1 in
+    let starts = c.requires.head.starts.0 in
+    let few = c.requires.head.rungs.0.1 in
     record {
       rungs = omega (arith, long, starts, few);
       chains = c.layer.ensures.own.count ∙ sym starts ∙ sym long;
@@ -27,7 +27,7 @@ pub loop-segment-init : goal.loop-segment-init
 loop-segment-init c =
     let g = c.args.checker.now in
     let parts = certificate_parts c.args.cert.now in
-    stands_first g parts c.head_verdict-head.result c.layer.result.now c.found_first-found.result c.requires.head.starts_length c.layer.ensures.own
+    stands_first g parts c.head_verdict-head.result c.layer.result.now c.found_first-found.result c.requires.head.starts.0 c.layer.ensures.own
     (c.head_verdict-head.ensures ∙ ap (λ p. both (counts_verdict g parts.table parts.segments parts.rungs) (plan_verdict parts.segments parts.rungs p)) c.deref.ensures.value)
     (c.found_first-found.ensures.ranges ∙ ap (λ s. both c.head_verdict-head.result (starts_verdict (length s) s (layer_of c.layer.result.now))) c.deref-2.ensures.value)
     (λ passed. c.found_first-found.ensures.claims passed ∙ ap (λ s. starts_held g (length s) s (layer_of c.layer.result.now)) c.deref-2.ensures.value)
@@ -38,7 +38,7 @@ found_more-found-requires c =
     let i = c.loop-segment.segment in
     let low = c.loop-segment-test.true in
     let inside : i + 1 < parts.segments = omega (arith, low) in
-    let few = c.requires.head.rungs.1 in
+    let few = c.requires.head.rungs.0.1 in
     let next = c.layer-next.ensures.own.count in
     record {
       form = subst (λ p. IsLayer p c.layer-here.result.now) (per_inside parts.segments parts.rungs i inside ∙ sym next) c.layer-here.ensures.form;
@@ -59,7 +59,7 @@ pub verdict-requires : goal.verdict-requires
 verdict-requires c =
     let g = c.args.checker.now in
     let parts = certificate_parts c.args.cert.now in
-    let some = c.requires.head.segments.0 in
+    let some = c.requires.head.segments.0.0 in
     let past = c.loop-segment-test.false in
     let most = c.loop-segment.auto.segment-end in
     let last : c.loop-segment.segment ≡ parts.segments - 1 = omega (arith, past, most) in
@@ -68,14 +68,14 @@ verdict-requires c =
     record {
       form = subst (λ p. IsLayer p c.layer-2.result.now) (per_last parts.segments parts.rungs (parts.segments - 1) end) c.layer-2.ensures.form;
       fits = λ passed. subst (MayEnd g (parts.segments - 1) c.layer-2.result.now) (sym c.deref-3.ensures.value)
-          (may_end g parts (parts.segments - 1) c.layer-2.result.now c.loop-segment.found end c.requires.head.plan_length c.layer-2.ensures.own stands passed);
+          (may_end g parts (parts.segments - 1) c.layer-2.result.now c.loop-segment.found end c.requires.head.plan.0 c.layer-2.ensures.own stands passed);
     }
 
 pub returns : goal.returns
 returns c =
     let g = c.args.checker.now in
     let parts = certificate_parts c.args.cert.now in
-    let some = c.requires.head.segments.0 in
+    let some = c.requires.head.segments.0.0 in
     let past = c.loop-segment-test.false in
     let most = c.loop-segment.auto.segment-end in
     let last : c.loop-segment.segment ≡ parts.segments - 1 = omega (arith, past, most) in
