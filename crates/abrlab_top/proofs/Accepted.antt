@@ -47,23 +47,10 @@ use Rattle.abrlab_top.specs.Check.{check, check_inputs, told_verdict}
 use Rattle.abrlab_top.specs.Outcome.{answer_by, answer_of}
 use Rattle.abrlab_top.specs.Plan.{certificate_on, plan, plan_text, spent_on, task_on, unless_spent}
 use Rattle.abrlab_top.proofs.Headlines.{is_task, one_of}
+use Rattle.abrlab_top.proofs.Finds.{none_found}
 use Rattle.abrlab_top.proofs.Judged.{judged_answer}
 
 -- ---- what `plan` answered
-
--- what is not found in a range fails everywhere in it
-none_found : (p : ℕ → Bool) (start count : ℕ) → find p (range_with_len start count) ≡ None → (j : ℕ) → start ≤ j → j < start + count → p j ≡ false
-none_found p start zero h j low high = absurd (omega (arith, low, high))
-none_found p start (suc count) h j low high = here (p start) refl h (none_found p (start + 1) count)
-  where
-    same : (a b : ℕ) → b ≤ a → a ≤ b → a ≡ b
-    same a b h k = omega (arith, h, k)
-
-    here : (b : Bool) → p start ≡ b → (if b then Some start else find p (range_with_len (start + 1) count)) ≡ None
-        → (find p (range_with_len (start + 1) count) ≡ None → (i : ℕ) → start + 1 ≤ i → i < start + 1 + count → p i ≡ false) → p j ≡ false
-    here true e k more = cc
-    here false e k more =
-        ⊎_elim (λ (later : start < j). more k j (omega (arith, later)) (omega (arith, high))) (λ (first : j ≤ start). ap p (same j start low first) ∙ e) (cases_lt start j)
 
 -- a budget that is not spent is not below the number of labels
 within_budget : (g : Task) (budget : ℕ) → 1 ≤ segments_of g.film → spent_on g budget ≡ None → labels_in g (frontier g) ≤ budget

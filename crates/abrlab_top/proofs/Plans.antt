@@ -1,5 +1,5 @@
 -- What `plan` answers, from what the planner gave.
-use Rattle.std.proofs.Common.{◌≡◌, ◌∙◌, ◌+◌, ◌≤◌, ◌<◌, ◌⊎◌, ⊎_elim, ℕ, zero, suc, Bool, true, false, List, [], ◌∷◌, length, Some, None, Ok, Err, Option, Result, ap, sym, refl, subst, arith, if◌then◌else◌}
+use Rattle.std.proofs.Common.{◌≡◌, ◌∙◌, ◌+◌, ◌-◌, ◌≤◌, ◌<◌, ◌⊎◌, ⊎_elim, ℕ, zero, suc, Bool, true, false, List, [], ◌∷◌, length, Some, None, Ok, Err, Option, Result, ap, sym, refl, subst, arith, if◌then◌else◌}
 use Rattle.std.specs.Prelude.{nat_lt}
 use Rattle.std.specs.List.{find, range_with_len}
 use Rattle.std.proofs.lemmas.Bool.{cases_lt, cond-true, cond-false, le-ltb, lt-ltb}
@@ -19,41 +19,17 @@ use Rattle.frontier_planner.specs.Labels.{IsTask, Task, task_of}
 use Rattle.frontier_planner.specs.Parts.{CertificateParts, plan_parts}
 use Rattle.frontier_planner.specs.Planned.{IsPlanOf, PlanAnswer}
 use Rattle.frontier_planner.specs.Read.{SpentAt, labels_before, labels_in, labels_of}
-use Rattle.frontier_planner.proofs.Layers.{before_next}
+use Rattle.frontier_planner.proofs.Naming.{before_beyond}
 use Rattle.certificate_text.proofs.PlanText.{plan_has_text}
 use Rattle.abrlab_top.specs.Answer.{Answer, printed}
 use Rattle.abrlab_top.specs.Plan.{labels_on, parts_text, plan, plan_text, plan_traces, spent_on, task_on, unless_spent}
 use Rattle.abrlab_top.specs.Stages.{Plans}
-
--- ---- the first of a range that passes
-
-found_from : (p : ℕ → Bool) (start count s : ℕ) → start ≤ s → s < start + count → ((j : ℕ) → start ≤ j → j < s → p j ≡ false) → p s ≡ true → find p (range_with_len start count) ≡ Some s
-found_from p start zero s low high fails passes = absurd (omega (arith, low, high))
-found_from p start (suc count) s low high fails passes =
-    ⊎_elim
-    (λ (later : start < s). cond-false (p start) _ _ (fails start (omega arith) later) ∙ found_from p (start + 1) count s (omega (arith, later)) (omega (arith, high)) (λ j l h. fails j (omega (arith, l)) h) passes)
-    (λ (here : s ≤ start).
-    let same : s ≡ start = omega (arith, low, here) in
-    cond-true (p start) _ _ (ap p (sym same) ∙ passes) ∙ ap Some (sym same))
-    (cases_lt start s)
-
-none_from : (p : ℕ → Bool) (start count : ℕ) → ((j : ℕ) → j < start + count → p j ≡ false) → find p (range_with_len start count) ≡ None
-none_from p start zero fails = refl
-none_from p start (suc count) fails =
-    cond-false (p start) _ _ (fails start (omega arith)) ∙ none_from p (start + 1) count (λ j h. fails j (omega (arith, h)))
+use Rattle.abrlab_top.proofs.Finds.{found_from, none_from}
 
 -- ---- the budget
 
-before_itself : (g : Task) (j s : ℕ) → j ≡ s → labels_before g (frontier g) j ≤ labels_before g (frontier g) s
-before_itself g j s e = let same = ap (labels_before g (frontier g)) e in omega (arith, same)
-
 before_within : (g : Task) (j s : ℕ) → j ≤ s → labels_before g (frontier g) j ≤ labels_before g (frontier g) s
-before_within g j zero low = before_itself g j zero (omega (arith, low))
-before_within g j (suc s) low =
-    ⊎_elim
-    (λ (before : j < suc s). let rest = before_within g j s (omega (arith, before)) in let next = before_next g (frontier g) s in omega (arith, rest, next))
-    (λ (here : suc s ≤ j). before_itself g j (suc s) (omega (arith, low, here)))
-    (cases_lt j (suc s))
+before_within g j s low = subst (λ n. labels_before g (frontier g) j ≤ labels_before g (frontier g) n) (omega (arith, low)) (before_beyond g (frontier g) j (s - j))
 
 spent_at : (g : Task) (budget s : ℕ) → SpentAt g (frontier g) budget s → spent_on g budget ≡ Some s
 unfolding spent_on

@@ -28,7 +28,7 @@ mod writer;
 
 pub use certificate::{Certificate, Layer, Verdict};
 pub use lines::{Lines, one_spelling, read_certificate};
-pub use writer::{put_plan, write_certificate};
+pub use writer::{put_plan, put_score, write_certificate};
 
 #[cfg(test)]
 mod tests;
