@@ -3,7 +3,9 @@
 mod long;
 mod short;
 
-use crate::{Event, Fixed, Listed, Session, available, plain, play, play_from, seeks_fit};
+use crate::course::Course;
+use crate::plain::play_on;
+use crate::{Event, Fixed, Listed, Session, available, play, play_from, seeks_fit};
 use lab_model::{Context, Manifest, Period, Rule, Seek, Setup, Trace, Weights};
 use network_clock::Clock;
 use short::SHORT;
@@ -232,7 +234,14 @@ fn listed_session(
     assert!(rt; set.fits(&m) && seeks_fit(&seeks, &m) && rule.fits(&m));
     assert!(rt; case.ahead <= ON_DEMAND);
     Ok(if plainly {
-        plain::play_from(alloc, &m, &clock, &set, &seeks, case.ahead, rule)?
+        let course = Course {
+            film: &m,
+            clock: &clock,
+            setup: &set,
+            seeks: &seeks,
+            ahead: case.ahead,
+        };
+        play_on(alloc, &course, rule)?
     } else {
         play_from(alloc, &m, &clock, &set, &seeks, case.ahead, rule)?
     })
