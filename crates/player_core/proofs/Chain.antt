@@ -14,7 +14,7 @@ use Rattle.player_core.specs.Limits.{latest_ms, longest_film}
 use Rattle.player_core.specs.declared.body.Body.{Body}
 use Rattle.player_core.specs.declared.session.Session.{Session}
 use Rattle.player_core.specs.State.{Case, Player, case_of, first_player}
-use Rattle.player_core.specs.Parts.{abandon, gone_on, instant, is_ended, is_playing, pass_ms, request, seek, seek_at, stopped}
+use Rattle.player_core.specs.Parts.{abandon, gone_on, instant, is_ended, pass_ms, request, seek, seek_at, stopped}
 use Rattle.player_core.specs.Session.{Shown, end_of, ends_at, last_player, player_after, session_of, shown, shown_by}
 use Rattle.player_core.specs.Sound.{IsCase, Sound}
 use Rattle.player_core.specs.Quiet.{IsQuiet, glides}
@@ -24,10 +24,10 @@ use Rattle.std.specs.Option.{IfSome}
 use Rattle.player_core.proofs.Bounds.{last_count, last_rungs, last_times}
 use Rattle.player_core.proofs.Ends.{end_early, end_is, last_t, sessions_end}
 use Rattle.player_core.proofs.Follow.{Now, any_history, body_instant, body_sound, glide_ready, now_step, pass_ready, rest_ready, take_ready}
-use Rattle.player_core.proofs.Players.{abandon_t, gone_on_open, gone_on_sound, gone_on_t, instant_ended, instant_goes, instant_sound, instant_t, pass_t, player_next, player_sound, seeks_t, sought_sound, stopped_open, stopped_sound, stopped_t}
+use Rattle.player_core.proofs.Players.{abandon_t, gone_on_sound, gone_on_t, instant_ended, instant_goes, instant_sound, instant_t, pass_t, player_next, player_sound, seeks_t, sought_sound, stopped_sound, stopped_t}
 use Rattle.player_core.proofs.Soundness.{IsOpen, abandon_sound, pass_sound}
 use Rattle.player_core.proofs.Stretch.{next_ahead, pass_next, stretch}
-use Rattle.player_core.proofs.Turned.{gone_goes, last_is, none_timed, pass_told, player_first, request_told, seek_told, turn_goes}
+use Rattle.player_core.proofs.Turned.{none_timed, pass_told, player_first, request_told, seek_told}
 use Rattle.player_core.proofs.Waits.{IsStill, instant_still}
 
 -- what the player is called with keeps the limits

@@ -1,11 +1,10 @@
 -- The body stands for the model's player, part by part, and what is true of the player serves the body.
-use Rattle.std.proofs.Common.{◌≡◌, ◌∙◌, ℕ, zero, suc, ◌+◌, ◌-◌, ◌<◌, ◌≤◌, ◌⊎◌, inl, inr, List, [], length, true, false, Option, Some, None, Result, Ok, Err, sym, ap, subst, ⊎_elim, arith, eqb}
+use Rattle.std.proofs.Common.{◌≡◌, ◌∙◌, ℕ, zero, suc, ◌+◌, ◌-◌, ◌<◌, ◌≤◌, inl, inr, List, [], length, true, false, Option, Some, None, Result, Ok, Err, sym, ap, subst, ⊎_elim, arith, eqb}
 use Rattle.std.specs.Option.{IfSome, option_map}
 use Rattle.std.specs.Result.{IfOk}
 use Rattle.std.proofs.lemmas.Bool.{cases_lt, ne_eqb, false_from_ne_true, eq-eqb, true≢false}
 use Rattle.std.proofs.lemmas.Option.{IfSome_then}
 use Rattle.lab_model.specs.declared.trace.Period.{Period}
-use Rattle.lab_model.specs.Film.{Film, rungs_of, segments_of}
 use Rattle.network_clock.specs.declared.job.Job.{Job}
 use Rattle.network_clock.specs.Network.{first_at, is_spent, job_after, pass, period_at, start_job}
 use Rattle.network_clock.proofs.Downloads.{first_found, first_not_before}

@@ -1,7 +1,6 @@
 -- Milliseconds in which nothing begins, one after another and at once.
-use Rattle.std.proofs.Common.{◌≡◌, ◌∙◌, ℕ, ◌+◌, ◌-◌, ◌*◌, ◌%◌, ◌<◌, ◌≤◌, ◌&&◌, ◌⊎◌, ⊎_elim, Bool, true, false, cond, eqb, ltb, not, ◌++◌, ◌∷◌, [], List, Option, Some, None, IfSome, option_map, refl, sym, ap, subst, lt-ltb, le-ltb, arith}
-use Rattle.std.proofs.lemmas.Bool.{cases_lt, cond_both, cond-true, cond-false, false≢true, true≢false, ne_eqb}
-use Rattle.lab_model.specs.declared.context.Played.{Played}
+use Rattle.std.proofs.Common.{◌≡◌, ◌∙◌, ℕ, ◌+◌, ◌-◌, ◌%◌, ◌<◌, ◌≤◌, ◌&&◌, ⊎_elim, Bool, true, false, cond, eqb, ltb, not, ◌++◌, ◌∷◌, [], Option, Some, None, IfSome, option_map, refl, sym, ap, lt-ltb, le-ltb, arith}
+use Rattle.std.proofs.lemmas.Bool.{cases_lt, cond_both, cond-true, cond-false, true≢false, ne_eqb}
 use Rattle.network_clock.specs.Network.{done_at, first_at, job_after, start_job}
 use Rattle.network_clock.proofs.Laws.{job_apart, job_more, job_start}
 use Rattle.player_core.specs.declared.session.Event.TheVariants as event

@@ -4,7 +4,7 @@ use Rattle.lab_model.specs.Rules.{RuleKind}
 use Rattle.player_core.specs.declared.body.Body.{Body}
 use Rattle.player_core.specs.declared.course.Course.{Course}
 use Rattle.player_core.specs.Limits.{latest_ms}
-use Rattle.player_core.specs.State.{Case, Player, first_player}
+use Rattle.player_core.specs.State.{Player, first_player}
 use Rattle.player_core.specs.Course.{case_on}
 use Rattle.player_core.specs.Parts.{instant}
 use Rattle.player_core.specs.Session.{player_after}

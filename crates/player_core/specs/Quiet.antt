@@ -1,6 +1,6 @@
 -- Not part of the model: what the proofs keep.
 -- Quiet stretches: milliseconds in which nothing begins and nothing happens, and what so many of them make of the player at once.
-use Rattle.std.specs.Prelude.{◌≡◌, ℕ, ◌+◌, ◌-◌, ◌*◌, ◌%◌, ◌≤◌, ◌<◌, ◌==◌, ◌&&◌, ◌⊎◌, Bool, true, false, not, nat_le, nat_lt, Option, Some, None, IfSome, option_map, if◌then◌else◌}
+use Rattle.std.specs.Prelude.{◌≡◌, ℕ, ◌+◌, ◌-◌, ◌%◌, ◌≤◌, ◌<◌, ◌==◌, ◌&&◌, ◌⊎◌, Bool, true, false, not, nat_le, nat_lt, Some, None, IfSome, option_map, if◌then◌else◌}
 use Rattle.lab_model.specs.Film.{segments_of}
 use Rattle.network_clock.specs.Network.{done_at, first_at, job_after}
 use Rattle.player_core.specs.Limits.{judged_each, judged_from}

@@ -1,4 +1,4 @@
-use Rattle.std.proofs.Common.{◌≡◌, ◌∙◌, ◌+◌, ◌<◌, ◌≤◌, ℕ, sym, arith}
+use Rattle.std.proofs.Common.{◌∙◌, sym, arith}
 use Rattle.player_core.proofs.Chain.{pass_left, passes_left, session_is}
 use Rattle.player_core.proofs.Turns.{top_early, top_first, top_left, top_next, top_turns}
 use Rattle.player_core.proofs.plain.session_on.Goals as goal
@@ -22,7 +22,7 @@ loop-turn-preserved g c =
     let left = top_left _ _ _ _ c.requires.case _ _ _ c.loop-turn.invariant c.instant.new.self c.in_ok-instant.ensures.left in
     top_next _ _ _ _ c.requires.case _ _ _ c.loop-turn.invariant c.instant.new.rule c.instant.new.self c.pass.new.self _ (omega arith)
     c.in_ok-instant.ensures.instant c.in_ok-instant.ensures.told
-    (passes_left _ c.requires.case c.instant.new.self left (sym c.is_ended.ensures ∙ c.if-is_ended.false) c.pass.new.self (c.in_ok-pass.ensures.passes _) c.in_ok-pass.ensures.timed)
+    (passes_left _ c.requires.case c.instant.new.self left (sym c.is_ended.ensures ∙ c.if-is_ended.false) c.pass.new.self (c.in_ok-pass.ensures.passes (g.T.Rule.kind c.args.rule)) c.in_ok-pass.ensures.timed)
 
 pub loop-turn-init : goal.loop-turn-init
 loop-turn-init g c = top_first _ _ _ _ c.new-body.result c.new-body.ensures c.requires.told

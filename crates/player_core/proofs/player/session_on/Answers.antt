@@ -1,4 +1,4 @@
-use Rattle.std.proofs.Common.{◌≡◌, ◌∙◌, ◌+◌, ◌<◌, ◌≤◌, ℕ, sym, arith}
+use Rattle.std.proofs.Common.{◌∙◌, sym, arith}
 use Rattle.player_core.proofs.Chain.{session_is}
 use Rattle.player_core.proofs.Turns.{top_early, top_first, top_left, top_next, top_turns}
 use Rattle.player_core.proofs.player.session_on.Goals as goal

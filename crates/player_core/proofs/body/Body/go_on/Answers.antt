@@ -1,4 +1,4 @@
-use Rattle.std.proofs.Common.{[], ◌≡◌, ◌∙◌, ◌+◌, ℕ, List, sym}
+use Rattle.std.proofs.Common.{[], ◌+◌}
 use Rattle.std.proofs.lemmas.Result.{IfOk-weaker}
 use Rattle.player_core.proofs.Chain.{goes_on_same, goes_on_told, now_left, ruled_ready, ruled_request, sound_given}
 use Rattle.player_core.proofs.Follow.{judge_ready, range_ready, request_ready, room_ready, wasted_ready}

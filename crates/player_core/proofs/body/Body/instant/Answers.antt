@@ -1,4 +1,4 @@
-use Rattle.std.proofs.Common.{◌≡◌, ◌∙◌, ◌+◌, ◌<◌, ℕ, sym, arith}
+use Rattle.std.proofs.Common.{◌∙◌, sym, arith}
 use Rattle.std.proofs.lemmas.Result.{IfOk-weaker}
 use Rattle.player_core.specs.Course.{case_on}
 use Rattle.player_core.proofs.Chain.{at_early, at_stop, at_top, left_ended, left_gone, ruled_case, ruled_sound, told_ended, told_gone, told_stop}
@@ -41,8 +41,8 @@ returns g c =
     let stop = at_stop _ c.requires.case c.args.self.now c.requires.stands c.stop.new.self step in
     let told = told_stop _ c.args.self.now c.requires.stands (g.T.Rule.stands_for c.stop.new.rule) (hears.told _ c.requires.told) in
     let left = IfOk-weaker c.go_on.result _ _
-        (λ x both. left_gone _ c.requires.case c.args.self.now c.requires.stands c.stop.new.self stop on _ hears.same c.go_on.new.self (both.0 _ told) both.1)
-        (ok_both c.go_on.result _ _ c.go_on.ensures.goes c.go_on.ensures.timed)
+    (λ x both. left_gone _ c.requires.case c.args.self.now c.requires.stands c.stop.new.self stop on _ hears.same c.go_on.new.self (both.0 _ told) both.1)
+    (ok_both c.go_on.result _ _ c.go_on.ensures.goes c.go_on.ensures.timed)
     in
     record {
       instant = IfOk-weaker c.go_on.result _ _ (λ x both. both.1) left;

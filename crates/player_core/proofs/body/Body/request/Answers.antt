@@ -1,4 +1,4 @@
-use Rattle.std.proofs.Common.{◌≡◌, ◌∙◌, sym, ap, true, false}
+use Rattle.std.proofs.Common.{◌≡◌, ◌∙◌, sym, ap, true}
 use Rattle.std.proofs.lemmas.Bool.{cond-false}
 use Rattle.player_core.specs.Course.{case_on}
 use Rattle.player_core.specs.Parts.{asks, can_ask, rung_for}

@@ -1,4 +1,4 @@
-use Rattle.std.proofs.Common.{◌≡◌, ◌∙◌, Some, Option, option_map, sym, ap, subst}
+use Rattle.std.proofs.Common.{◌∙◌, Some, Option, option_map, sym, ap, subst}
 use Rattle.player_core.specs.State.{Download}
 use Rattle.player_core.specs.Course.{case_on}
 use Rattle.player_core.specs.Quiet.{taken_ms}
