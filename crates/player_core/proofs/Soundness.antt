@@ -18,6 +18,8 @@ use Rattle.player_core.specs.declared.session.Event.{Event}
 use Rattle.player_core.specs.declared.session.Event.TheVariants as event
 use Rattle.player_core.specs.Available.{available_at}
 use Rattle.player_core.specs.State.{Case, Download, Mode, Player, starting, playing, seeking, ended}
+-- by this name the crates above cite it
+pub use Rattle.player_core.specs.Parts.{takes_any as taken}
 use Rattle.player_core.specs.Parts.{abandon, arrival, arrives, asks, begins, can_ask, context_of, finish, gives_up, gives_up_any, got_of, is_ended, is_playing, loads, pass_ms, passes_in, plays, progress_of, request, rung_for, seek, seek_at, seeks_to, stalls_on, takes, wasted_by, takes_any}
 use Rattle.player_core.specs.Sound.{IsCase, IsOf, Runs, Sound, begun_before, is_waiting, seeks_left, spare_stall, turns_here, turns_left}
 use Rattle.player_core.proofs.Counts.{begun_grows, begun_most, begun_one, begun_waits, playing_still, playing_waits, seek_fits, seeks_fewer, seeks_one, spare_at_end, spare_calm, spare_inside, spare_most, spare_waiting, turns_next, turns_now}
