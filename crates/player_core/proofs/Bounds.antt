@@ -2,6 +2,7 @@
 use Rattle.std.proofs.Common.{ℕ, ◌+◌, ◌<◌, ◌≤◌, length, mul-le-mul, arith}
 use Rattle.std.specs.List.{All}
 use Rattle.lab_model.specs.Film.{rungs_of, segments_of}
+use Rattle.player_core.specs.Limits.{longest_film, most_segments}
 use Rattle.player_core.specs.State.{Case, Player}
 use Rattle.player_core.specs.Session.{end_of, last_player}
 use Rattle.player_core.specs.Sound.{IsCase, Sound, all_turns}
@@ -13,24 +14,24 @@ turns_most c is = let count = is.film.segments.1 in omega (arith, count)
 
 module _ (c : Case) (is : IsCase c) (from : ℕ) (p : Player) (h : Sound c from p) where
   -- what is loaded ends at 120000000 or before
-  pub end_most : p.y ≤ 120000000
+  pub end_most : p.y ≤ longest_film
   end_most =
       let end = h.loaded_end in
       let next = h.next in
       let count = is.film.segments.1 in
-      let most = mul-le-mul (let low : p.k ≤ 2000 = omega (arith, next, count) in low) is.film.seg_ms.1 in
+      let most = mul-le-mul (let low : p.k ≤ most_segments = omega (arith, next, count) in low) is.film.seg_ms.1 in
       omega (arith, end, most)
 
   -- the position is at most 120000000
-  pub position_most : p.x ≤ 120000000
+  pub position_most : p.x ≤ longest_film
   position_most = let most = end_most in let position = h.position in omega (arith, most, position)
 
   -- the next segment is at most 2000
-  pub next_most : p.k ≤ 2000
+  pub next_most : p.k ≤ most_segments
   next_most = let next = h.next in let count = is.film.segments.1 in omega (arith, next, count)
 
   -- at most 2000 segments are loaded
-  pub loaded_most : length p.loaded ≤ 2000
+  pub loaded_most : length p.loaded ≤ most_segments
   loaded_most = let room = h.room in let next = next_most in omega (arith, room, next)
 
   -- at most 1152033 stalls were counted

@@ -10,66 +10,65 @@ use Rattle.lab_model.specs.Film.{Film, IsFilm, rungs_of, segments_of}
 use Rattle.lab_model.specs.Fit.{SetupFits}
 use Rattle.lab_model.specs.Rules.{KindFits, RuleKind}
 use Rattle.lab_model.specs.Seeks.{SeeksFit}
+use Rattle.player_core.specs.Limits.{latest_ms, longest_film}
 use Rattle.player_core.specs.declared.body.Body.{Body}
 use Rattle.player_core.specs.declared.session.Session.{Session}
 use Rattle.player_core.specs.State.{Case, Player, case_of, first_player}
-use Rattle.player_core.specs.Parts.{abandon, gone_on, instant, is_ended, is_playing, pass_ms, request, seek, seek_at, stopped}
-use Rattle.player_core.specs.Session.{Shown, end_of, ends_at, last_player, latest_ms, player_after, session_of, shown, shown_by}
+use Rattle.player_core.specs.Parts.{abandon, gone_on, instant, is_ended, pass_ms, request, seek, seek_at, stopped}
+use Rattle.player_core.specs.Session.{Shown, end_of, ends_at, last_player, player_after, session_of, shown, shown_by}
 use Rattle.player_core.specs.Sound.{IsCase, Sound}
 use Rattle.player_core.specs.Quiet.{IsQuiet, glides}
 use Rattle.player_core.specs.Seen.{CanGlide, CanRest, CanTake, Follows, GoesOn, IsTimed, LeftAt, StandsAt, StandsFor, Step, Waits, mode_of, seen}
-use Rattle.player_core.specs.Ready.{CanPass}
+use Rattle.player_core.specs.Ready.{CanPass, CanRequest}
 use Rattle.std.specs.Option.{IfSome}
 use Rattle.player_core.proofs.Bounds.{last_count, last_rungs, last_times}
 use Rattle.player_core.proofs.Ends.{end_early, end_is, last_t, sessions_end}
 use Rattle.player_core.proofs.Follow.{Now, any_history, body_instant, body_sound, glide_ready, now_step, pass_ready, rest_ready, take_ready}
-use Rattle.player_core.proofs.Players.{abandon_t, gone_on_open, gone_on_sound, gone_on_t, instant_ended, instant_goes, instant_sound, instant_t, pass_t, player_next, player_sound, seeks_t, sought_sound, stopped_open, stopped_sound, stopped_t}
+use Rattle.player_core.proofs.Players.{abandon_t, gone_on_sound, gone_on_t, instant_ended, instant_goes, instant_sound, instant_t, pass_t, player_next, player_sound, seeks_t, sought_sound, stopped_sound, stopped_t}
 use Rattle.player_core.proofs.Soundness.{IsOpen, abandon_sound, pass_sound}
 use Rattle.player_core.proofs.Stretch.{next_ahead, pass_next, stretch}
-use Rattle.player_core.proofs.Turned.{gone_goes, last_is, none_timed, pass_told, player_first, request_told, seek_told, turn_goes}
+use Rattle.player_core.proofs.Turned.{none_timed, pass_told, player_first, request_told, seek_told}
 use Rattle.player_core.proofs.Waits.{IsStill, instant_still}
 
 -- what the player is called with keeps the limits
-pub is_case : (f : Film) (ps : List Period) (set : Setup) (seeks : List Seek) (ahead : ℕ) (kind : RuleKind) → IsFilm f → IsTrace ps → SetupFits set f → SeeksFit seeks (segments_of f) → ahead ≤ 120000000 → KindFits kind f
+pub is_case : (f : Film) (ps : List Period) (set : Setup) (seeks : List Seek) (ahead : ℕ) (kind : RuleKind) → IsFilm f → IsTrace ps → SetupFits set f → SeeksFit seeks (segments_of f) → ahead ≤ longest_film → KindFits kind f
     → IsCase (case_of f ps set seeks ahead kind)
 is_case f ps set seeks ahead kind film trace setup script most rule = record { film = film; trace = trace; setup = setup; seeks = script; ahead = most; rule = rule }
 
 -- ---- the parts of an instant that goes on
 
 -- what the parts of an instant need that goes on, and what a part has made of it
-module _ (c : Case) (is : IsCase c) (b : Body) (sound : Sound c b.t (seen b [])) (timed : IsTimed c.film c.periods b.download) (a : Body) (given : (k : Case) → k.film ≡ c.film → k.setup ≡ c.setup → Step (abandon k) b a) where
+module _ (c : Case) (is : IsCase c) (b : Body) (sound : Sound c b.t (seen b [])) (timed : IsTimed c.film c.periods b.download) (a : Body) (given : Step (abandon c) b a) where
   now_given : (h : List ℕ) → Now c b.t b.t (abandon c (seen b h)) a
   now_given h =
       let top : Now c b.t b.t (seen b h) b = record { sound = any_history c b.t b [] h sound; instant = refl; same = refl; timed = timed } in
-      now_step c b.t b.t b.t (abandon c) (seen b h) b a top (given c refl refl) (abandon_sound c is b.t (seen b h) top.sound) (abandon_t c (seen b h))
+      now_step c b.t b.t b.t (abandon c) (seen b h) b a top given (abandon_sound c is b.t (seen b h) top.sound) (abandon_t c (seen b h))
 
   -- after the abandonment the body stands for a sound player
   pub sound_given : Sound c b.t (seen a [])
   sound_given = body_sound c b.t b.t (abandon c (seen b [])) a (now_given [])
 
-  -- a seek and a request tell the rule nothing
-  told_left : (h : List ℕ) (told : List ℕ → Type 0) → ((k : Case) → k.film ≡ c.film → k.setup ≡ c.setup → told (abandon k (seen b h)).history) → told (seek c (abandon c (seen b h))).history
-  told_left h told here = subst told (sym (seek_told c (abandon c (seen b h)))) (here c refl refl)
+  -- a seek tells the rule nothing
+  told_left : (h : List ℕ) (told : List ℕ → Type 0) → told (abandon c (seen b h)).history → told (seek c (abandon c (seen b h))).history
+  told_left h told here = subst told (sym (seek_told c (abandon c (seen b h)))) here
 
   -- what is true of the history after the abandonment is true of it after the seek and the request
-  pub goes_on_told : (h : List ℕ) (told : List ℕ → Type 0) → ((k : Case) → k.film ≡ c.film → k.setup ≡ c.setup → told (abandon k (seen b h)).history) → told (gone_on c (seen b h)).history
+  pub goes_on_told : (h : List ℕ) (told : List ℕ → Type 0) → told (abandon c (seen b h)).history → told (gone_on c (seen b h)).history
   goes_on_told h told here = subst told (sym (request_told c (seek c (abandon c (seen b h))))) (told_left h told here)
 
-  module _ (s : Body) (sought : (k : Case) → k.film ≡ c.film → k.seeks ≡ c.seeks → Step (seek k) a s) where
+  module _ (s : Body) (sought : Step (seek c) a s) where
     -- after the seek the body stands for the player after it
     pub now_left : (h : List ℕ) → Now c b.t (b.t + 1) (seek c (abandon c (seen b h))) s
     now_left h =
         let p = abandon c (seen b h) in
         let now = now_given h in
-        now_step c b.t b.t (b.t + 1) (seek c) p a s now (sought c refl refl) (sought_sound c is b.t p now.instant now.sound) (seeks_t c p (seek_at c.seeks p.t) ∙ now.instant)
+        now_step c b.t b.t (b.t + 1) (seek c) p a s now sought (sought_sound c is b.t p now.instant now.sound) (seeks_t c p (seek_at c.seeks p.t) ∙ now.instant)
 
     -- a request follows
-    pub goes_on_same : (r : Body) (h : List ℕ) → (told : List ℕ → Type 0)
-        → ((k : Case) (g : List ℕ) → k.film ≡ c.film → k.setup ≡ c.setup → k.ahead ≡ c.ahead → k.rule ≡ c.rule → told g → seen r g ≡ request k (seen s g))
-        → ((k : Case) → k.film ≡ c.film → k.setup ≡ c.setup → told (abandon k (seen b h)).history) → GoesOn c h b r
+    pub goes_on_same : (r : Body) (h : List ℕ) (told : List ℕ → Type 0) → ((g : List ℕ) → told g → seen r g ≡ request c (seen s g)) → told (abandon c (seen b h)).history → GoesOn c h b r
     goes_on_same r h told asked here =
         let p = abandon c (seen b h) in
-        ap (seen r) (request_told c (seek c p)) ∙ asked c (seek c p).history refl refl refl refl (told_left h told here) ∙ ap (request c) (now_left h).same
+        ap (seen r) (request_told c (seek c p)) ∙ asked (seek c p).history (told_left h told here) ∙ ap (request c) (now_left h).same
 
 -- ---- a turn of the loop
 
@@ -79,23 +78,13 @@ module _ (c : Case) (is : IsCase c) (kind : RuleKind) (ruled : kind ≡ c.rule) 
   pub ruled_case : IsCase (record c { rule = kind })
   ruled_case = subst (λ r. IsCase (record c { rule = r })) (sym ruled) is
 
-  -- a body that stands for the player does so with this rule
-  pub ruled_stands : (b : Body) → StandsAt c b → StandsAt (record c { rule = kind }) b
-  ruled_stands b here = subst (λ r. StandsAt (record c { rule = r }) b) (sym ruled) here
+  -- a request with this rule is one with the case's own
+  pub ruled_request : (s r : Body) (h : List ℕ) → seen r h ≡ request (record c { rule = kind }) (seen s h) → seen r h ≡ request c (seen s h)
+  ruled_request s r h asked = subst (λ k. seen r h ≡ request (record c { rule = k }) (seen s h)) ruled asked
 
-  -- what is true of the history is true of it with this rule
-  pub ruled_told : (b : Body) (told : List ℕ → Type 0) → told (player_after c b.t).history → told (player_after (record c { rule = kind }) b.t).history
-  ruled_told b told h = subst (λ r. told (player_after (record c { rule = r }) b.t).history) (sym ruled) h
-
-  -- what the parts leave with this rule they leave with the case's own
-  pub left_ruled : (b : Body) → LeftAt (record c { rule = kind }) b → LeftAt c b
-  left_ruled b left = subst (λ r. LeftAt (record c { rule = r }) b) ruled left
-
-  -- what the rule was told, after a wait
-  pub waits_told : (b a r : Body) → a.t ≡ b.t → Waits c a r → (told : List ℕ → Type 0) → told (instant (record c { rule = kind }) (player_after (record c { rule = kind }) b.t)).history → told (player_after c r.t).history
-  waits_told b a r at waits told h =
-      subst told (sym (waits.told ∙ ap (λ n. (instant c (player_after c n)).history) at))
-      (subst (λ k. told (instant (record c { rule = k }) (player_after (record c { rule = k }) b.t)).history) ruled h)
+  -- one that can be made with the case's own can be made with this rule
+  pub ruled_ready : (s : Body) → CanRequest c (seen s []) → CanRequest (record c { rule = kind }) (seen s [])
+  ruled_ready s ready = subst (λ k. CanRequest (record c { rule = k }) (seen s [])) (sym ruled) ready
 
 -- where no instant before it was the end, an instant is early
 early_before : (c : Case) → IsCase c → (n : ℕ) → ((k : ℕ) → k < n → ends_at c k ≡ false) → n < latest_ms
@@ -147,11 +136,11 @@ module _ (c : Case) (is : IsCase c) (b : Body) (here : StandsAt c b) where
       )
 
   -- after the arrival and the end the body stands for the player after them
-  pub at_stop : (s : Body) → ((k : Case) → k.film ≡ c.film → Step (stopped k) b s) → Now c b.t b.t (stopped c (player_after c b.t)) s
+  pub at_stop : (s : Body) → Step (stopped c) b s → Now c b.t b.t (stopped c (player_after c b.t)) s
   at_stop s stop =
       let p = player_after c b.t in
       let top = at_top in
-      now_step c b.t b.t b.t (stopped c) p b s top (stop c refl) (stopped_sound c b.t p top.sound) (stopped_t c p ∙ top.instant)
+      now_step c b.t b.t b.t (stopped c) p b s top stop (stopped_sound c b.t p top.sound) (stopped_t c p ∙ top.instant)
 
   -- and that player is sound with a rule that is the case's
   pub ruled_sound : (s : Body) → Now c b.t b.t (stopped c (player_after c b.t)) s → (kind : RuleKind) → kind ≡ c.rule → Sound (record c { rule = kind }) s.t (seen s [])
@@ -164,12 +153,6 @@ module _ (c : Case) (is : IsCase c) (b : Body) (here : StandsAt c b) where
   left_ended s stop ended =
       let over = sym (ap (λ (q : Player). is_ended q.mode) stop.same) ∙ ended in
       lefts_at (stopped c (player_after c b.t)) s b.t stop (instant_ended c (player_after c b.t) over)
-
-  -- where the session has ended, what is true of the history so far is true of it after the instant
-  pub told_ended : (s : Body) → Now c b.t b.t (stopped c (player_after c b.t)) s → is_ended (mode_of s.mode) ≡ true → (told : List ℕ → Type 0) → told (stopped c (player_after c b.t)).history → told (instant c (player_after c b.t)).history
-  told_ended s stop ended told h =
-      let over = sym (ap (λ (q : Player). is_ended q.mode) stop.same) ∙ ended in
-      subst (λ (q : Player). told q.history) (sym (instant_ended c (player_after c b.t) over)) h
 
   -- and where it goes on, what the other parts make of it
   module _ (s : Body) (stop : Now c b.t b.t (stopped c (player_after c b.t)) s) (on : is_ended (mode_of s.mode) ≡ false) where
@@ -189,17 +172,26 @@ module _ (c : Case) (is : IsCase c) (b : Body) (here : StandsAt c b) where
         })
         (instant_goes c (player_after c b.t) goes)
 
-    -- what is true of the history after the other parts is true of it after the instant
-    pub left_told : (kind : RuleKind) → kind ≡ c.rule → (told : List ℕ → Type 0) → told (gone_on (record c { rule = kind }) (seen s (stopped c (player_after c b.t)).history)).history → told (instant c (player_after c b.t)).history
-    left_told kind ruled told h =
-        let p = stopped c (player_after c b.t) in
-        subst (λ (q : Player). told q.history) (sym (instant_goes c (player_after c b.t) goes))
-        (subst (λ r. told (gone_on (record c { rule = r }) p).history) ruled (subst (λ (q : Player). told (gone_on (record c { rule = kind }) q).history) stop.same h))
-
 -- what the rule was told before the other parts
-pub told_stop : (c : Case) (b : Body) → StandsAt c b → (told heard : List ℕ → Type 0) → ((k : Case) → k.film ≡ c.film → (h : List ℕ) → told h → heard (stopped k (seen b h)).history)
-    → told (player_after c b.t).history → heard (stopped c (player_after c b.t)).history
-told_stop c b here told heard tells h = subst (λ (p : Player). heard (stopped c p).history) here.stands.same (tells c refl (player_after c b.t).history h)
+pub told_stop : (c : Case) (b : Body) → StandsAt c b → (heard : List ℕ → Type 0) → heard (stopped c (seen b (player_after c b.t).history)).history → heard (stopped c (player_after c b.t)).history
+told_stop c b here heard h = subst (λ (p : Player). heard (stopped c p).history) here.stands.same h
+
+-- what the rule was told in an instant, with any history
+module _ (c : Case) (b s : Body) (step : Step (stopped c) b s) (h : List ℕ) (told : List ℕ → Type 0) where
+  ends_as : is_ended (stopped c (seen b h)).mode ≡ is_ended (mode_of s.mode)
+  ends_as = sym (ap (λ (q : Player). is_ended q.mode) (step.follows h))
+
+  -- where the session has ended, what is true of the history so far is true of it after the instant
+  pub told_ended : is_ended (mode_of s.mode) ≡ true → told (stopped c (seen b h)).history → told (instant c (seen b h)).history
+  told_ended ended here = subst (λ (q : Player). told q.history) (sym (instant_ended c (seen b h) (ends_as ∙ ended))) here
+
+  -- and where it goes on, what is true of it after the other parts
+  pub told_gone : is_ended (mode_of s.mode) ≡ false → (kind : RuleKind) → kind ≡ c.rule
+      → told (gone_on (record c { rule = kind }) (seen s (stopped c (seen b h)).history)).history → told (instant c (seen b h)).history
+  told_gone on kind ruled here =
+      let p = stopped c (seen b h) in
+      subst (λ (q : Player). told q.history) (sym (instant_goes c (seen b h) (ends_as ∙ on)))
+      (subst (λ r. told (gone_on (record c { rule = r }) p).history) ruled (subst (λ (q : Player). told (gone_on (record c { rule = kind }) q).history) (step.follows h) here))
 
 -- ---- a wait
 
@@ -243,14 +235,14 @@ module _ (c : Case) (is : IsCase c) (a : Body) (left : LeftAt c a) where
         let q = instant c (player_after c a.t) in
         (pass_ready c is a.t (a.t + 1) q a at_left_early at_left, take_ready c is a.t (a.t + 1) q a at_left)
 
-    module _ (b : Body) (passes : (k : Case) → k.film ≡ c.film → k.periods ≡ c.periods → Follows (pass_ms k) a b) (timed : IsTimed c.film c.periods a.download → IsTimed c.film c.periods b.download) where
+    module _ (b : Body) (passes : Follows (pass_ms c) a b) (timed : IsTimed c.film c.periods a.download → IsTimed c.film c.periods b.download) where
       at_next : Now c (a.t + 1) (a.t + 1) (pass_ms c (instant c (player_after c a.t))) b
       at_next =
           let q = instant c (player_after c a.t) in
           record {
             sound = pass_sound c is (a.t + 1) q left_both.0 left_both.1 left_goes;
             instant = pass_t c q ∙ ap (λ k. k + 1) at_left.instant;
-            same = subst (λ (p : Player). seen b (pass_ms c p).history ≡ pass_ms c p) left.stands.same (passes c refl refl q.history);
+            same = subst (λ (p : Player). seen b (pass_ms c p).history ≡ pass_ms c p) left.stands.same (passes q.history);
             timed = timed left.stands.timed;
           }
 
@@ -269,10 +261,9 @@ module _ (c : Case) (is : IsCase c) (a : Body) (left : LeftAt c a) where
             told = ap (λ (p : Player). p.history) same ∙ pass_told c q;
           }
 
-      module _ (ms : ℕ) (few : ms ≤ 1000000000000000)
-          (quiet : (k : Case) (h : List ℕ) → k.film ≡ c.film → k.setup ≡ c.setup → k.seeks ≡ c.seeks → k.ahead ≡ c.ahead → IsTimed k.film k.periods a.download → IsQuiet k (seen a h) ms) where
+      module _ (ms : ℕ) (few : ms ≤ latest_ms) (quiet : IsTimed c.film c.periods a.download → (h : List ℕ) → IsQuiet c (seen a h) ms) where
         left_quiet : IsQuiet c (instant c (player_after c a.t)) ms
-        left_quiet = subst (λ p. IsQuiet c p ms) left.stands.same (quiet c (instant c (player_after c a.t)).history refl refl refl refl left.stands.timed)
+        left_quiet = subst (λ p. IsQuiet c p ms) left.stands.same (quiet left.stands.timed (instant c (player_after c a.t)).history)
 
         -- the rest of a quiet stretch can pass at once
         pub glide_left : CanGlide b (ms - 1)
@@ -283,7 +274,7 @@ module _ (c : Case) (is : IsCase c) (a : Body) (left : LeftAt c a) where
             (next_ahead c is (a.t + 1) q (pass_ms c q) ms left_both.0 left_goes left_still left_quiet (pass_next c q left_goes))
 
         -- a millisecond and then the rest of a quiet stretch at once are a wait
-        pub waits_left : (r : Body) → ((k : Case) → k.periods ≡ c.periods → IsTimed k.film k.periods b.download → Follows (glides k (ms - 1)) b r) → r.t ≡ b.t + (ms - 1)
+        pub waits_left : (r : Body) → (IsTimed c.film c.periods b.download → Follows (glides c (ms - 1)) b r) → r.t ≡ b.t + (ms - 1)
             → (IsTimed c.film c.periods b.download → IsTimed c.film c.periods r.download) → Waits c a r
         waits_left r glide t in_time =
             let q = instant c (player_after c a.t) in
@@ -292,7 +283,7 @@ module _ (c : Case) (is : IsCase c) (a : Body) (left : LeftAt c a) where
             let there : a.t + ms ≡ r.t = omega (arith, some, next, t) in
             let law = stretch c is a.t ms left.going left_goes left_quiet in
             let same : player_after c r.t ≡ glides c (ms - 1) (pass_ms c q) = ap (player_after c) (sym there) ∙ law.1 in
-            let seen_there = subst (λ (p : Player). seen r (glides c (ms - 1) p).history ≡ glides c (ms - 1) p) at_next.same (glide c refl at_next.timed (pass_ms c q).history) in
+            let seen_there = subst (λ (p : Player). seen r (glides c (ms - 1) p).history ≡ glides c (ms - 1) p) at_next.same (glide at_next.timed (pass_ms c q).history) in
             record {
               later = omega (arith, some, next, t);
               stands = record {
@@ -316,7 +307,7 @@ module _ (c : Case) (is : IsCase c) (s : Session) (e : shown s ≡ session_of c)
   session_end = ap (λ (v : Shown). v.ended) e ∙ last_t c is
 
   -- it ends before the latest instant
-  pub session_ends : s.end < 1000000000000000
+  pub session_ends : s.end < latest_ms
   session_ends = let at = session_end in let early = end_early c is in omega (arith, at, early)
 
   -- its milliseconds before the start, in stalls and in seeks are at most those up to its end

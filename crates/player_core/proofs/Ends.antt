@@ -3,9 +3,10 @@ use Rattle.std.proofs.Common.{◌≡◌, ℕ, zero, suc, ◌+◌, ◌*◌, ◌<�
 use Rattle.std.proofs.lemmas.Bool.{cases_Bool, cases_eq, false_from_ne_true, true≢false}
 use Rattle.lab_model.specs.Film.{segments_of}
 use Rattle.network_clock.proofs.Search.{least_before, least_found, least_is}
+use Rattle.player_core.specs.Limits.{latest_ms}
 use Rattle.player_core.specs.State.{Case, Player, first_player}
 use Rattle.player_core.specs.Parts.{instant, is_ended, pass_ms}
-use Rattle.player_core.specs.Session.{end_of, ends_at, last_player, latest_ms, player_after}
+use Rattle.player_core.specs.Session.{end_of, ends_at, last_player, player_after}
 use Rattle.player_core.specs.Sound.{IsCase, Sound, turns_left}
 use Rattle.player_core.proofs.Counts.{begun_most}
 use Rattle.player_core.proofs.Soundness.{pass_sound}

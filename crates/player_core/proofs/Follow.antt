@@ -1,20 +1,20 @@
 -- The body stands for the model's player, part by part, and what is true of the player serves the body.
-use Rattle.std.proofs.Common.{◌≡◌, ◌∙◌, ℕ, zero, suc, ◌+◌, ◌-◌, ◌<◌, ◌≤◌, ◌⊎◌, inl, inr, List, [], length, true, false, Option, Some, None, Result, Ok, Err, sym, ap, subst, ⊎_elim, arith, eqb}
+use Rattle.std.proofs.Common.{◌≡◌, ◌∙◌, ℕ, zero, suc, ◌+◌, ◌-◌, ◌<◌, ◌≤◌, inl, inr, List, [], length, true, false, Option, Some, None, Result, Ok, Err, sym, ap, subst, ⊎_elim, arith, eqb}
 use Rattle.std.specs.Option.{IfSome, option_map}
 use Rattle.std.specs.Result.{IfOk}
 use Rattle.std.proofs.lemmas.Bool.{cases_lt, ne_eqb, false_from_ne_true, eq-eqb, true≢false}
 use Rattle.std.proofs.lemmas.Option.{IfSome_then}
 use Rattle.lab_model.specs.declared.trace.Period.{Period}
-use Rattle.lab_model.specs.Film.{Film, rungs_of, segments_of}
 use Rattle.network_clock.specs.declared.job.Job.{Job}
 use Rattle.network_clock.specs.Network.{first_at, is_spent, job_after, pass, period_at, start_job}
 use Rattle.network_clock.proofs.Downloads.{first_found, first_not_before}
 use Rattle.network_clock.proofs.Laws.{job_next, job_start, left_falls}
+use Rattle.player_core.specs.Limits.{latest_ms, longest_download, longest_film, most_segments, most_wasted}
 use Rattle.player_core.specs.declared.body.Body.{Body}
 use Rattle.player_core.specs.declared.running.Running.{Running}
 use Rattle.player_core.specs.State.{Case, Download, Player}
 use Rattle.player_core.specs.Sound.{IsCase, Runs, Sound, asked_size}
-use Rattle.player_core.specs.Seen.{CanGlide, CanRest, CanTake, IsTimed, Step, download_of, seen}
+use Rattle.player_core.specs.Seen.{CanGlide, CanRest, CanTake, IsTimed, Step, download_of, seen, IsRunningOf, CanArrive}
 use Rattle.player_core.specs.Available.{available_at}
 use Rattle.player_core.specs.Parts.{is_playing}
 use Rattle.player_core.specs.Ready.{CanJudge, CanLoad, CanPass, CanRequest}
@@ -90,7 +90,7 @@ ok_both (Err e) P Q p q = tt
 
 -- ---- what the parts of a millisecond need
 
-load_of : (c : Case) → IsCase c → (p : Player) → p.y ≤ 120000000 → (o : Option Running)
+load_of : (c : Case) → IsCase c → (p : Player) → p.y ≤ longest_film → (o : Option Running)
     → IfSome (option_map download_of o) (Runs c p.t) → IfSome (option_map download_of o) (λ d. d.segment ≡ p.k)
     → IfSome o (λ r. r.job.left ≡ 0 → CanLoad c.film p (download_of r))
 load_of c is p end None runs next = tt
@@ -112,7 +112,7 @@ load_of c is p end (Some r) runs next = λ none.
 
 -- the download of a sound body can be loaded where it has arrived
 pub load_ready : (c : Case) → IsCase c → (from : ℕ) (b : Body) → Sound c from (seen b [])
-    → IfSome b.download (λ r. r.job.left ≡ 0 → CanLoad c.film (seen b []) (download_of r))
+    → CanArrive c.film b
 load_ready c is from b s = load_of c is (seen b []) (end_most c is from (seen b []) s) b.download s.running s.of_next
 
 judge_of : (c : Case) → IsCase c → (p : Player) (o : Option Running) → IfSome (option_map download_of o) (Runs c p.t)
@@ -135,24 +135,24 @@ pub judge_ready : (c : Case) → IsCase c → (from : ℕ) (b : Body) → Sound 
 judge_ready c is from b s = judge_of c is (seen b []) b.download s.running
 
 -- it has wasted at most 10 ^ 15 bits
-pub wasted_ready : (c : Case) → IsCase c → (from : ℕ) (b : Body) → Sound c from (seen b []) → b.wasted ≤ 1000000000000000
+pub wasted_ready : (c : Case) → IsCase c → (from : ℕ) (b : Body) → Sound c from (seen b []) → b.wasted ≤ most_wasted
 wasted_ready c is from b s = let small = wasted_small c is from (seen b []) s in omega (arith, small)
 
 range_of : (c : Case) (t : ℕ) (o : Option Running) → IfSome (option_map download_of o) (Runs c t)
-    → IfSome o (λ r. (r.segment < segments_of c.film) × (r.rung < rungs_of c.film))
+    → IfSome o (IsRunningOf c.film)
 range_of c t None runs = tt
 range_of c t (Some r) runs = (runs.segment, runs.rung)
 
 -- its running download is of a segment and a rung of the film
-pub range_ready : (c : Case) (from : ℕ) (b : Body) → Sound c from (seen b []) → IfSome b.download (λ r. (r.segment < segments_of c.film) × (r.rung < rungs_of c.film))
+pub range_ready : (c : Case) (from : ℕ) (b : Body) → Sound c from (seen b []) → IfSome b.download (IsRunningOf c.film)
 range_ready c from b s = range_of c b.t b.download s.running
 
 -- it has at most 2000 segments loaded
-pub room_ready : (c : Case) → IsCase c → (from : ℕ) (b : Body) → Sound c from (seen b []) → length b.loaded.items ≤ 2000
+pub room_ready : (c : Case) → IsCase c → (from : ℕ) (b : Body) → Sound c from (seen b []) → length b.loaded.items ≤ most_segments
 room_ready c is from b s = loaded_most c is from (seen b []) s
 
 -- a body that stands for a sound player can make a request, where there is cause for one
-pub request_ready : (c : Case) → IsCase c → (n from : ℕ) (p : Player) (b : Body) → n < 1000000000000000 → Now c n from p b → CanRequest c.film c.setup c.rule (seen b [])
+pub request_ready : (c : Case) → IsCase c → (n from : ℕ) (p : Player) (b : Body) → n < latest_ms → Now c n from p b → CanRequest c (seen b [])
 request_ready c is n from p b low now =
     let s = body_sound c n from p b now in
     let here = body_instant c n from p b now in
@@ -167,7 +167,7 @@ request_ready c is n from p b low now =
     }
 
 -- a millisecond can pass for it
-pub pass_ready : (c : Case) → IsCase c → (n from : ℕ) (p : Player) (b : Body) → n < 1000000000000000 → Now c n from p b → CanPass (seen b [])
+pub pass_ready : (c : Case) → IsCase c → (n from : ℕ) (p : Player) (b : Body) → n < latest_ms → Now c n from p b → CanPass (seen b [])
 pass_ready c is n from p b low now =
     let s = body_sound c n from p b now in
     let here = body_instant c n from p b now in
@@ -238,7 +238,7 @@ take_ready c is n from p b now = take_of c is b.t b.download (body_sound c n fro
 -- ---- a stretch in which nothing happens
 
 rest_of : (c : Case) → IsCase c → (t : ℕ) (o : Option Running) → IfSome (option_map download_of o) (Runs c t) → IfSome (option_map download_of o) (λ d. eqb d.job.left 0 ≡ false)
-    → IsTimed c.film c.periods o → IfSome o (λ r. (r.asked ≤ t) × (t < r.done) × (r.done ≤ r.asked + 300010000))
+    → IsTimed c.film c.periods o → IfSome o (λ r. (r.asked ≤ t) × (t < r.done) × (r.done ≤ r.asked + longest_download))
 rest_of c is t None runs some timed = tt
 rest_of c is t (Some r) runs some timed =
     let d = download_of r in
@@ -248,7 +248,7 @@ rest_of c is t (Some r) runs some timed =
     (runs.asked, omega (arith, done, early), omega (arith, done, soon))
 
 -- where nothing has arrived and it has no cause to ask, the milliseconds can be counted in which nothing happens to it
-pub rest_ready : (c : Case) → IsCase c → (n from : ℕ) (p : Player) (b : Body) → n < 1000000000000000 → Now c n from p b → IsOpen p → IsStill c p → CanRest c.film c.setup c.ahead b
+pub rest_ready : (c : Case) → IsCase c → (n from : ℕ) (p : Player) (b : Body) → n < latest_ms → Now c n from p b → IsOpen p → IsStill c p → CanRest c.film c.setup c.ahead b
 rest_ready c is n from p b low now some still =
     let s = body_sound c n from p b now in
     let here = body_instant c n from p b now in
@@ -266,14 +266,16 @@ rest_ready c is n from p b low now some still =
     }
 
 -- so many milliseconds can pass at once for it that do not take play past the end of what is loaded
-pub glide_ready : (c : Case) → IsCase c → (n from ms : ℕ) (p : Player) (b : Body) → n ≤ 1000000000000000 → ms ≤ 1000000000000000 → Now c n from p b → (is_playing p.mode ≡ true → p.x < p.y → p.x + ms ≤ p.y) → CanGlide b ms
+pub glide_ready : (c : Case) → IsCase c → (n from ms : ℕ) (p : Player) (b : Body) → n ≤ latest_ms → ms ≤ latest_ms → Now c n from p b → (is_playing p.mode ≡ true → p.x < p.y → p.x + ms ≤ p.y) → CanGlide b ms
 glide_ready c is n from ms p b low few now ahead =
     let s = body_sound c n from p b now in
     let here = body_instant c n from p b now in
     record {
-      end = end_most c is from (seen b []) s;
-      instant = omega (arith, here, low, few);
-      times = s.times;
-      moves = subst (λ (q : Player). is_playing q.mode ≡ true → q.x < q.y → q.x + ms ≤ q.y) (sym now.same) ahead;
+      moves = record {
+        end = end_most c is from (seen b []) s;
+        instant = omega (arith, here, low, few);
+        times = s.times;
+        moves = subst (λ (q : Player). is_playing q.mode ≡ true → q.x < q.y → q.x + ms ≤ q.y) (sym now.same) ahead;
+      };
       jobs = IfSome_then b.download (take_ready c is n from p b now) (λ r can. (can.credit, can.left));
     }

@@ -1,16 +1,15 @@
 -- Milliseconds in which nothing begins, one after another and at once.
-use Rattle.std.proofs.Common.{◌≡◌, ◌∙◌, ℕ, ◌+◌, ◌-◌, ◌*◌, ◌%◌, ◌<◌, ◌≤◌, ◌&&◌, ◌⊎◌, ⊎_elim, Bool, true, false, cond, eqb, ltb, not, ◌++◌, ◌∷◌, [], List, Option, Some, None, IfSome, option_map, refl, sym, ap, subst, lt-ltb, le-ltb, arith}
-use Rattle.std.proofs.lemmas.Bool.{cases_lt, cond_both, cond-true, cond-false, false≢true, true≢false, ne_eqb}
-use Rattle.lab_model.specs.declared.context.Played.{Played}
+use Rattle.std.proofs.Common.{◌≡◌, ◌∙◌, ℕ, ◌+◌, ◌-◌, ◌%◌, ◌<◌, ◌≤◌, ◌&&◌, ⊎_elim, Bool, true, false, cond, eqb, ltb, not, ◌++◌, ◌∷◌, [], Option, Some, None, IfSome, option_map, refl, sym, ap, lt-ltb, le-ltb, arith}
+use Rattle.std.proofs.lemmas.Bool.{cases_lt, cond_both, cond-true, cond-false, true≢false, ne_eqb}
 use Rattle.network_clock.specs.Network.{done_at, first_at, job_after, start_job}
 use Rattle.network_clock.proofs.Laws.{job_apart, job_more, job_start}
 use Rattle.player_core.specs.declared.session.Event.TheVariants as event
 use Rattle.player_core.specs.State.{Case, Download, Mode, Player, starting, playing, seeking, ended}
-use Rattle.player_core.specs.Parts.{begins, is_ended, is_playing, pass_ms, passes_in, plays, stalls_on, takes}
+use Rattle.player_core.specs.Parts.{begins, is_ended, is_playing, pass_ms, passes_in, plays, stalls_on, takes, takes_any}
 use Rattle.player_core.specs.Sound.{IsCase, Runs, asked_size}
 use Rattle.player_core.specs.Quiet.{glides, glides_in, taken_ms}
 use Rattle.player_core.proofs.Runs.{first_next, runs_done}
-use Rattle.player_core.proofs.Soundness.{taken, ticked}
+use Rattle.player_core.proofs.Soundness.{ticked}
 
 -- ---- a download
 
@@ -103,7 +102,7 @@ module _ (c : Case) (is : IsCase c) where
 
   -- and one more
   next_in : (p : Player) (m : ℕ) (mode : Mode) → is_ended mode ≡ false → IsSmooth c p mode m → IfSome p.download (Runs c p.t) → IfSome p.download (λ d. p.t + m < done_at c.periods d.asked (asked_size c d))
-      → ticked (passes_in c (taken c (glides_in c m p mode)) mode) ≡ glides_in c (m + 1) p mode
+      → ticked (passes_in c (takes_any c (glides_in c m p mode)) mode) ≡ glides_in c (m + 1) p mode
   next_in p m starting goes smooth runs early =
       moved_same p ((p.t + m) + 1) (p.t + (m + 1)) p.x p.x _ _ ((p.startup_ms + m) + 1) (p.startup_ms + (m + 1)) p.stall_ms p.stall_ms p.seek_ms p.seek_ms false p.stalling
       (omega arith) refl (any_taken_next c is p.t m p.download runs early) (omega arith) refl refl (sym (smooth.still refl))
@@ -112,7 +111,7 @@ module _ (c : Case) (is : IsCase c) where
       (omega arith) refl (any_taken_next c is p.t m p.download runs early) refl refl (omega arith) (sym (smooth.still refl))
   next_in p m ended goes smooth runs early = absurd (true≢false goes)
   next_in p m playing goes smooth runs early =
-      let q = taken c (glides_in c m p playing) in
+      let q = takes_any c (glides_in c m p playing) in
       let download = any_taken_next c is p.t m p.download runs early in
       ⊎_elim
       (λ (low : p.x < p.y).

@@ -18,7 +18,9 @@ use Rattle.player_core.specs.declared.session.Event.{Event}
 use Rattle.player_core.specs.declared.session.Event.TheVariants as event
 use Rattle.player_core.specs.Available.{available_at}
 use Rattle.player_core.specs.State.{Case, Download, Mode, Player, starting, playing, seeking, ended}
-use Rattle.player_core.specs.Parts.{abandon, arrival, arrives, asks, begins, can_ask, context_of, finish, gives_up, gives_up_any, got_of, is_ended, is_playing, loads, pass_ms, passes_in, plays, progress_of, request, rung_for, seek, seek_at, seeks_to, stalls_on, takes, wasted_by}
+-- by this name the crates above cite it
+pub use Rattle.player_core.specs.Parts.{takes_any as taken}
+use Rattle.player_core.specs.Parts.{abandon, arrival, arrives, asks, begins, can_ask, context_of, finish, gives_up, gives_up_any, got_of, is_ended, is_playing, loads, pass_ms, passes_in, plays, progress_of, request, rung_for, seek, seek_at, seeks_to, stalls_on, takes, wasted_by, takes_any}
 use Rattle.player_core.specs.Sound.{IsCase, IsOf, Runs, Sound, begun_before, is_waiting, seeks_left, spare_stall, turns_here, turns_left}
 use Rattle.player_core.proofs.Counts.{begun_grows, begun_most, begun_one, begun_waits, playing_still, playing_waits, seek_fits, seeks_fewer, seeks_one, spare_at_end, spare_calm, spare_inside, spare_most, spare_waiting, turns_next, turns_now}
 use Rattle.player_core.proofs.Runs.{runs_next, runs_pace, runs_start, asked_within, size_within, starts_full}
@@ -541,37 +543,33 @@ module _ (c : Case) (is : IsCase c) (from : ℕ) (p : Player) (h : Sound c from 
       later_keeps p.x p.startup_ms (p.stall_ms + 1) p.seek_ms (p.stalls + 1) true p.loaded p.played (p.events ++ event.Stall p.t ∷ [])
       (record { position = h.position; idle = h.idle; loaded = h.loaded; room = h.room; played = h.played; times = omega (arith, times); begun = h.begun; stalls = omega (arith, spare, none) })
 
--- the player with its download a millisecond further, before the mode's part
-abbrev pub taken : Case → Player → Player
-taken c p = record p { download = option_map (takes c p.t) p.download }
-
 -- the instant that follows
 abbrev pub ticked : Player → Player
 ticked r = record r { t = r.t + 1 }
 
 module _ (c : Case) (is : IsCase c) (from : ℕ) (p : Player) (h : Sound c from p) (some : IsOpen p) where
   begins_sound : (qs : List Played) → p.loaded ≡ qs → p.mode ≡ playing → p.x < p.y → p.x % c.film.seg_ms ≡ 0
-      → Sound c from (ticked (record (begins (taken c p) qs) { x = (begins (taken c p) qs).x + 1; stalling = false }))
+      → Sound c from (ticked (record (begins (takes_any c p) qs) { x = (begins (takes_any c p) qs).x + 1; stalling = false }))
   begins_sound [] e on low start = within_keeps c is from p h some on low
   begins_sound (q ∷ qs) e on low start = first_keeps c is from p h some q qs e on low start
 
-  plays_sound : p.mode ≡ playing → p.x < p.y → Sound c from (ticked (plays c (taken c p)))
+  plays_sound : p.mode ≡ playing → p.x < p.y → Sound c from (ticked (plays c (takes_any c p)))
   plays_sound on low =
-      cond_both (eqb (p.x % c.film.seg_ms) 0) (begins (taken c p) p.loaded) (taken c p) (λ r. Sound c from (ticked (record r { x = r.x + 1; stalling = false })))
+      cond_both (eqb (p.x % c.film.seg_ms) 0) (begins (takes_any c p) p.loaded) (takes_any c p) (λ r. Sound c from (ticked (record r { x = r.x + 1; stalling = false })))
       (λ e. begins_sound p.loaded refl on low (eqb-true (p.x % c.film.seg_ms) 0 e)) (λ e. within_keeps c is from p h some on low)
 
-  stalls_sound : p.mode ≡ playing → p.y ≤ p.x → Sound c from (ticked (stalls_on (taken c p)))
+  stalls_sound : p.mode ≡ playing → p.y ≤ p.x → Sound c from (ticked (stalls_on (takes_any c p)))
   stalls_sound on late =
-      cond_both p.stalling (record (taken c p) { stall_ms = p.stall_ms + 1 })
-      (record (taken c p) { stall_ms = p.stall_ms + 1; stalls = p.stalls + 1; stalling = true; events = p.events ++ event.Stall p.t ∷ [] }) (λ r. Sound c from (ticked r))
+      cond_both p.stalling (record (takes_any c p) { stall_ms = p.stall_ms + 1 })
+      (record (takes_any c p) { stall_ms = p.stall_ms + 1; stalls = p.stalls + 1; stalling = true; events = p.events ++ event.Stall p.t ∷ [] }) (λ r. Sound c from (ticked r))
       (λ e. goes_keeps c is from p h some e on) (λ e. new_keeps c is from p h some e on late)
 
-  passes_sound : (m : Mode) → p.mode ≡ m → is_ended m ≡ false → Sound c from (ticked (passes_in c (taken c p) m))
+  passes_sound : (m : Mode) → p.mode ≡ m → is_ended m ≡ false → Sound c from (ticked (passes_in c (takes_any c p) m))
   passes_sound starting e go = let times = h.times in same_keeps c is from p h some (p.startup_ms + 1) p.stall_ms p.seek_ms (ap is_waiting e) (omega (arith, times))
   passes_sound seeking e go = let times = h.times in same_keeps c is from p h some p.startup_ms p.stall_ms (p.seek_ms + 1) (ap is_waiting e) (omega (arith, times))
   passes_sound ended e go = absurd (true≢false go)
   passes_sound playing e go =
-      cond_both (ltb p.x p.y) (plays c (taken c p)) (stalls_on (taken c p)) (λ r. Sound c from (ticked r))
+      cond_both (ltb p.x p.y) (plays c (takes_any c p)) (stalls_on (takes_any c p)) (λ r. Sound c from (ticked r))
       (λ low. plays_sound e (ltb-true p.x p.y low)) (λ late. stalls_sound e (ltb-false p.x p.y late))
 
   -- a sound player is sound after a millisecond

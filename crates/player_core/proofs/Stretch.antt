@@ -1,23 +1,21 @@
 -- Quiet stretches: where nothing happens for so many milliseconds, the player at their end is what they make of it at once.
-use Rattle.std.proofs.Common.{◌≡◌, ◌∙◌, ℕ, zero, suc, ◌+◌, ◌-◌, ◌*◌, ◌/◌, ◌%◌, ◌<◌, ◌≤◌, ◌&&◌, ◌⊎◌, inl, inr, ⊎_elim, Bool, true, false, cond, eqb, leb, ltb, not, ◌++◌, ◌∷◌, [], List, Option, Some, None, IfSome, is_some, option_map, refl, sym, ap, subst, lt-ltb, le-ltb, mul-le-mul_right, add-one, below_more, arith}
-use Rattle.std.proofs.lemmas.Bool.{and_from, and_left, and_right, cases_Bool, cases_eq, cases_lt, cond_both, cond-true, cond-false, false≢true, true≢false, false_from_ne_true, ne_eqb, eqb-true, and_parts}
+use Rattle.std.proofs.Common.{◌≡◌, ◌∙◌, ℕ, zero, suc, ◌+◌, ◌-◌, ◌*◌, ◌/◌, ◌%◌, ◌<◌, ◌≤◌, ◌&&◌, ◌⊎◌, inl, inr, ⊎_elim, true, false, eqb, leb, ltb, ◌++◌, ◌∷◌, [], Option, Some, None, IfSome, is_some, option_map, refl, sym, ap, subst, lt-ltb, le-ltb, mul-le-mul_right, add-one, below_more, arith}
+use Rattle.std.proofs.lemmas.Bool.{and_from, and_left, and_right, cases_Bool, cases_lt, cond_both, cond-true, cond-false, false≢true, true≢false, false_from_ne_true, ne_eqb, and_parts}
 use Rattle.std.proofs.lemmas.Option.{cond_some}
-use Rattle.std.proofs.lemmas.Nat.{div-add-mod', mod_below}
-use Rattle.lab_model.specs.declared.context.Seek.{Seek}
-use Rattle.lab_model.specs.declared.context.Played.{Played}
+use Rattle.std.proofs.lemmas.Nat.{div-add-mod'}
 use Rattle.lab_model.specs.Film.{segments_of}
 use Rattle.network_clock.specs.Network.{done_at}
 use Rattle.abandonment.specs.Test.{abandonment, is_better, is_due, is_late, target_of}
 use Rattle.player_core.specs.declared.session.Event.TheVariants as event
 use Rattle.player_core.specs.Available.{available_at}
 use Rattle.player_core.specs.State.{Case, Download, Mode, Player, starting, playing, seeking, ended}
-use Rattle.player_core.specs.Parts.{abandon, arrival, arrives, asks, begins, can_ask, finish, gives_up, gives_up_any, goes_on, instant, is_ended, is_playing, loads, pass_ms, passes_in, plays, progress_of, request, rung_for, seek, seek_at, seeks_to, stalls_on, takes}
+use Rattle.player_core.specs.Parts.{abandon, arrives, asks, can_ask, finish, gives_up, gives_up_any, goes_on, instant, is_ended, is_playing, loads, pass_ms, passes_in, plays, progress_of, request, rung_for, seek, seek_at, seeks_to, stalls_on, takes, takes_any}
 use Rattle.player_core.specs.Session.{ends_at, player_after}
 use Rattle.player_core.specs.Sound.{IsCase, Runs, Sound, asked_size}
-use Rattle.player_core.specs.Quiet.{IsQuiet, glides, glides_in, is_due_ms, taken_ms}
-use Rattle.player_core.proofs.Soundness.{IsOpen, abandonment_lower, can_ask_true, taken}
-use Rattle.player_core.proofs.Players.{instant_sound, instant_t, pass_t, passed_sound, player_next, player_sound}
-use Rattle.player_core.proofs.Waits.{IsInside, IsStill, Passed, instant_still, passes_passed, plays_x}
+use Rattle.player_core.specs.Quiet.{IsQuiet, glides, is_due_ms, taken_ms}
+use Rattle.player_core.proofs.Soundness.{abandonment_lower, can_ask_true}
+use Rattle.player_core.proofs.Players.{instant_sound, pass_t, passed_sound, player_next, player_sound}
+use Rattle.player_core.proofs.Waits.{IsInside, IsStill, instant_still, passes_passed, plays_x}
 use Rattle.player_core.proofs.Glides.{IsSmooth, glides_next, glides_none, runs_open}
 
 -- ---- an instant at which nothing happens
@@ -125,16 +123,16 @@ module _ (c : Case) where
   -- a player is the next one when a millisecond has passed
   pub pass_next : (q : Player) → is_ended q.mode ≡ false → IsNext c q (pass_ms c q)
   pass_next q goes =
-      let passed = passes_passed c (taken c q) q.mode in
+      let passed = passes_passed c (takes_any c q) q.mode in
       record {
         t = pass_t c q;
         k = passed.k;
         y = passed.y;
         mode = passed.mode;
         download = passed.download;
-        goes = λ on low. (plays_x c (taken c q) q.mode (is_play q.mode on) low, goes_calm (taken c q) q.mode on low);
-        stalls = stalls_stand (taken c q) q.mode;
-        still = still_stands (taken c q) q.mode goes;
+        goes = λ on low. (plays_x c (takes_any c q) q.mode (is_play q.mode on) low, goes_calm (takes_any c q) q.mode on low);
+        stalls = stalls_stand (takes_any c q) q.mode;
+        still = still_stands (takes_any c q) q.mode goes;
       }
 
 -- ---- within a segment

@@ -21,9 +21,9 @@ first_is None spent same t h = rw (h refl) refl
 first_is (Some x) spent same t h = refl
 
 -- what the network makes of a download whose first instant is known
-pub takes_is : (c : Case) (ps : List Period) (t : ℕ) (d : Download) (begins : ℕ) (j : Job) (first : Option ℕ) → c.periods ≡ ps
-    → (d.first ≡ None → is_spent ps t d.job ≡ (t == begins)) → j ≡ job_after ps t ((t + 1) - t) d.job
+pub takes_is : (c : Case) (t : ℕ) (d : Download) (begins : ℕ) (j : Job) (first : Option ℕ)
+    → (d.first ≡ None → is_spent c.periods t d.job ≡ (t == begins)) → j ≡ job_after c.periods t ((t + 1) - t) d.job
     → first ≡ (if is_some d.first then d.first else (if t == begins then Some t else None)) → record d { job = j; first = first } ≡ takes c t d
-takes_is c ps t d begins j first e h u v =
-    rw e (ap (λ (x : Job). record d { job = x; first = first }) (u ∙ job_one ps t d.job)
-    ∙ ap (λ (x : Option ℕ). record d { job = network_ms ps t d.job; first = x }) (v ∙ first_is d.first (is_spent ps t d.job) (t == begins) t h))
+takes_is c t d begins j first h u v =
+    ap (λ (x : Job). record d { job = x; first = first }) (u ∙ job_one c.periods t d.job)
+    ∙ ap (λ (x : Option ℕ). record d { job = network_ms c.periods t d.job; first = x }) (v ∙ first_is d.first (is_spent c.periods t d.job) (t == begins) t h)

@@ -5,13 +5,14 @@ use Rattle.lab_model.specs.declared.context.Seek.{Seek}
 use Rattle.lab_model.specs.declared.context.Played.{Played}
 use Rattle.lab_model.specs.Film.{segments_of}
 use Rattle.abandonment.specs.Test.{abandonment}
+use Rattle.player_core.specs.Limits.{latest_ms}
 use Rattle.player_core.specs.declared.body.Body.{Body}
 use Rattle.player_core.specs.declared.session.Event.TheVariants as event
 use Rattle.player_core.specs.declared.running.Running.{Running}
 use Rattle.player_core.specs.Seen.{IsTimed, download_of, seen}
 use Rattle.player_core.specs.State.{Case, Download, Mode, Player, first_player, starting, playing, seeking, ended}
 use Rattle.player_core.specs.Parts.{abandon, asks, begins, can_ask, finish, gives_up, gives_up_any, instant, is_ended, is_playing, pass_ms, passes_in, plays, progress_of, request, rung_for, seek, seek_at, seeks_to, stalls_on, takes}
-use Rattle.player_core.specs.Session.{end_of, ends_at, last_player, latest_ms, player_after}
+use Rattle.player_core.specs.Session.{end_of, ends_at, last_player, player_after}
 use Rattle.player_core.specs.Sound.{IsCase}
 use Rattle.player_core.proofs.Ends.{end_is}
 use Rattle.player_core.proofs.Players.{gone_on, player_next, stopped}

@@ -6,10 +6,11 @@ use Rattle.lab_model.specs.declared.context.Played.{Played}
 use Rattle.lab_model.specs.Film.{segments_of}
 use Rattle.network_clock.specs.Network.{done_at}
 use Rattle.abandonment.specs.Test.{abandonment}
+use Rattle.player_core.specs.Limits.{longest_film}
 use Rattle.player_core.specs.declared.session.Event.TheVariants as event
 use Rattle.player_core.specs.Available.{available_at}
 use Rattle.player_core.specs.State.{Case, Download, Mode, Player, ended, playing, seeking, starting}
-use Rattle.player_core.specs.Parts.{abandon, arrival, asks, begins, can_ask, finish, gives_up, gives_up_any, instant, is_ended, is_playing, pass_ms, passes_in, plays, progress_of, request, rung_for, seek, seek_at, seeks_to, stalls_on, takes}
+use Rattle.player_core.specs.Parts.{abandon, arrival, asks, begins, can_ask, finish, gives_up, gives_up_any, instant, is_ended, is_playing, pass_ms, passes_in, plays, progress_of, request, rung_for, seek, seek_at, seeks_to, stalls_on, takes, takes_any}
 use Rattle.player_core.specs.Sound.{IsCase, Runs, Sound, asked_size, is_waiting, seeks_left, turns_here, turns_left}
 use Rattle.player_core.proofs.Runs.{done_soon, runs_on}
 use Rattle.player_core.proofs.Soundness.{IsOpen, taken_turns}
@@ -26,7 +27,7 @@ waits_ms c p = waits_for c p p.download
 -- ---- there are not many
 
 module _ (c : Case) (is : IsCase c) (from : ℕ) (p : Player) (h : Sound c from p) where
-  end_most : (k : ℕ) → k ≤ segments_of c.film → k * c.film.seg_ms ≤ 120000000
+  end_most : (k : ℕ) → k ≤ segments_of c.film → k * c.film.seg_ms ≤ longest_film
   end_most k low =
       let most = mul-le-mul low is.film.seg_ms.1 in
       let count = is.film.segments.1 in
@@ -159,34 +160,30 @@ asks_true c p none low room there =
     let two = and_from (not (is_some p.download) && ltb p.k (segments_of c.film)) fits one (le-leb (p.y - p.x + c.film.seg_ms) c.setup.buffer_ms room) in
     and_from ((not (is_some p.download) && ltb p.k (segments_of c.film)) && fits) here two (le-leb (available_at c.film c.ahead p.k) p.t there)
 
--- the player with its download a millisecond further, before the mode's part
-abbrev further : Case → Player → Player
-further c p = record p { download = option_map (takes c p.t) p.download }
-
 -- what is left to wait without a download, after the millisecond
 abbrev rest_ms : Case → Player → ℕ
-rest_ms c p = (p.y - (passes_in c (further c p) p.mode).x) + cond (ltb p.k (segments_of c.film)) (available_at c.film c.ahead p.k - (p.t + 1)) 0
+rest_ms c p = (p.y - (passes_in c (takes_any c p) p.mode).x) + cond (ltb p.k (segments_of c.film)) (available_at c.film c.ahead p.k - (p.t + 1)) 0
 
 module _ (c : Case) (is : IsCase c) (from : ℕ) (p : Player) (h : Sound c from p) where
-  pass_passed : Passed c (further c p) (passes_in c (further c p) p.mode)
-  pass_passed = passes_passed c (further c p) p.mode
+  pass_passed : Passed c (takes_any c p) (passes_in c (takes_any c p) p.mode)
+  pass_passed = passes_passed c (takes_any c p) p.mode
 
   -- a millisecond takes no turn
   pub pass_turns : (to : ℕ) → turns_left c to (pass_ms c p) ≡ turns_left c to p
   pass_turns to =
       let n = segments_of c.film in
       let passed = pass_passed in
-      let q = passes_in c (further c p) p.mode in
+      let q = passes_in c (takes_any c p) p.mode in
       let left = λ (k : ℕ) (o : Option Download) (f : Option ℕ). cond (ltb k n) (32 * (n - k - 1) + turns_here o f) 0 in
       ap (λ k. seeks_left c.seeks to * (34 * n + 2) + left k q.download q.forced) passed.k
       ∙ ap (λ o. seeks_left c.seeks to * (34 * n + 2) + left p.k o q.forced) passed.download
       ∙ ap (λ f. seeks_left c.seeks to * (34 * n + 2) + left p.k (option_map (takes c p.t) p.download) f) passed.forced
       ∙ ap (λ t. seeks_left c.seeks to * (34 * n + 2) + cond (ltb p.k n) (32 * (n - p.k - 1) + t) 0) (taken_turns c p.t p.download p.forced)
 
-  goes_x : p.x < p.y → is_ended p.mode ≡ false → (passes_in c (further c p) p.mode).x ≡ p.x + 1
+  goes_x : p.x < p.y → is_ended p.mode ≡ false → (passes_in c (takes_any c p) p.mode).x ≡ p.x + 1
   goes_x low go =
       let still = false_from_ne_true (is_waiting p.mode) (λ waits. let e = h.idle waits in absurd (omega (arith, e, low))) in
-      plays_x c (further c p) p.mode (moves_on p.mode go still) low
+      plays_x c (takes_any c p) p.mode (moves_on p.mode go still) low
 
   rest_next : p.download ≡ None → IsStill c p → is_ended p.mode ≡ false → p.k < segments_of c.film → rest_ms c p + 1 ≤ waits_for c p None
   rest_next none still go low =
@@ -220,7 +217,7 @@ module _ (c : Case) (is : IsCase c) (from : ℕ) (p : Player) (h : Sound c from 
       let passed = pass_passed in
       let n = segments_of c.film in
       let y = passed.y in
-      let q = passes_in c (further c p) p.mode in
+      let q = passes_in c (takes_any c p) p.mode in
       let k = ap (λ k. cond (ltb k n) (available_at c.film c.ahead k - (q.t + 1)) 0) passed.k in
       let t = ap (λ t. cond (ltb p.k n) (available_at c.film c.ahead p.k - t) 0) (pass_t c p) in
       omega (arith, y, k, t)

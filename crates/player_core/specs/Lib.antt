@@ -1,8 +1,10 @@
+pub mod Limits
 pub mod Available
 pub mod State
 pub mod Parts
 pub mod Session
 pub mod Value
+pub mod Course
 pub mod Sound
 pub mod Seen
 pub mod Ready

@@ -180,6 +180,10 @@ takes c t d = record d {
   first = if is_some d.first then d.first else (if is_spent c.periods t d.job then Some t else None);
 }
 
+-- a download, if there is one, takes its network millisecond
+abbrev pub takes_any : Case → Player → Player
+takes_any c p = record p { download = option_map (takes c p.t) p.download }
+
 -- the segment at whose beginning the position stands begins to play
 abbrev pub begins : Player → List Played → Player
 begins p [] = p
@@ -204,7 +208,7 @@ passes_in c p ended = p
 
 -- the millisecond passes
 abbrev pub pass_ms : Case → Player → Player
-pass_ms c p = let q = record p { download = option_map (takes c p.t) p.download } in let r = passes_in c q p.mode in record r { t = r.t + 1 }
+pass_ms c p = let r = passes_in c (takes_any c p) p.mode in record r { t = r.t + 1 }
 
 -- the player millisecond: the parts, and then, unless the session has ended, the millisecond passes
 abbrev pub player_ms : Case → Player → Player

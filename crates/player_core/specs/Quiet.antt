@@ -1,8 +1,9 @@
 -- Not part of the model: what the proofs keep.
 -- Quiet stretches: milliseconds in which nothing begins and nothing happens, and what so many of them make of the player at once.
-use Rattle.std.specs.Prelude.{◌≡◌, ℕ, ◌+◌, ◌-◌, ◌*◌, ◌%◌, ◌≤◌, ◌<◌, ◌==◌, ◌&&◌, ◌⊎◌, Bool, true, false, not, nat_le, nat_lt, Option, Some, None, IfSome, option_map, if◌then◌else◌}
+use Rattle.std.specs.Prelude.{◌≡◌, ℕ, ◌+◌, ◌-◌, ◌%◌, ◌≤◌, ◌<◌, ◌==◌, ◌&&◌, ◌⊎◌, Bool, true, false, not, nat_le, nat_lt, Some, None, IfSome, option_map, if◌then◌else◌}
 use Rattle.lab_model.specs.Film.{segments_of}
 use Rattle.network_clock.specs.Network.{done_at, first_at, job_after}
+use Rattle.player_core.specs.Limits.{judged_each, judged_from}
 use Rattle.player_core.specs.Available.{available_at}
 use Rattle.player_core.specs.State.{Case, Download, Mode, Player, starting, playing, seeking, ended}
 use Rattle.player_core.specs.Parts.{is_playing, seek_at}
@@ -24,7 +25,7 @@ is_seeking ended = false
 
 -- so many milliseconds after its request a download may be looked at for abandonment
 abbrev pub is_due_ms : ℕ → Bool
-is_due_ms elapsed = elapsed % 100 == 0 && nat_le 500 elapsed
+is_due_ms elapsed = elapsed % judged_each == 0 && nat_le judged_from elapsed
 
 -- a download takes so many network milliseconds at once
 abbrev pub taken_ms : Case → ℕ → ℕ → Download → Download
@@ -33,16 +34,22 @@ taken_ms c t ms d = record d {
   first = if nat_lt (first_at c.periods d.asked (asked_size c d)) (t + ms) then Some (first_at c.periods d.asked (asked_size c d)) else None;
 }
 
+-- a download, if there is one, takes so many network milliseconds at once
+abbrev pub takes_all : Case → ℕ → Player → Player
+takes_all c ms p = record p { download = option_map (taken_ms c p.t ms) p.download }
+
 -- so many milliseconds of a mode pass at once: they move the position, or they add to one of the three times
-abbrev pub glides_in : Case → ℕ → Player → Mode → Player
-glides_in c ms p mode = record p {
-  t = p.t + ms;
+abbrev pub moves_in : ℕ → Player → Mode → Player
+moves_in ms p mode = record p {
   x = if is_playing mode && nat_lt p.x p.y then p.x + ms else p.x;
-  download = option_map (taken_ms c p.t ms) p.download;
   startup_ms = if is_starting mode then p.startup_ms + ms else p.startup_ms;
   stall_ms = if is_playing mode && not (nat_lt p.x p.y) then p.stall_ms + ms else p.stall_ms;
   seek_ms = if is_seeking mode then p.seek_ms + ms else p.seek_ms;
 }
+
+-- so many milliseconds of a mode pass at once, and those of a download
+abbrev pub glides_in : Case → ℕ → Player → Mode → Player
+glides_in c ms p mode = let q = moves_in ms (takes_all c ms p) mode in record q { t = q.t + ms }
 
 -- so many milliseconds pass at once, in which nothing begins
 abbrev pub glides : Case → ℕ → Player → Player

@@ -1,21 +1,24 @@
 -- Not part of the model: what the proofs keep.
 -- What the values of the player's code stand for.
-use Rattle.std.specs.Prelude.{◌≡◌, ℕ, ◌+◌, ◌-◌, ◌*◌, ◌<◌, ◌≤◌, ◌==◌, ◌⊎◌, List, [], true, false, Option, None, IfSome, option_map}
+use Rattle.std.specs.Prelude.{◌≡◌, ℕ, ◌+◌, ◌-◌, ◌<◌, ◌≤◌, ◌==◌, ◌⊎◌, List, [], true, false, Option, None, IfSome, option_map}
 use Rattle.lab_model.specs.declared.trace.Period.{Period}
 use Rattle.lab_model.specs.declared.setup.Setup.{Setup}
-use Rattle.lab_model.specs.declared.context.Seek.{Seek}
 use Rattle.lab_model.specs.Rules.{RuleKind}
-use Rattle.lab_model.specs.Film.{Film, segments_of, size_of}
+use Rattle.lab_model.specs.Film.{Film, rungs_of, segments_of, size_of}
 use Rattle.network_clock.specs.Network.{done_at, first_at, is_spent}
+use Rattle.player_core.specs.declared.course.Course.{Course}
 use Rattle.player_core.specs.declared.running.Running.{Running}
 use Rattle.player_core.specs.declared.body.Body.{Body}
 use Rattle.player_core.specs.declared.mode.Mode.{Mode as BodyMode}
 use Rattle.player_core.specs.declared.mode.Mode.TheVariants as mode
-use Rattle.player_core.specs.State.{Case, Download, Mode, Player, case_of, starting, playing, seeking, ended}
+use Rattle.player_core.specs.Limits.{latest_answer, latest_ms, longest_download, longest_film, most_left, whole_credit}
+use Rattle.player_core.specs.Course.{case_on}
+use Rattle.player_core.specs.State.{Case, Download, Mode, Player, starting, playing, seeking, ended}
 use Rattle.player_core.specs.Available.{available_at}
 use Rattle.player_core.specs.Parts.{gone_on, instant, is_ended, is_playing}
 use Rattle.player_core.specs.Session.{ends_at, player_after}
 use Rattle.player_core.specs.Sound.{IsCase}
+use Rattle.player_core.specs.Ready.{CanLoad}
 
 -- the download that a running one stands for
 abbrev pub download_of : Running → Download
@@ -72,10 +75,35 @@ SameRequest old new = (new.begins ≡ old.begins) × (new.done ≡ old.done) × 
 abbrev pub SameDownload : Body → Body → Type 0
 SameDownload old new = (new.t ≡ old.t) × (new.download ≡ old.download)
 
+-- the running download of a body, if there is one, knows when its bits begin and when it is done
+abbrev pub KnowsEnd : Course → Body → Type 0
+KnowsEnd o b = IsTimed o.film.now o.clock.now b.download
+
+-- a running download is of a segment of the film and a rung of its ladder
+abbrev pub IsRunningOf : Film → Running → Type 0
+IsRunningOf f r = (r.segment < segments_of f) × (r.rung < rungs_of f)
+
+-- a download of which nothing is left can be loaded
+abbrev pub CanArrive : Film → Body → Type 0
+CanArrive f b = IfSome b.download (λ r. r.job.left ≡ 0 → CanLoad f (seen b []) (download_of r))
+
 -- the body went through this part of an instant, and a running download still knows its instants
 pub record Step (part : Player → Player) (old new : Body) : Type 0 where
   pub follows : Follows part old new
   pub timed : (f : Film) (ps : List Period) → IsTimed f ps old.download → IsTimed f ps new.download
+
+-- on a course, with a rule of any kind, the body went through this part of a millisecond
+abbrev pub FollowsOn : Course → (Case → Player → Player) → Body → Body → Type 0
+FollowsOn o part old new = (kind : RuleKind) → Follows (part (case_on o kind)) old new
+
+-- the same of a part of an instant, after which a running download still knows its instants
+abbrev pub Steps : Course → (Case → Player → Player) → Body → Body → Type 0
+Steps o part old new = (kind : RuleKind) → Step (part (case_on o kind)) old new
+
+-- the second rule is the first after a part of an instant: of the same kind, and told what joined the history
+pub record Hears {R : Type 0} (kind : R → RuleKind) (stands_for : R → List ℕ → Type 0) (o : Course) (part : Case → Player → Player) (b : Body) (old new : R) : Type 0 where
+  pub same : kind new ≡ kind old
+  pub told : (history : List ℕ) → stands_for old history → stands_for new (part (case_on o (kind old)) (seen b history)).history
 
 -- the body stands for this player, and a running download knows its instants
 pub record StandsFor (c : Case) (p : Player) (b : Body) : Type 0 where
@@ -93,10 +121,10 @@ pub record LeftAt (c : Case) (b : Body) : Type 0 where
   pub going : (k : ℕ) → k < b.t → ends_at c k ≡ false
 
 -- with some rule it does, and the session goes on
-pub record CanWait (f : Film) (periods : List Period) (set : Setup) (seeks : List Seek) (ahead : ℕ) (b : Body) : Type 0 where
+pub record CanWait (o : Course) (b : Body) : Type 0 where
   pub rule : RuleKind
-  pub case : IsCase (case_of f periods set seeks ahead rule)
-  pub left : LeftAt (case_of f periods set seeks ahead rule) b
+  pub case : IsCase (case_on o rule)
+  pub left : LeftAt (case_on o rule) b
   pub goes : is_ended (mode_of b.mode) ≡ false
 
 -- from one instant to a later one at which something may happen: the rule is told nothing on the way
@@ -105,24 +133,40 @@ pub record Waits (c : Case) (old new : Body) : Type 0 where
   pub stands : StandsAt c new
   pub told : (player_after c new.t).history ≡ (instant c (player_after c old.t)).history
 
+-- with a rule of any kind with which the case keeps the limits and the body stands for the player
+abbrev pub WaitsOn : Course → Body → Body → Type 0
+WaitsOn o old new = (kind : RuleKind) → IsCase (case_on o kind) → LeftAt (case_on o kind) old → Waits (case_on o kind) old new
+
 -- a running download can take its network millisecond
 pub record CanTake (periods : List Period) (t : ℕ) (r : Running) : Type 0 where
-  pub credit : r.job.credit ≤ 100000000
-  pub left : r.job.left ≤ 200000000000
+  pub credit : r.job.credit ≤ whole_credit
+  pub left : r.job.left ≤ most_left
   pub begins : r.first ≡ None → is_spent periods t r.job ≡ (t == r.begins)
+
+-- a body may not ask for its next segment: it does not fit the buffer, or it is not there
+abbrev pub MustWait : Film → Setup → ℕ → Body → Type 0
+MustWait f set ahead b = (set.buffer_ms < b.y - b.x + f.seg_ms) ⊎ (b.t < available_at f ahead b.k)
+
+-- nor after so many milliseconds less one
+abbrev pub MustWaitFor : Film → Setup → ℕ → Body → ℕ → Type 0
+MustWaitFor f set ahead b ms = (set.buffer_ms + ms ≤ b.y - b.x + f.seg_ms) ⊎ (b.t + ms ≤ available_at f ahead b.k)
 
 -- the milliseconds can be counted in which nothing happens to a body
 pub record CanRest (f : Film) (set : Setup) (ahead : ℕ) (b : Body) : Type 0 where
   pub position : b.x ≤ b.y
-  pub end : b.y ≤ 120000000
-  pub instant : b.t < 1000000000000000
-  pub runs : IfSome b.download (λ r. (r.asked ≤ b.t) × (b.t < r.done) × (r.done ≤ r.asked + 300010000))
-  pub waits : b.download ≡ None → b.k < segments_of f → (set.buffer_ms < b.y - b.x + f.seg_ms) ⊎ (b.t < available_at f ahead b.k)
+  pub end : b.y ≤ longest_film
+  pub instant : b.t < latest_ms
+  pub runs : IfSome b.download (λ r. (r.asked ≤ b.t) × (b.t < r.done) × (r.done ≤ r.asked + longest_download))
+  pub waits : b.download ≡ None → b.k < segments_of f → MustWait f set ahead b
 
--- so many milliseconds can pass at once
-pub record CanGlide (b : Body) (ms : ℕ) : Type 0 where
-  pub end : b.y ≤ 120000000
-  pub instant : b.t + ms ≤ 2000000000000000
+-- so many milliseconds of the mode can pass at once
+pub record CanMove (b : Body) (ms : ℕ) : Type 0 where
+  pub end : b.y ≤ longest_film
+  pub instant : b.t + ms ≤ latest_answer
   pub times : b.startup_ms + b.stall_ms + b.seek_ms ≤ b.t
   pub moves : is_playing (mode_of b.mode) ≡ true → b.x < b.y → b.x + ms ≤ b.y
-  pub jobs : IfSome b.download (λ r. (r.job.credit ≤ 100000000) × (r.job.left ≤ 200000000000))
+
+-- and those of a download
+pub record CanGlide (b : Body) (ms : ℕ) : Type 0 where
+  pub moves : CanMove b ms
+  pub jobs : IfSome b.download (λ r. (r.job.credit ≤ whole_credit) × (r.job.left ≤ most_left))

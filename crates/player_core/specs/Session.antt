@@ -4,6 +4,7 @@ use Rattle.lab_model.specs.declared.context.Played.{Played}
 use Rattle.network_clock.specs.Search.{least_below}
 use Rattle.player_core.specs.declared.session.Event.{Event}
 use Rattle.player_core.specs.declared.session.Session.{Session}
+use Rattle.player_core.specs.Limits.{latest_ms}
 use Rattle.player_core.specs.State.{Case, Player, first_player}
 use Rattle.player_core.specs.Parts.{instant, is_ended, player_ms}
 
@@ -15,10 +16,6 @@ player_after c (suc n) = player_ms c (player_after c n)
 -- whether the session ends at an instant
 abbrev pub ends_at : Case → ℕ → Bool
 ends_at c n = is_ended (instant c (player_after c n)).mode
-
--- an instant before which every session within the limits ends
-abbrev pub latest_ms : ℕ
-latest_ms = 1000000000000000
 
 -- the first instant at which the session has ended
 unfoldable pub end_of : Case → ℕ

@@ -10,6 +10,7 @@ use Rattle.lab_model.specs.Fit.{SetupFits}
 use Rattle.lab_model.specs.Rules.{KindFits}
 use Rattle.lab_model.specs.Seeks.{SeeksFit}
 use Rattle.network_clock.specs.Network.{done_at, first_at, job_after, start_job}
+use Rattle.player_core.specs.Limits.{longest_film, most_bits}
 use Rattle.player_core.specs.State.{Case, Download, Mode, Player, starting, playing, seeking, ended}
 
 -- the case keeps the limits
@@ -18,7 +19,7 @@ pub record IsCase (c : Case) : Type 0 where
   pub trace : IsTrace c.periods
   pub setup : SetupFits c.setup c.film
   pub seeks : SeeksFit c.seeks (segments_of c.film)
-  pub ahead : c.ahead ≤ 120000000
+  pub ahead : c.ahead ≤ longest_film
   pub rule : KindFits c.rule c.film
 
 -- the size of the segment that a download asked for
@@ -93,5 +94,5 @@ pub record Sound (c : Case) (from : ℕ) (p : Player) : Type 0 where
   pub played : All (IsOf c.film) p.played
   pub times : p.startup_ms + p.stall_ms + p.seek_ms ≤ p.t
   pub begun : length p.played + seeks_left c.seeks from * segments_of c.film ≤ 16 * segments_of c.film + begun_before c.film p.x
-  pub wasted : p.wasted + 200000000 * turns_left c from p ≤ 200000000 * all_turns c
+  pub wasted : p.wasted + most_bits * turns_left c from p ≤ most_bits * all_turns c
   pub stalls : p.stalls + turns_left c from p + spare_stall p ≤ all_turns c + 1

@@ -1,23 +1,27 @@
 //! The player's state, and what each part of a millisecond does to it.
 
 ghost use Rattle.std.specs.Prelude.{◌≡◌, ℕ, ◌+◌, ◌*◌, ◌<◌, ◌≤◌, List, [], IfOk, Option, option_map, ◌==◌, ◌-◌, None, true, if◌then◌else◌, length, ◌++◌, ◌∷◌, Some, IfSome};
-ghost use Rattle.lab_model.specs.Film.{Film, rungs_of, segments_of, size_of};
-ghost use Rattle.player_core.specs.State.{Case, first_player, case_of};
-ghost use Rattle.player_core.specs.Parts.{arrival, finish, sample_of, wasted_by, bit_ms_of, begun, loads, pass_ms, passes_in, plays, request, stalls_on, takes, asks, begins, can_ask, context_of, rung_for, seek, seek_at, abandon, gives_up, gone_on, instant, stopped};
-ghost use Rattle.player_core.specs.Sound.{IsCase, IsOf, Sound};
-ghost use Rattle.player_core.specs.Seen.{Follows, IsTimed, Step, download_of, seen, CanTake, GoesOn, LeftAt, StandsAt, SameDownload};
-ghost use Rattle.player_core.specs.Ready.{CanPass, CanRequest, CanChoose, CanJudge, CanLoad};
-ghost use Rattle.player_core.specs.Session.{shown, shown_by, player_after};
 ghost use Rattle.std.specs.List.{All, sum_by};
+ghost use Rattle.lab_model.specs.Film.{rungs_of, segments_of, size_of};
+ghost use Rattle.lab_model.specs.Rules.{RuleKind};
 ghost use Rattle.abandonment.specs.Test.{abandonment};
+ghost use Rattle.player_core.specs.Limits.{latest_ms, longest_film, most_bits, most_loaded, most_segments, most_sought, most_stalls, most_wasted};
+ghost use Rattle.player_core.specs.State.{Case, first_player};
+ghost use Rattle.player_core.specs.Course.{case_on};
+ghost use Rattle.player_core.specs.Parts.{abandon, arrival, asks, begins, begun, bit_ms_of, can_ask, context_of, finish, gives_up, gone_on, instant, loads, pass_ms, passes_in, plays, request, rung_for, sample_of, seek, seek_at, stalls_on, stopped, takes, takes_any, wasted_by};
+ghost use Rattle.player_core.specs.Session.{player_after, shown, shown_by};
+ghost use Rattle.player_core.specs.Sound.{IsCase, IsOf, Sound};
+ghost use Rattle.player_core.specs.Ready.{CanChoose, CanJudge, CanLoad, CanPass, CanRequest};
+ghost use Rattle.player_core.specs.Seen.{CanArrive, CanTake, Follows, FollowsOn, GoesOn, Hears, IsRunningOf, KnowsEnd, LeftAt, SameDownload, StandsAt, Step, Steps, download_of, seen};
 
+use crate::course::Course;
 use crate::mode::Mode;
 use crate::player::available;
 use crate::running::Running;
 use crate::script::seek_at;
 use crate::session::{Event, Session};
-use lab_model::{Context, Manifest, NoMemory, Played, Rule, Seek, Setup};
-use network_clock::{Clock, Job};
+use lab_model::{Context, Manifest, NoMemory, Played, Rule};
+use network_clock::Job;
 use std::alloc::Global;
 use std::collections::VecDeque;
 
@@ -70,111 +74,81 @@ impl Body {
     }
 
     /// The parts of an instant: arrival and end, and where the session goes on abandonment, seek and request.
-    pub fn instant<T: Rule>(
-        &mut self,
-        m: &Manifest,
-        clock: &Clock,
-        set: &Setup,
-        seeks: &[Seek],
-        ahead: u32,
-        rule: &mut T,
-    ) -> Result<(), NoMemory>
-        requires case { IsCase (case_of m.now clock.now set.now seeks.now ahead (T.kind rule.old)) }
-        requires stands { StandsAt
-            (case_of m.now clock.now set.now seeks.now ahead (T.kind rule.old)) self.old }
+    pub fn instant<T: Rule>(&mut self, course: &Course<'_>, rule: &mut T) -> Result<(), NoMemory>
+        requires case { IsCase (case_on course.now (T.kind rule.old)) }
+        requires stands { StandsAt (case_on course.now (T.kind rule.old)) self.old }
         requires told { T.stands_for rule.old
-            (player_after (case_of m.now clock.now set.now seeks.now ahead (T.kind rule.old))
-            self.old.t).history }
-        ensures kind { T.kind rule.new ≡ T.kind rule.old }
+            (player_after (case_on course.now (T.kind rule.old)) self.old.t).history }
         ensures instant { IfOk result (λ _. self.new.t ≡ self.old.t) }
-        ensures left { IfOk result (λ _. LeftAt
-            (case_of m.now clock.now set.now seeks.now ahead (T.kind rule.old)) self.new) }
-        ensures told { IfOk result (λ _. T.stands_for rule.new
-            (instant (case_of m.now clock.now set.now seeks.now ahead (T.kind rule.old))
-            (player_after (case_of m.now clock.now set.now seeks.now ahead (T.kind rule.old))
-            self.old.t)).history) }
+        ensures left { IfOk result (λ _.
+            LeftAt (case_on course.now (T.kind rule.old)) self.new) }
+        ensures told { IfOk result (λ _.
+            Hears T.kind T.stands_for course.now instant self.old rule.old rule.new) }
     {
-        self.stop(m, rule)?;
+        self.stop(course, rule)?;
         if self.mode.is_ended() {
             return Ok(());
         }
-        self.go_on(m, clock, set, seeks, ahead, rule)
+        self.go_on(course, rule)
     }
 
     /// What an instant begins with: the arrival, and then the end.
-    fn stop<T: Rule>(&mut self, m: &Manifest, rule: &mut T) -> Result<(), NoMemory>
-        requires ready { IfSome self.old.download (λ d. d.job.left ≡ 0
-            → CanLoad m.now (seen self.old []) (download_of d)) }
-        ensures kind { T.kind rule.new ≡ T.kind rule.old }
-        ensures stops { IfOk result (λ _. (c : Case) → c.film ≡ m.now
-            → Step (stopped c) self.old self.new) }
-        ensures told { IfOk result (λ _. (c : Case) → c.film ≡ m.now
-            → (history : List ℕ) → T.stands_for rule.old history
-            → T.stands_for rule.new (stopped c (seen self.old history)).history) }
+    fn stop<T: Rule>(&mut self, course: &Course<'_>, rule: &mut T) -> Result<(), NoMemory>
+        requires ready { CanArrive course.now.film.now self.old }
+        ensures stops { IfOk result (λ _. Steps course.now stopped self.old self.new) }
+        ensures told { IfOk result (λ _.
+            Hears T.kind T.stands_for course.now stopped self.old rule.old rule.new) }
     {
-        self.arrive(m, rule)?;
-        self.finish(m)
+        self.arrive(course, rule)?;
+        self.finish(course)
     }
 
     /// What an instant does where the session goes on: abandonment, seek and request.
-    fn go_on<T: Rule>(
-        &mut self,
-        m: &Manifest,
-        clock: &Clock,
-        set: &Setup,
-        seeks: &[Seek],
-        ahead: u32,
-        rule: &mut T,
-    ) -> Result<(), NoMemory>
-        requires case { IsCase (case_of m.now clock.now set.now seeks.now ahead (T.kind rule.old)) }
-        requires sound { Sound
-            (case_of m.now clock.now set.now seeks.now ahead (T.kind rule.old))
+    fn go_on<T: Rule>(&mut self, course: &Course<'_>, rule: &mut T) -> Result<(), NoMemory>
+        requires case { IsCase (case_on course.now (T.kind rule.old)) }
+        requires sound { Sound (case_on course.now (T.kind rule.old))
             self.old.t (seen self.old []) }
-        requires instant { self.old.t < 1000000000000000 }
-        requires timed { IsTimed m.now clock.now self.old.download }
-        ensures kind { T.kind rule.new ≡ T.kind rule.old }
+        requires instant { self.old.t < latest_ms }
+        requires timed { KnowsEnd course.now self.old }
         ensures goes { IfOk result (λ _. (history : List ℕ) → T.stands_for rule.old history
-            → GoesOn (case_of m.now clock.now set.now seeks.now ahead (T.kind rule.old))
-            history self.old self.new) }
-        ensures told { IfOk result (λ _. (history : List ℕ) → T.stands_for rule.old history
-            → T.stands_for rule.new
-            (gone_on (case_of m.now clock.now set.now seeks.now ahead (T.kind rule.old))
-            (seen self.old history)).history) }
-        ensures timed { IfOk result (λ _. IsTimed m.now clock.now self.new.download) }
+            → GoesOn (case_on course.now (T.kind rule.old)) history self.old self.new) }
+        ensures told { IfOk result (λ _.
+            Hears T.kind T.stands_for course.now gone_on self.old rule.old rule.new) }
+        ensures timed { IfOk result (λ _. KnowsEnd course.now self.new) }
     {
-        self.abandon(m, set, rule)?;
-        self.seek(m, seeks)?;
-        self.request(m, clock, set, ahead, rule)
+        self.abandon(course, rule)?;
+        self.seek(course)?;
+        self.request(course, rule)
     }
 
     /// 1. Arrival: a download of which nothing is left.
-    fn arrive<T: Rule>(&mut self, m: &Manifest, rule: &mut T) -> Result<(), NoMemory>
-        requires ready { IfSome self.old.download (λ d. d.job.left ≡ 0
-            → CanLoad m.now (seen self.old []) (download_of d)) }
-        ensures kind { T.kind rule.new ≡ T.kind rule.old }
-        ensures arrives { IfOk result (λ _. (c : Case) → c.film ≡ m.now
-            → Step (arrival c) self.old self.new) }
-        ensures told { IfOk result (λ _. (c : Case) → c.film ≡ m.now
-            → (history : List ℕ) → T.stands_for rule.old history
-            → T.stands_for rule.new (arrival c (seen self.old history)).history) }
+    fn arrive<T: Rule>(&mut self, course: &Course<'_>, rule: &mut T) -> Result<(), NoMemory>
+        requires ready { CanArrive course.now.film.now self.old }
+        ensures arrives { IfOk result (λ _. Steps course.now arrival self.old self.new) }
+        ensures told { IfOk result (λ _.
+            Hears T.kind T.stands_for course.now arrival self.old rule.old rule.new) }
     {
         match self.download {
-            Some(d) if d.job.left == 0 => self.load(m, &d, rule),
+            Some(d) if d.job.left == 0 => self.load(course, &d, rule),
             _ => Ok(()),
         }
     }
 
     /// The download has arrived: its segment is loaded, and the rule is told its sample.
-    fn load<T: Rule>(&mut self, m: &Manifest, d: &Running, rule: &mut T) -> Result<(), NoMemory>
-        requires ready { CanLoad m.now (seen self.old []) (download_of d.now) }
-        ensures kind { T.kind rule.new ≡ T.kind rule.old }
-        ensures loads { IfOk result (λ _. (c : Case) → c.film ≡ m.now
-            → Step (λ p. loads c p (download_of d.now)) self.old self.new) }
-        ensures told { IfOk result (λ _. (history : List ℕ) → T.stands_for rule.old history
-            → T.stands_for rule.new
-            (history ++ sample_of m.now self.old.t (download_of d.now) ∷ [])) }
+    fn load<T: Rule>(
+        &mut self,
+        course: &Course<'_>,
+        d: &Running,
+        rule: &mut T,
+    ) -> Result<(), NoMemory>
+        requires ready { CanLoad course.now.film.now (seen self.old []) (download_of d.now) }
+        ensures loads { IfOk result (λ _.
+            Steps course.now (λ c p. loads c p (download_of d.now)) self.old self.new) }
+        ensures told { IfOk result (λ _.
+            Hears T.kind T.stands_for course.now (λ c p. loads c p (download_of d.now))
+            self.old rule.old rule.new) }
     {
-        let sample = d.sample(m, self.t);
+        let sample = d.sample(course.film, self.t);
         self.events.push(Event::Arrive {
             at: self.t,
             segment: d.segment,
@@ -187,7 +161,7 @@ impl Body {
             rung: d.rung,
         })?;
         rule.observe(sample);
-        self.y += m.seg_ms();
+        self.y += course.film.seg_ms();
         self.k += 1;
         self.download = None;
         self.last = Some(d.rung);
@@ -196,11 +170,10 @@ impl Body {
     }
 
     /// 2. End: all is played.
-    fn finish(&mut self, m: &Manifest) -> Result<(), NoMemory>
-        ensures { IfOk result (λ _. (c : Case) → c.film ≡ m.now
-            → Step (finish c) self.old self.new) }
+    fn finish(&mut self, course: &Course<'_>) -> Result<(), NoMemory>
+        ensures { IfOk result (λ _. Steps course.now finish self.old self.new) }
     {
-        let all_ms = m.segments() as u32 * m.seg_ms();
+        let all_ms = course.film.segments() as u32 * course.film.seg_ms();
         if self.mode.is_playing() && self.x == all_ms {
             self.events.push(Event::End { at: self.t })?;
             self.mode = Mode::Ended;
@@ -209,24 +182,22 @@ impl Body {
     }
 
     /// 3. Abandonment: where the setup allows it, by the abandonment test.
-    fn abandon<T: Rule>(&mut self, m: &Manifest, set: &Setup, rule: &mut T) -> Result<(), NoMemory>
-        requires judge { IfSome self.old.download (λ d. CanJudge m.now self.old.t (download_of d)) }
-        requires wasted { self.old.wasted ≤ 1000000000000000 }
-        ensures kind { T.kind rule.new ≡ T.kind rule.old }
-        ensures abandons { IfOk result (λ _. (c : Case) → c.film ≡ m.now → c.setup ≡ set.now
-            → Step (abandon c) self.old self.new) }
-        ensures told { IfOk result (λ _. (c : Case) → c.film ≡ m.now → c.setup ≡ set.now
-            → (history : List ℕ) → T.stands_for rule.old history
-            → T.stands_for rule.new (abandon c (seen self.old history)).history) }
+    fn abandon<T: Rule>(&mut self, course: &Course<'_>, rule: &mut T) -> Result<(), NoMemory>
+        requires judge { IfSome self.old.download (λ d.
+            CanJudge course.now.film.now self.old.t (download_of d)) }
+        requires wasted { self.old.wasted ≤ most_wasted }
+        ensures abandons { IfOk result (λ _. Steps course.now abandon self.old self.new) }
+        ensures told { IfOk result (λ _.
+            Hears T.kind T.stands_for course.now abandon self.old rule.old rule.new) }
     {
-        if !set.abandon {
+        if !course.setup.abandon {
             return Ok(());
         }
         let Some(d) = self.download else {
             return Ok(());
         };
-        match d.rung_instead(m, self.t) {
-            Some(to) => self.give_up(m, &d, to, rule),
+        match d.rung_instead(course.film, self.t) {
+            Some(to) => self.give_up(course, &d, to, rule),
             None => Ok(()),
         }
     }
@@ -234,22 +205,23 @@ impl Body {
     /// A download is given up for a rung.
     fn give_up<T: Rule>(
         &mut self,
-        m: &Manifest,
+        course: &Course<'_>,
         d: &Running,
         to: u8,
         rule: &mut T,
     ) -> Result<(), NoMemory>
-        requires judge { CanJudge m.now self.old.t (download_of d.now) }
+        requires judge { CanJudge course.now.film.now self.old.t (download_of d.now) }
         requires first { 1 ≤ bit_ms_of self.old.t (download_of d.now) }
-        requires wasted { self.old.wasted ≤ 1000000000000000 }
-        ensures kind { T.kind rule.new ≡ T.kind rule.old }
-        ensures gives_up { IfOk result (λ _. (c : Case) → c.film ≡ m.now
-            → Step (λ p. gives_up c p (download_of d.now) (Some to)) self.old self.new) }
-        ensures told { IfOk result (λ _. (history : List ℕ) → T.stands_for rule.old history
-            → T.stands_for rule.new
-            (history ++ sample_of m.now self.old.t (download_of d.now) ∷ [])) }
+        requires wasted { self.old.wasted ≤ most_wasted }
+        ensures gives_up { IfOk result (λ _.
+            Steps course.now (λ c p. gives_up c p (download_of d.now) (Some to))
+            self.old self.new) }
+        ensures told { IfOk result (λ _.
+            Hears T.kind T.stands_for course.now
+            (λ c p. gives_up c p (download_of d.now) (Some to))
+            self.old rule.old rule.new) }
     {
-        let got = d.got(m);
+        let got = d.got(course.film);
         self.events.push(Event::Abandon {
             at: self.t,
             segment: d.segment,
@@ -257,7 +229,7 @@ impl Body {
             to,
             got,
         })?;
-        rule.observe(d.sample(m, self.t));
+        rule.observe(d.sample(course.film, self.t));
         self.download = None;
         self.forced = Some(to);
         self.wasted += got as u64;
@@ -265,26 +237,25 @@ impl Body {
     }
 
     /// 4. Seek.
-    fn seek(&mut self, m: &Manifest, seeks: &[Seek]) -> Result<(), NoMemory>
-        requires running { IfSome self.old.download (λ d. (d.segment < segments_of m.now)
-            × (d.rung < rungs_of m.now)) }
-        requires loaded { All (IsOf m.now) self.old.loaded.items }
-        requires room { length self.old.loaded.items ≤ 2000 }
-        requires wasted { self.old.wasted ≤ 1000000000000000 }
-        requires targets { All (λ s. s.to < segments_of m.now) seeks.now }
-        ensures { IfOk result (λ _. (c : Case) → c.film ≡ m.now → c.seeks ≡ seeks.now
-            → Step (seek c) self.old self.new) }
+    fn seek(&mut self, course: &Course<'_>) -> Result<(), NoMemory>
+        requires running { IfSome self.old.download (IsRunningOf course.now.film.now) }
+        requires loaded { All (IsOf course.now.film.now) self.old.loaded.items }
+        requires room { length self.old.loaded.items ≤ most_segments }
+        requires wasted { self.old.wasted ≤ most_wasted }
+        requires targets { All (λ s. s.to < segments_of course.now.film.now)
+            course.now.seeks.now }
+        ensures { IfOk result (λ _. Steps course.now seek self.old self.new) }
     {
-        let Some(s) = seek_at(seeks, self.t) else {
+        let Some(s) = seek_at(course.seeks, self.t) else {
             return Ok(());
         };
-        let wasted = self.wasted_by(m);
+        let wasted = self.wasted_by(course.film);
         self.events.push(Event::Seek {
             at: self.t,
             to: s.to,
             wasted,
         })?;
-        let position = s.to as u32 * m.seg_ms();
+        let position = s.to as u32 * course.film.seg_ms();
         self.x = position;
         self.y = position;
         self.k = s.to;
@@ -298,12 +269,11 @@ impl Body {
 
     /// The bits that a seek wastes now: those of a running download, and the loaded segments that haven't begun.
     fn wasted_by(&self, m: &Manifest) -> u64
-        requires running { IfSome self.now.download (λ d. (d.segment < segments_of m.now)
-            × (d.rung < rungs_of m.now)) }
+        requires running { IfSome self.now.download (IsRunningOf m.now) }
         requires loaded { All (IsOf m.now) self.now.loaded.items }
-        requires room { length self.now.loaded.items ≤ 2000 }
+        requires room { length self.now.loaded.items ≤ most_segments }
         ensures value { result ≡ wasted_by m.now (seen self.now []) }
-        ensures limit { result ≤ 400200000000 }
+        ensures limit { result ≤ most_sought }
     {
         let running = match self.download {
             Some(d) => d.got(m) as u64,
@@ -313,43 +283,37 @@ impl Body {
     }
 
     /// 5. Request.
-    fn request<T: Rule>(
-        &mut self,
-        m: &Manifest,
-        clock: &Clock,
-        set: &Setup,
-        ahead: u32,
-        rule: &T,
-    ) -> Result<(), NoMemory>
-        requires ready { CanRequest m.now set.now (T.kind rule.now) (seen self.old []) }
-        ensures requests { IfOk result (λ _. (c : Case) (history : List ℕ) → c.film ≡ m.now
-            → c.setup ≡ set.now → c.ahead ≡ ahead → c.rule ≡ T.kind rule.now
-            → T.stands_for rule.now history
-            → seen self.new history ≡ request c (seen self.old history)) }
-        ensures timed { IfOk result (λ _. IsTimed m.now clock.now self.old.download
-            → IsTimed m.now clock.now self.new.download) }
+    fn request<T: Rule>(&mut self, course: &Course<'_>, rule: &T) -> Result<(), NoMemory>
+        requires ready { CanRequest
+            (case_on course.now (T.kind rule.now)) (seen self.old []) }
+        ensures requests { IfOk result (λ _. (history : List ℕ) → T.stands_for rule.now history
+            → seen self.new history
+            ≡ request (case_on course.now (T.kind rule.now)) (seen self.old history)) }
+        ensures timed { IfOk result (λ _. KnowsEnd course.now self.old
+            → KnowsEnd course.now self.new) }
     {
-        if !self.can_ask(m, set, ahead) {
+        if !self.can_ask(course) {
             return Ok(());
         }
-        let rung = self.rung_for(m, set, rule);
-        self.ask(m, clock, rung)?;
+        let rung = self.rung_for(course, rule);
+        self.ask(course, rung)?;
         Ok(())
     }
 
     /// Whether a segment is asked for now: there is no download, a segment is left, it fits the buffer, and it is there.
-    fn can_ask(&self, m: &Manifest, set: &Setup, ahead: u32) -> bool
+    fn can_ask(&self, course: &Course<'_>) -> bool
         requires position { self.now.x ≤ self.now.y }
-        requires end { self.now.y ≤ 120000000 }
-        ensures asks { (c : Case) → c.film ≡ m.now → c.setup ≡ set.now → c.ahead ≡ ahead
-            → result ≡ can_ask c (seen self.now []) }
-        ensures next { result ≡ true → self.now.k < segments_of m.now }
-        ensures room { result ≡ true → self.now.y - self.now.x ≤ set.now.buffer_ms - m.now.seg_ms }
+        requires end { self.now.y ≤ longest_film }
+        ensures asks { (kind : RuleKind)
+            → result ≡ can_ask (case_on course.now kind) (seen self.now []) }
+        ensures next { result ≡ true → self.now.k < segments_of course.now.film.now }
+        ensures room { result ≡ true → self.now.y - self.now.x
+            ≤ course.now.setup.now.buffer_ms - course.now.film.now.seg_ms }
     {
         self.download.is_none()
-            && self.k < m.segments()
-            && self.y - self.x + m.seg_ms() <= set.buffer_ms
-            && available(m, ahead, self.k) <= self.t
+            && self.k < course.film.segments()
+            && self.y - self.x + course.film.seg_ms() <= course.setup.buffer_ms
+            && available(course.film, course.ahead, self.k) <= self.t
     }
 
     /// What the rule sees.
@@ -365,35 +329,35 @@ impl Body {
     }
 
     /// The rung that is asked for: the forced one, or else the rule's choice.
-    fn rung_for<T: Rule>(&self, m: &Manifest, set: &Setup, rule: &T) -> u8
-        requires choose { CanChoose m.now set.now (T.kind rule.now) (seen self.now []) }
-        ensures value { (c : Case) (history : List ℕ) → c.film ≡ m.now → c.setup ≡ set.now
-            → c.rule ≡ T.kind rule.now → T.stands_for rule.now history
-            → result ≡ rung_for c (seen self.now history) }
-        ensures rung { result < rungs_of m.now }
+    fn rung_for<T: Rule>(&self, course: &Course<'_>, rule: &T) -> u8
+        requires choose { CanChoose
+            (case_on course.now (T.kind rule.now)) (seen self.now []) }
+        ensures value { (history : List ℕ) → T.stands_for rule.now history
+            → result ≡ rung_for (case_on course.now (T.kind rule.now)) (seen self.now history) }
+        ensures rung { result < rungs_of course.now.film.now }
     {
         match self.forced {
             Some(rung) => rung,
-            None => rule.choose(m, set, &self.context()),
+            None => rule.choose(course.film, course.setup, &self.context()),
         }
     }
 
     /// A download of a rung of the next segment starts.
-    fn ask(&mut self, m: &Manifest, clock: &Clock, rung: u8) -> Result<(), NoMemory>
-        requires next { self.old.k < segments_of m.now }
-        requires rung { rung < rungs_of m.now }
-        requires instant { self.old.t ≤ 1000000000000000 }
-        ensures asks { IfOk result (λ _. (c : Case) → c.film ≡ m.now
-            → Follows (λ p. asks c p rung) self.old self.new) }
-        ensures timed { IfOk result (λ _. IsTimed m.now clock.now self.new.download) }
+    fn ask(&mut self, course: &Course<'_>, rung: u8) -> Result<(), NoMemory>
+        requires next { self.old.k < segments_of course.now.film.now }
+        requires rung { rung < rungs_of course.now.film.now }
+        requires instant { self.old.t ≤ latest_ms }
+        ensures asks { IfOk result (λ _.
+            FollowsOn course.now (λ c p. asks c p rung) self.old self.new) }
+        ensures timed { IfOk result (λ _. KnowsEnd course.now self.new) }
     {
-        let bits = m.size(self.k, rung);
+        let bits = course.film.size(self.k, rung);
         self.events.push(Event::Request {
             at: self.t,
             segment: self.k,
             rung,
         })?;
-        let landing = clock.finish(self.t, bits);
+        let landing = course.clock.finish(self.t, bits);
         self.download = Some(Running {
             segment: self.k,
             rung,
@@ -408,41 +372,37 @@ impl Body {
     }
 
     /// The millisecond passes.
-    pub fn pass(&mut self, m: &Manifest, clock: &Clock) -> Result<(), NoMemory>
+    pub fn pass(&mut self, course: &Course<'_>) -> Result<(), NoMemory>
         requires ready { CanPass (seen self.old []) }
-        requires takes { IfSome self.old.download (CanTake clock.now self.old.t) }
-        ensures passes { IfOk result (λ _. (c : Case) → c.film ≡ m.now → c.periods ≡ clock.now
-            → Follows (pass_ms c) self.old self.new) }
-        ensures timed { IfOk result (λ _. IsTimed m.now clock.now self.old.download
-            → IsTimed m.now clock.now self.new.download) }
+        requires takes { IfSome self.old.download (CanTake course.now.clock.now self.old.t) }
+        ensures passes { IfOk result (λ _. FollowsOn course.now pass_ms self.old self.new) }
+        ensures timed { IfOk result (λ _. KnowsEnd course.now self.old
+            → KnowsEnd course.now self.new) }
     {
-        self.take(clock);
-        self.pass_in_mode(m)?;
+        self.take(course);
+        self.pass_in_mode(course)?;
         self.t += 1;
         Ok(())
     }
 
     /// A download, if there is one, takes its network millisecond.
-    fn take(&mut self, clock: &Clock)
-        requires instant { self.old.t ≤ 1000000000000000 }
-        requires takes { IfSome self.old.download (CanTake clock.now self.old.t) }
-        ensures takes { (c : Case) → c.periods ≡ clock.now
-            → Follows (λ p. record p { download = option_map (takes c p.t) p.download })
-            self.old self.new }
+    fn take(&mut self, course: &Course<'_>)
+        requires instant { self.old.t ≤ latest_ms }
+        requires takes { IfSome self.old.download (CanTake course.now.clock.now self.old.t) }
+        ensures takes { FollowsOn course.now takes_any self.old self.new }
         ensures ready { CanPass (seen self.old []) → CanPass (seen self.new []) }
-        ensures timed { (f : Film) → IsTimed f clock.now self.old.download
-            → IsTimed f clock.now self.new.download }
+        ensures timed { KnowsEnd course.now self.old → KnowsEnd course.now self.new }
     {
         if let Some(d) = self.download {
-            self.download = Some(d.take_ms(clock, self.t));
+            self.download = Some(d.take_ms(course, self.t));
         }
     }
 
     /// A millisecond of the mode.
-    fn pass_in_mode(&mut self, m: &Manifest) -> Result<(), NoMemory>
+    fn pass_in_mode(&mut self, course: &Course<'_>) -> Result<(), NoMemory>
         requires ready { CanPass (seen self.old []) }
-        ensures passes { IfOk result (λ _. (c : Case) → c.film ≡ m.now
-            → Follows (λ p. passes_in c p p.mode) self.old self.new) }
+        ensures passes { IfOk result (λ _.
+            FollowsOn course.now (λ c p. passes_in c p p.mode) self.old self.new) }
         ensures same { IfOk result (λ _. SameDownload self.old self.new) }
     {
         match self.mode {
@@ -456,20 +416,19 @@ impl Body {
                 self.stalling = false;
                 Ok(())
             }
-            Mode::Playing if self.x < self.y => self.play(m),
+            Mode::Playing if self.x < self.y => self.play(course),
             Mode::Playing => self.stall(),
             Mode::Ended => Ok(()),
         }
     }
 
     /// A millisecond of play.
-    fn play(&mut self, m: &Manifest) -> Result<(), NoMemory>
-        requires { self.old.x < 120000000 }
-        ensures plays { IfOk result (λ _. (c : Case) → c.film ≡ m.now
-            → Follows (plays c) self.old self.new) }
+    fn play(&mut self, course: &Course<'_>) -> Result<(), NoMemory>
+        requires { self.old.x < longest_film }
+        ensures plays { IfOk result (λ _. FollowsOn course.now plays self.old self.new) }
         ensures same { IfOk result (λ _. SameDownload self.old self.new) }
     {
-        if self.x % m.seg_ms() == 0 {
+        if self.x % course.film.seg_ms() == 0 {
             self.begin()?;
         }
         self.x += 1;
@@ -497,8 +456,8 @@ impl Body {
 
     /// A millisecond of stall.
     fn stall(&mut self) -> Result<(), NoMemory>
-        requires time { self.old.stall_ms ≤ 1000000000000000 }
-        requires stalls { self.old.stalls ≤ 2000000 }
+        requires time { self.old.stall_ms ≤ latest_ms }
+        requires stalls { self.old.stalls ≤ most_stalls }
         ensures stalls { IfOk result (λ _. Follows stalls_on self.old self.new) }
         ensures same { IfOk result (λ _. SameDownload self.old self.new) }
     {
@@ -532,9 +491,9 @@ impl Body {
 /// The sizes of loaded segments, summed.
 fn sizes_of(m: &Manifest, loaded: &[Played]) -> u64
     requires loaded { All (IsOf m.now) loaded.now }
-    requires room { length loaded.now ≤ 2000 }
+    requires room { length loaded.now ≤ most_segments }
     ensures value { result ≡ sum_by (λ q. size_of m.now q.segment q.rung) loaded.now }
-    ensures limit { result ≤ 200000000 * length loaded.now }
+    ensures limit { result ≤ most_bits * length loaded.now }
 {
     let mut total = 0u64;
     for q in loaded {
@@ -547,9 +506,9 @@ fn sizes_of(m: &Manifest, loaded: &[Played]) -> u64
 #[tactic(auto, using(crate::proofs::Halves::of_front, crate::proofs::Halves::sum_of_halves))]
 fn sizes_loaded(m: &Manifest, loaded: &VecDeque<Played>) -> u64
     requires loaded { All (IsOf m.now) loaded.now.items }
-    requires room { length loaded.now.items ≤ 2000 }
+    requires room { length loaded.now.items ≤ most_segments }
     ensures value { result ≡ sum_by (λ q. size_of m.now q.segment q.rung) loaded.now.items }
-    ensures limit { result ≤ 400000000000 }
+    ensures limit { result ≤ most_loaded }
 {
     let (front, back) = loaded.as_slices();
     sizes_of(m, front) + sizes_of(m, back)

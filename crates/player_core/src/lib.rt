@@ -2,6 +2,8 @@
 #![tactic(auto)]
 
 mod body;
+mod course;
+mod limits;
 mod mode;
 mod player;
 mod quiet;

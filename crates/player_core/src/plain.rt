@@ -5,44 +5,54 @@ ghost use Rattle.lab_model.specs.Film.{segments_of};
 ghost use Rattle.lab_model.specs.Fit.{SetupFits};
 ghost use Rattle.lab_model.specs.Rules.{KindFits};
 ghost use Rattle.lab_model.specs.Seeks.{SeeksFit};
-ghost use Rattle.player_core.specs.State.{case_of};
+ghost use Rattle.player_core.specs.Limits.{longest_film};
+ghost use Rattle.player_core.specs.Course.{case_on};
 ghost use Rattle.player_core.specs.Session.{session_of, shown};
+ghost use Rattle.player_core.specs.Sound.{IsCase};
 
 use crate::body::Body;
-use crate::player::LATEST_MS;
+use crate::course::Course;
+use crate::limits::LATEST_MS;
 use crate::session::Session;
-use lab_model::{Manifest, NoMemory, Rule, Seek, Setup};
-use network_clock::Clock;
+use lab_model::{NoMemory, Rule};
 use std::alloc::Global;
 
-/// The session of a film of which `ahead` milliseconds of media are there at instant 0.
-pub fn play_from<T: Rule + Drop>(
+/// The session of a course, millisecond by millisecond.
+fn session_on<T: Rule + Drop>(
     alloc: Global,
-    m: &Manifest,
-    clock: &Clock,
-    set: &Setup,
-    seeks: &[Seek],
-    ahead: u32,
+    course: &Course<'_>,
     rule: T,
 ) -> Result<Session, NoMemory>
-    requires setup { SetupFits set.now m.now }
-    requires rule { KindFits (T.kind rule) m.now }
-    requires seeks { SeeksFit seeks.now (segments_of m.now) }
-    requires ahead { ahead ≤ 120000000 }
+    requires case { IsCase (case_on course.now (T.kind rule)) }
     requires told { T.stands_for rule [] }
-    ensures { IfOk result (λ s. shown s
-        ≡ session_of (case_of m.now clock.now set.now seeks.now ahead (T.kind rule))) }
+    ensures { IfOk result (λ s. shown s ≡ session_of (case_on course.now (T.kind rule))) }
 {
-    prove!(m.segments() > 0);
-    prove!(!clock.periods().is_empty());
     let mut body = Body::new(alloc);
     let mut rule = rule;
-    for _ms in 0..LATEST_MS {
-        body.instant(m, clock, set, seeks, ahead, &mut rule)?;
+    for _turn in 0..LATEST_MS {
+        body.instant(course, &mut rule)?;
         if body.mode.is_ended() {
             return Ok(body.into_session());
         }
-        body.pass(m, clock)?;
+        body.pass(course)?;
     }
     unreachable!()
+}
+
+/// The session of a course whose parts fit one another.
+pub fn play_on<T: Rule + Drop>(
+    alloc: Global,
+    course: &Course<'_>,
+    rule: T,
+) -> Result<Session, NoMemory>
+    requires setup { SetupFits course.now.setup.now course.now.film.now }
+    requires rule { KindFits (T.kind rule) course.now.film.now }
+    requires seeks { SeeksFit course.now.seeks.now (segments_of course.now.film.now) }
+    requires ahead { course.now.ahead ≤ longest_film }
+    requires told { T.stands_for rule [] }
+    ensures { IfOk result (λ s. shown s ≡ session_of (case_on course.now (T.kind rule))) }
+{
+    prove!(course.film.segments() > 0);
+    prove!(!course.clock.periods().is_empty());
+    session_on(alloc, course, rule)
 }

@@ -8,9 +8,13 @@ ghost use Rattle.lab_model.specs.Rules.{KindFits};
 ghost use Rattle.lab_model.specs.Seeks.{AreRising, SeeksFit};
 ghost use Rattle.player_core.specs.Available.{all_ahead, available_at};
 ghost use Rattle.player_core.specs.State.{case_of};
+ghost use Rattle.player_core.specs.Course.{case_on};
+ghost use Rattle.player_core.specs.Sound.{IsCase};
 ghost use Rattle.player_core.specs.Session.{session_of, shown};
 
 use crate::body::Body;
+use crate::course::Course;
+use crate::limits::{ALL_AHEAD_MS, LATEST_MS, LATEST_SEEK_MS, MOST_SEEKS};
 use crate::session::Session;
 use lab_model::{Manifest, NoMemory, Rule, Seek, Setup};
 use network_clock::Clock;
@@ -24,6 +28,7 @@ pub fn available(m: &Manifest, ahead: u32, seg: u16) -> u64
     ((seg as u64 + 1) * m.seg_ms() as u64).saturating_sub(ahead as u64)
 }
 
+/// Whether each seek comes before the next.
 fn rises(seeks: &[Seek]) -> bool
     ensures { IsTrue result ↔ AreRising seeks.now }
 {
@@ -40,17 +45,33 @@ pub fn seeks_fit(seeks: &[Seek], m: &Manifest) -> bool
     ensures { IsTrue result ↔ SeeksFit seeks.now (segments_of m.now) }
 {
     let segments = m.segments();
-    seeks.len() <= 16
-        && seeks.iter().all(|s| s.at_ms <= 1_000_000_000)
+    seeks.len() <= MOST_SEEKS
+        && seeks.iter().all(|s| s.at_ms <= LATEST_SEEK_MS)
         && rises(seeks)
         && seeks.iter().all(|s| s.to < segments)
 }
 
-/// So much media ahead, in milliseconds, that every film within the limits is there at instant 0.
-const ALL_AHEAD_MS: u32 = 120_000_000;
-
-/// An instant, in milliseconds, before which every session within the limits ends.
-pub const LATEST_MS: u64 = 1_000_000_000_000_000;
+/// The session of a course, from event to event.
+fn session_on<T: Rule + Drop>(
+    alloc: Global,
+    course: &Course<'_>,
+    rule: T,
+) -> Result<Session, NoMemory>
+    requires case { IsCase (case_on course.now (T.kind rule)) }
+    requires told { T.stands_for rule [] }
+    ensures { IfOk result (λ s. shown s ≡ session_of (case_on course.now (T.kind rule))) }
+{
+    let mut body = Body::new(alloc);
+    let mut rule = rule;
+    for _turn in 0..LATEST_MS {
+        body.instant(course, &mut rule)?;
+        if body.mode.is_ended() {
+            return Ok(body.into_session());
+        }
+        body.wait(course)?;
+    }
+    unreachable!()
+}
 
 /// The session of a film of which `ahead` milliseconds of media are there at instant 0.
 pub fn play_from<T: Rule + Drop>(
@@ -77,16 +98,14 @@ pub fn play_from<T: Rule + Drop>(
 {
     prove!(m.segments() > 0);
     prove!(!clock.periods().is_empty());
-    let mut body = Body::new(alloc);
-    let mut rule = rule;
-    for _turn in 0..LATEST_MS {
-        body.instant(m, clock, set, seeks, ahead, &mut rule)?;
-        if body.mode.is_ended() {
-            return Ok(body.into_session());
-        }
-        body.wait(m, clock, set, seeks, ahead)?;
-    }
-    unreachable!()
+    let course = Course {
+        film: m,
+        clock,
+        setup: set,
+        seeks,
+        ahead,
+    };
+    session_on(alloc, &course, rule)
 }
 
 /// The session of a film on demand.

@@ -3,41 +3,42 @@
 ghost use Rattle.std.specs.Prelude.{◌≡◌, ℕ, ◌+◌, ◌-◌, ◌%◌, ◌<◌, ◌≤◌, ◌⊎◌, List, true, IfOk};
 ghost use Rattle.lab_model.specs.Film.{Film, segments_of};
 ghost use Rattle.lab_model.specs.Rules.{RuleKind};
+ghost use Rattle.player_core.specs.Limits.{latest_ms, longest_film};
 ghost use Rattle.player_core.specs.Available.{available_at};
 ghost use Rattle.player_core.specs.Parts.{is_playing};
-ghost use Rattle.player_core.specs.Quiet.{IsQuiet, glides};
-ghost use Rattle.player_core.specs.Seen.{CanGlide, CanRest, CanWait, Follows, IsTimed, LeftAt, Waits, mode_of, seen};
-ghost use Rattle.player_core.specs.Sound.{IsCase};
-ghost use Rattle.player_core.specs.State.{Case, case_of};
+ghost use Rattle.player_core.specs.Quiet.{IsQuiet, glides, moves_in, takes_all};
+ghost use Rattle.player_core.specs.Seen.{CanGlide, CanMove, CanRest, CanWait, Follows, FollowsOn, IsTimed, KnowsEnd, MustWait, MustWaitFor, SameDownload, WaitsOn, mode_of, seen};
+ghost use Rattle.player_core.specs.State.{Case};
+ghost use Rattle.player_core.specs.Course.{case_on};
 
 use crate::body::Body;
+use crate::course::Course;
+use crate::limits::LATEST_MS;
 use crate::mode::Mode;
-use crate::player::{LATEST_MS, available};
+use crate::player::available;
 use crate::script::seek_in;
-use lab_model::{Manifest, NoMemory, Seek, Setup};
-use network_clock::Clock;
+use lab_model::{Manifest, NoMemory};
 
 impl Body {
     /// The milliseconds until a segment may be asked for: until it fits the buffer, or else until it is there.
-    fn request_in(&self, m: &Manifest, set: &Setup, ahead: u32) -> u64
+    fn request_in(&self, course: &Course<'_>) -> u64
         requires position { self.now.x ≤ self.now.y }
-        requires end { self.now.y ≤ 120000000 }
-        requires waits { self.now.k < segments_of m.now
-            → (set.now.buffer_ms < self.now.y - self.now.x + m.now.seg_ms)
-            ⊎ (self.now.t < available_at m.now ahead self.now.k) }
+        requires end { self.now.y ≤ longest_film }
+        requires waits { self.now.k < segments_of course.now.film.now
+            → MustWait course.now.film.now course.now.setup.now course.now.ahead self.now }
         ensures some { 1 ≤ result }
-        ensures asks { self.now.k < segments_of m.now
-            → (set.now.buffer_ms + result ≤ self.now.y - self.now.x + m.now.seg_ms)
-            ⊎ (self.now.t + result ≤ available_at m.now ahead self.now.k) }
+        ensures asks { self.now.k < segments_of course.now.film.now
+            → MustWaitFor course.now.film.now course.now.setup.now course.now.ahead
+            self.now result }
     {
-        if self.k >= m.segments() {
+        if self.k >= course.film.segments() {
             return LATEST_MS;
         }
-        let level = self.y - self.x + m.seg_ms();
-        if level > set.buffer_ms {
-            (level - set.buffer_ms) as u64
+        let level = self.y - self.x + course.film.seg_ms();
+        if level > course.setup.buffer_ms {
+            (level - course.setup.buffer_ms) as u64
         } else {
-            available(m, ahead, self.k) - self.t
+            available(course.film, course.ahead, self.k) - self.t
         }
     }
 
@@ -56,35 +57,41 @@ impl Body {
 
     /// The milliseconds, at least 1, for which nothing happens after an instant: no arrival, test for abandonment, seek or request, and
     /// no beginning of a segment or of a stall after the first of them.
-    fn quiet_ms(&self, m: &Manifest, set: &Setup, seeks: &[Seek], ahead: u32) -> u64
-        requires { CanRest m.now set.now ahead self.now }
+    fn quiet_ms(&self, course: &Course<'_>) -> u64
+        requires { CanRest course.now.film.now course.now.setup.now course.now.ahead self.now }
         ensures some { 1 ≤ result }
-        ensures limit { result ≤ 1000000000000000 }
-        ensures quiet { (c : Case) (history : List ℕ) → c.film ≡ m.now → c.setup ≡ set.now
-            → c.seeks ≡ seeks.now → c.ahead ≡ ahead
-            → IsTimed c.film c.periods self.now.download
-            → IsQuiet c (seen self.now history) result }
+        ensures limit { result ≤ latest_ms }
+        ensures quiet { KnowsEnd course.now self.now → (kind : RuleKind) (history : List ℕ)
+            → IsQuiet (case_on course.now kind) (seen self.now history) result }
     {
         let wait = match self.download {
-            Some(d) => d.quiet_ms(self.t, set),
-            None => self.request_in(m, set, ahead),
+            Some(d) => d.quiet_ms(self.t, course.setup),
+            None => self.request_in(course),
         };
-        wait.min(self.begin_in(m)).min(seek_in(seeks, self.t))
+        wait.min(self.begin_in(course.film))
+            .min(seek_in(course.seeks, self.t))
     }
 
-    /// So many milliseconds pass at once, in which nothing begins.
-    fn glide(&mut self, clock: &Clock, ms: u64)
+    /// A download, if there is one, takes so many network milliseconds at once.
+    fn take_all(&mut self, course: &Course<'_>, ms: u64)
         requires { CanGlide self.old ms }
-        ensures glides { (c : Case) → c.periods ≡ clock.now
-            → IsTimed c.film c.periods self.old.download
-            → Follows (glides c ms) self.old self.new }
-        ensures timed { (f : Film) → IsTimed f clock.now self.old.download
-            → IsTimed f clock.now self.new.download }
-        ensures instant { self.new.t ≡ self.old.t + ms }
+        ensures takes { KnowsEnd course.now self.old
+            → FollowsOn course.now (λ c. takes_all c ms) self.old self.new }
+        ensures timed { KnowsEnd course.now self.old → KnowsEnd course.now self.new }
+        ensures still { CanMove self.new ms }
+        ensures instant { self.new.t ≡ self.old.t }
     {
         if let Some(d) = self.download {
-            self.download = Some(d.after(clock, self.t, ms));
+            self.download = Some(d.after(course, self.t, ms));
         }
+    }
+
+    /// So many milliseconds of the mode pass at once, in which nothing begins.
+    fn move_on(&mut self, ms: u64)
+        requires { CanMove self.old ms }
+        ensures moves { Follows (λ p. moves_in ms p p.mode) self.old self.new }
+        ensures same { SameDownload self.old self.new }
+    {
         match self.mode {
             Mode::Starting => self.startup_ms += ms,
             Mode::Seeking => self.seek_ms += ms,
@@ -92,27 +99,29 @@ impl Body {
             Mode::Playing => self.stall_ms += ms,
             Mode::Ended => (),
         }
+    }
+
+    /// So many milliseconds pass at once, in which nothing begins.
+    fn glide(&mut self, course: &Course<'_>, ms: u64)
+        requires { CanGlide self.old ms }
+        ensures glides { KnowsEnd course.now self.old
+            → FollowsOn course.now (λ c. glides c ms) self.old self.new }
+        ensures timed { KnowsEnd course.now self.old → KnowsEnd course.now self.new }
+        ensures instant { self.new.t ≡ self.old.t + ms }
+    {
+        self.take_all(course, ms);
+        self.move_on(ms);
         self.t += ms;
     }
 
     /// The milliseconds pass from one instant to the next at which something may happen.
-    pub fn wait(
-        &mut self,
-        m: &Manifest,
-        clock: &Clock,
-        set: &Setup,
-        seeks: &[Seek],
-        ahead: u32,
-    ) -> Result<(), NoMemory>
-        requires { CanWait m.now clock.now set.now seeks.now ahead self.old }
-        ensures { IfOk result (λ _. (kind : RuleKind)
-            → IsCase (case_of m.now clock.now set.now seeks.now ahead kind)
-            → LeftAt (case_of m.now clock.now set.now seeks.now ahead kind) self.old
-            → Waits (case_of m.now clock.now set.now seeks.now ahead kind) self.old self.new) }
+    pub fn wait(&mut self, course: &Course<'_>) -> Result<(), NoMemory>
+        requires { CanWait course.now self.old }
+        ensures { IfOk result (λ _. WaitsOn course.now self.old self.new) }
     {
-        let quiet = self.quiet_ms(m, set, seeks, ahead);
-        self.pass(m, clock)?;
-        self.glide(clock, quiet - 1);
+        let quiet = self.quiet_ms(course);
+        self.pass(course)?;
+        self.glide(course, quiet - 1);
         Ok(())
     }
 }

@@ -1,6 +1,6 @@
 //! The two rules without a history: one rung throughout, and a rung for each segment.
 
-ghost use Rattle.std.specs.Prelude.{◌≡◌, ◌<◌, ◌↔◌, IsTrue, length};
+ghost use Rattle.std.specs.Prelude.{◌≡◌, ℕ, ◌<◌, ◌↔◌, List, IsTrue, length};
 ghost use Rattle.std.specs.List.{All};
 ghost use Rattle.lab_model.specs.Rules.{fixed, listed};
 
@@ -42,8 +42,6 @@ pub struct Listed {
 }
 
 impl Model for Listed {
-    ghost use Rattle.std.specs.Prelude.{List, ℕ};
-
     ghost Value = { List ℕ };
 
     ghost view = { λ l. l.rungs.items };

@@ -2,17 +2,22 @@
 
 ghost use Rattle.std.specs.Prelude.{◌≡◌, ℕ, ◌+◌, ◌-◌, ◌*◌, ◌<◌, ◌≤◌, ◌==◌, ◌⊎◌, true, false, Option, Some, None, IfSome, is_some, nat_lt, if◌then◌else◌};
 ghost use Rattle.lab_model.specs.Film.{rungs_of, segments_of, size_of};
+ghost use Rattle.lab_model.specs.Rules.{RuleKind};
 ghost use Rattle.network_clock.specs.Network.{first_at, is_spent, job_after};
 ghost use Rattle.abandonment.specs.Test.{abandonment};
+ghost use Rattle.player_core.specs.Limits.{latest_answer, latest_ms, longest_download, longest_elapsed, most_bits, most_bits_in_ms, most_left, whole_credit};
 ghost use Rattle.player_core.specs.State.{Case};
+ghost use Rattle.player_core.specs.Course.{case_on};
 ghost use Rattle.player_core.specs.Parts.{bit_ms_of, got_of, progress_of, sample_of, takes};
 ghost use Rattle.player_core.specs.Quiet.{is_due_ms, taken_ms};
 ghost use Rattle.player_core.specs.Ready.{CanJudge};
 ghost use Rattle.player_core.specs.Seen.{SameRequest, download_of};
 
+use crate::course::Course;
+use crate::limits::{JUDGED_EACH_MS, JUDGED_FROM_MS};
 use abandonment::{Progress, abandon_to};
 use lab_model::{Manifest, Sample, Setup};
-use network_clock::{Clock, Job};
+use network_clock::Job;
 
 /// A running download: what was asked for and when, when its bits begin and when it is done, what is left of it, and the first instant
 /// spent on bits, if any.
@@ -27,15 +32,15 @@ pub struct Running {
     pub first: Option<u64>,
 }
 
-/// The milliseconds from `elapsed` after a request, at most 10^9, to the next instant at which its download may be looked at for
+/// The milliseconds from `elapsed` after a request to the next instant at which its download may be looked at for
 /// abandonment.
 fn due_in(elapsed: u64) -> u64
-    requires { elapsed ≤ 1000000000 }
+    requires { elapsed ≤ longest_elapsed }
     ensures some { 1 ≤ result }
     ensures none_before { (m : ℕ) → elapsed < m → m < elapsed + result → is_due_ms m ≡ false }
 {
-    let next = (elapsed / 100 + 1) * 100;
-    next.max(500) - elapsed
+    let next = (elapsed / JUDGED_EACH_MS + 1) * JUDGED_EACH_MS;
+    next.max(JUDGED_FROM_MS) - elapsed
 }
 
 impl Running {
@@ -45,7 +50,7 @@ impl Running {
         requires rung { self.now.rung < rungs_of m.now }
         ensures value { result ≡ got_of m.now (download_of self.now) }
         ensures part { result ≤ size_of m.now self.now.segment self.now.rung }
-        ensures limit { result ≤ 200000000 }
+        ensures limit { result ≤ most_bits }
     {
         let size = m.size(self.segment, self.rung) as u64;
         size.saturating_sub(self.job.left.div_ceil(1000)) as u32
@@ -67,7 +72,7 @@ impl Running {
         requires rung { self.now.rung < rungs_of m.now }
         requires first { 1 ≤ bit_ms_of t (download_of self.now) }
         requires pace { got_of m.now (download_of self.now)
-            ≤ 10000000 * bit_ms_of t (download_of self.now) }
+            ≤ most_bits_in_ms * bit_ms_of t (download_of self.now) }
         ensures { result.rate ≡ sample_of m.now t (download_of self.now) }
     {
         Sample::of(self.got(m), self.bit_ms(t))
@@ -92,7 +97,7 @@ impl Running {
     pub fn quiet_ms(&self, t: u64, set: &Setup) -> u64
         requires asked { self.now.asked ≤ t }
         requires running { t < self.now.done }
-        requires short { self.now.done ≤ self.now.asked + 300010000 }
+        requires short { self.now.done ≤ self.now.asked + longest_download }
         ensures some { 1 ≤ result }
         ensures arrives { t + result ≤ self.now.done }
         ensures judges { set.now.abandon ≡ true → (self.now.rung ≡ 0)
@@ -119,37 +124,38 @@ impl Running {
     }
 
     /// The download once its network millisecond has passed.
-    pub fn take_ms(&self, clock: &Clock, t: u64) -> Running
-        requires instant { t ≤ 1000000000000000 }
-        requires credit { self.now.job.credit ≤ 100000000 }
-        requires left { self.now.job.left ≤ 200000000000 }
+    pub fn take_ms(&self, course: &Course<'_>, t: u64) -> Running
+        requires instant { t ≤ latest_ms }
+        requires credit { self.now.job.credit ≤ whole_credit }
+        requires left { self.now.job.left ≤ most_left }
         requires begins { self.now.first ≡ None
-            → is_spent clock.now t self.now.job ≡ (t == self.now.begins) }
-        ensures takes { (c : Case) → c.periods ≡ clock.now
-            → download_of result ≡ takes c t (download_of self.now) }
+            → is_spent course.now.clock.now t self.now.job ≡ (t == self.now.begins) }
+        ensures takes { (kind : RuleKind)
+            → download_of result ≡ takes (case_on course.now kind) t (download_of self.now) }
         ensures same { SameRequest self.now result }
     {
         Running {
-            job: clock.advance(self.job, t, t + 1),
+            job: course.clock.advance(self.job, t, t + 1),
             first: self.first_after(t),
             ..*self
         }
     }
 
     /// The download after so many milliseconds from an instant on.
-    pub fn after(&self, clock: &Clock, t: u64, ms: u64) -> Running
-        requires instant { t + ms ≤ 2000000000000000 }
-        requires credit { self.now.job.credit ≤ 100000000 }
-        requires left { self.now.job.left ≤ 200000000000 }
-        ensures takes { (c : Case) → c.periods ≡ clock.now
-            → self.now.begins ≡ first_at c.periods self.now.asked
-            (size_of c.film self.now.segment self.now.rung)
-            → download_of result ≡ taken_ms c t ms (download_of self.now) }
+    pub fn after(&self, course: &Course<'_>, t: u64, ms: u64) -> Running
+        requires instant { t + ms ≤ latest_answer }
+        requires credit { self.now.job.credit ≤ whole_credit }
+        requires left { self.now.job.left ≤ most_left }
+        ensures takes { (kind : RuleKind)
+            → self.now.begins ≡ first_at course.now.clock.now self.now.asked
+            (size_of course.now.film.now self.now.segment self.now.rung)
+            → download_of result
+            ≡ taken_ms (case_on course.now kind) t ms (download_of self.now) }
         ensures same { SameRequest self.now result }
     {
         let to = t + ms;
         Running {
-            job: clock.advance(self.job, t, to),
+            job: course.clock.advance(self.job, t, to),
             first: if self.begins < to {
                 Some(self.begins)
             } else {

@@ -2,9 +2,10 @@
 
 ghost use Rattle.std.specs.Prelude.{◌≡◌, ℕ, ◌+◌, ◌<◌, ◌≤◌, None, IfSome};
 ghost use Rattle.std.specs.List.{Contains};
+ghost use Rattle.player_core.specs.Limits.{latest_ms};
 ghost use Rattle.player_core.specs.Parts.{seek_at};
 
-use crate::player::LATEST_MS;
+use crate::limits::LATEST_MS;
 use lab_model::Seek;
 
 /// The seek at an instant, if the script has one.
@@ -24,7 +25,7 @@ pub fn seek_at(seeks: &[Seek], t: u64) -> Option<Seek>
 /// The milliseconds from an instant to the next seek, `LATEST_MS` where there is none.
 pub fn seek_in(seeks: &[Seek], t: u64) -> u64
     ensures some { 1 ≤ result }
-    ensures limit { result ≤ 1000000000000000 }
+    ensures limit { result ≤ latest_ms }
     ensures none_before { (m : ℕ) → t < m → m < t + result → seek_at seeks.now m ≡ None }
 {
     let mut ms = LATEST_MS;

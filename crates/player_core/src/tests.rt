@@ -3,7 +3,9 @@
 mod long;
 mod short;
 
-use crate::{Event, Fixed, Listed, Session, available, plain, play, play_from, seeks_fit};
+use crate::course::Course;
+use crate::plain::play_on;
+use crate::{Event, Fixed, Listed, Session, available, play, play_from, seeks_fit};
 use lab_model::{Context, Manifest, Period, Rule, Seek, Setup, Trace, Weights};
 use network_clock::Clock;
 use short::SHORT;
@@ -12,6 +14,7 @@ use std::process::Abort;
 use std::test::Fail;
 
 /// What a session is played on, and what it shows.
+#[derive(Clone, Copy)]
 struct Case {
     seg_ms: u32,
     bitrates: &'static [u32],
@@ -34,109 +37,64 @@ struct Case {
 /// All media of any film is there at instant 0.
 const ON_DEMAND: u32 = 120_000_000;
 
+/// Three segments of a second, on rungs of 1000 and 2000 kbps, over a steady link of 2000 kbps, all on the upper rung.
+const THREE_SECONDS: Case = Case {
+    seg_ms: 1000,
+    bitrates: &[1000, 2000],
+    sizes: &[
+        1_000_000, 2_000_000, 1_000_000, 2_000_000, 1_000_000, 2_000_000,
+    ],
+    periods: &[(60_000, 2_000_000, 0)],
+    buffer_ms: 10_000,
+    abandon: false,
+    seeks: &[],
+    ahead: ON_DEMAND,
+    rungs: &[1],
+    counters: [1000, 0, 0, 0, 0, 4000],
+    lines: "0 request 0 1|1000 arrive 0 1 first 0 rate 2000000|1000 request 1 1|1000 play 0 1|\
+        2000 arrive 1 1 first 1000 rate 2000000|2000 request 2 1|2000 play 1 1|\
+        3000 arrive 2 1 first 2000 rate 2000000|3000 play 2 1|4000 end|",
+};
+
 const WORKED: [Case; 7] = [
     // steady-link
-    Case {
-        seg_ms: 1000,
-        bitrates: &[1000, 2000],
-        sizes: &[
-            1_000_000, 2_000_000, 1_000_000, 2_000_000, 1_000_000, 2_000_000,
-        ],
-        periods: &[(60_000, 2_000_000, 0)],
-        buffer_ms: 10_000,
-        abandon: false,
-        seeks: &[],
-        ahead: ON_DEMAND,
-        rungs: &[1],
-        counters: [1000, 0, 0, 0, 0, 4000],
-        lines: "0 request 0 1|1000 arrive 0 1 first 0 rate 2000000|1000 request 1 1|1000 play 0 1|\
-            2000 arrive 1 1 first 1000 rate 2000000|2000 request 2 1|2000 play 1 1|\
-            3000 arrive 2 1 first 2000 rate 2000000|3000 play 2 1|4000 end|",
-    },
+    THREE_SECONDS,
     // small-buffer
     Case {
-        seg_ms: 1000,
-        bitrates: &[1000, 2000],
-        sizes: &[
-            1_000_000, 2_000_000, 1_000_000, 2_000_000, 1_000_000, 2_000_000,
-        ],
-        periods: &[(60_000, 2_000_000, 0)],
         buffer_ms: 2000,
-        abandon: false,
-        seeks: &[],
-        ahead: ON_DEMAND,
         rungs: &[0],
         counters: [500, 0, 0, 0, 0, 3500],
         lines: "0 request 0 0|500 arrive 0 0 first 0 rate 2000000|500 request 1 0|500 play 0 0|\
             1000 arrive 1 0 first 500 rate 2000000|1500 request 2 0|1500 play 1 0|\
             2000 arrive 2 0 first 1500 rate 2000000|2500 play 2 0|3500 end|",
+        ..THREE_SECONDS
     },
     // slow-link
     Case {
-        seg_ms: 1000,
-        bitrates: &[1000, 2000],
-        sizes: &[
-            1_000_000, 2_000_000, 1_000_000, 2_000_000, 1_000_000, 2_000_000,
-        ],
         periods: &[(60_000, 500_000, 0)],
-        buffer_ms: 10_000,
-        abandon: false,
-        seeks: &[],
-        ahead: ON_DEMAND,
-        rungs: &[1],
         counters: [4000, 6000, 2, 0, 0, 13_000],
         lines: "0 request 0 1|4000 arrive 0 1 first 0 rate 500000|4000 request 1 1|4000 play 0 1|\
             5000 stall|8000 arrive 1 1 first 4000 rate 500000|8000 request 2 1|8000 play 1 1|\
             9000 stall|12000 arrive 2 1 first 8000 rate 500000|12000 play 2 1|13000 end|",
+        ..THREE_SECONDS
     },
     // seek-ahead
     Case {
-        seg_ms: 1000,
-        bitrates: &[1000, 2000],
-        sizes: &[
-            1_000_000, 2_000_000, 1_000_000, 2_000_000, 1_000_000, 2_000_000,
-        ],
-        periods: &[(60_000, 2_000_000, 0)],
-        buffer_ms: 10_000,
-        abandon: false,
         seeks: &[(1000, 2)],
-        ahead: ON_DEMAND,
-        rungs: &[1],
         counters: [1000, 0, 0, 1000, 2_000_000, 3000],
         lines: "0 request 0 1|1000 arrive 0 1 first 0 rate 2000000|1000 seek 2 wasted 2000000|\
             1000 request 2 1|2000 arrive 2 1 first 1000 rate 2000000|2000 play 2 1|3000 end|",
+        ..THREE_SECONDS
     },
     // seek-after-the-end
     Case {
-        seg_ms: 1000,
-        bitrates: &[1000, 2000],
-        sizes: &[
-            1_000_000, 2_000_000, 1_000_000, 2_000_000, 1_000_000, 2_000_000,
-        ],
-        periods: &[(60_000, 2_000_000, 0)],
-        buffer_ms: 10_000,
-        abandon: false,
         seeks: &[(4000, 0)],
-        ahead: ON_DEMAND,
-        rungs: &[1],
-        counters: [1000, 0, 0, 0, 0, 4000],
-        lines: "0 request 0 1|1000 arrive 0 1 first 0 rate 2000000|1000 request 1 1|1000 play 0 1|\
-            2000 arrive 1 1 first 1000 rate 2000000|2000 request 2 1|2000 play 1 1|\
-            3000 arrive 2 1 first 2000 rate 2000000|3000 play 2 1|4000 end|",
+        ..THREE_SECONDS
     },
     // abandoned-downloads
     Case {
-        seg_ms: 1000,
-        bitrates: &[1000, 2000],
-        sizes: &[
-            1_000_000, 2_000_000, 1_000_000, 2_000_000, 1_000_000, 2_000_000,
-        ],
         periods: &[(60_000, 200_000, 0)],
-        buffer_ms: 10_000,
         abandon: true,
-        seeks: &[],
-        ahead: ON_DEMAND,
-        rungs: &[1],
         counters: [5500, 9000, 2, 0, 300_000, 17_500],
         lines: "0 request 0 1|500 abandon 0 1 to 0 got 100000|500 request 0 0|\
             5500 arrive 0 0 first 500 rate 200000|5500 request 1 1|5500 play 0 0|\
@@ -144,6 +102,7 @@ const WORKED: [Case; 7] = [
             11000 arrive 1 0 first 6000 rate 200000|11000 request 2 1|11000 play 1 0|\
             11500 abandon 2 1 to 0 got 100000|11500 request 2 0|12000 stall|\
             16500 arrive 2 0 first 11500 rate 200000|16500 play 2 0|17500 end|",
+        ..THREE_SECONDS
     },
     // smallest-input
     Case {
@@ -152,12 +111,10 @@ const WORKED: [Case; 7] = [
         sizes: &[1],
         periods: &[(1, 1000, 0)],
         buffer_ms: 1,
-        abandon: false,
-        seeks: &[],
-        ahead: ON_DEMAND,
         rungs: &[0],
         counters: [1, 0, 0, 0, 0, 2],
         lines: "0 request 0 0|1 arrive 0 0 first 0 rate 1000|1 play 0 0|2 end|",
+        ..THREE_SECONDS
     },
 ];
 
@@ -176,19 +133,25 @@ fn clock(alloc: Global, case: &Case) -> Result<Clock, Fail> {
             latency: *latency,
         })?;
     }
+    clock_of(alloc, periods)
+}
+
+fn clock_of(alloc: Global, periods: Vec<Period>) -> Result<Clock, Fail> {
     let trace = Trace::from_parts(periods).ok_or("not a trace")?;
     Ok(Clock::new(alloc, &trace)?)
 }
 
 fn setup(alloc: Global, case: &Case) -> Result<Setup, Fail> {
-    let mut utilities = Vec::new(alloc);
-    for _ in case.bitrates {
-        utilities.push(0)?;
-    }
+    setup_of(alloc, case.bitrates.len(), case.buffer_ms, case.abandon)
+}
+
+/// A setup for so many rungs, in which only stalls weigh.
+fn setup_of(alloc: Global, rungs: usize, buffer_ms: u32, abandon: bool) -> Result<Setup, Fail> {
+    let utilities = Vec::from_elem(alloc, 0, rungs)?;
     Ok(Setup {
-        buffer_ms: case.buffer_ms,
+        buffer_ms,
         weights: Weights::from_parts(utilities, 0, 100, 1).ok_or("no weights")?,
-        abandon: case.abandon,
+        abandon,
     })
 }
 
@@ -232,7 +195,14 @@ fn listed_session(
     assert!(rt; set.fits(&m) && seeks_fit(&seeks, &m) && rule.fits(&m));
     assert!(rt; case.ahead <= ON_DEMAND);
     Ok(if plainly {
-        plain::play_from(alloc, &m, &clock, &set, &seeks, case.ahead, rule)?
+        let course = Course {
+            film: &m,
+            clock: &clock,
+            setup: &set,
+            seeks: &seeks,
+            ahead: case.ahead,
+        };
+        play_on(alloc, &course, rule)?
     } else {
         play_from(alloc, &m, &clock, &set, &seeks, case.ahead, rule)?
     })

@@ -1,9 +1,8 @@
 //! Long sessions: many milliseconds, many segments, and a trace of many periods, with answers from outside.
 
-use super::{Case, ON_DEMAND, counters, fixed_session};
+use super::{Case, ON_DEMAND, clock_of, counters, fixed_session, setup_of};
 use crate::{Fixed, play_from, seeks_fit};
-use lab_model::{Manifest, Period, Rule, Seek, Setup, Trace, Weights};
-use network_clock::Clock;
+use lab_model::{Manifest, Period, Rule, Seek};
 use std::alloc::Global;
 use std::process::Abort;
 use std::test::Fail;
@@ -25,32 +24,19 @@ const STARVED_PLAYER: Case = Case {
 
 /// The same of 2000 segments, on ten periods of 10000 s.
 const LONG_CYCLE: Case = Case {
-    seg_ms: 1000,
-    bitrates: &[1],
     sizes: &[200_000_000; 2000],
     periods: &[(10_000_000, 1000, 0); 10],
-    buffer_ms: 10_000,
-    abandon: false,
-    seeks: &[],
-    ahead: ON_DEMAND,
-    rungs: &[0],
     counters: [200_000_000, 399_798_001_000, 1999, 0, 0, 400_000_001_000],
-    lines: "",
+    ..STARVED_PLAYER
 };
 
 /// 2000 segments of a bit and a millisecond, all of which fit the buffer.
 const MANY_SEGMENTS: Case = Case {
     seg_ms: 1,
-    bitrates: &[1],
     sizes: &[1; 2000],
-    periods: &[(1, 1000, 0)],
     buffer_ms: 10_000_000,
-    abandon: false,
-    seeks: &[],
-    ahead: ON_DEMAND,
-    rungs: &[0],
     counters: [1, 0, 0, 0, 0, 2001],
-    lines: "",
+    ..STARVED_PLAYER
 };
 
 /// The session on demand has the counters of its case, and so many events and played segments.
@@ -96,7 +82,7 @@ fn long_film(alloc: Global) -> Result<Manifest, Fail> {
 }
 
 /// 100000 periods of 10 to 16 ms, 0 to 3999 kbps and 0 to 59 ms of latency.
-fn long_trace(alloc: Global) -> Result<Trace, Fail> {
+fn many_short_periods(alloc: Global) -> Result<Vec<Period>, Fail> {
     let mut periods = Vec::new(alloc);
     for i in 0..100_000u32 {
         periods.push(Period {
@@ -105,7 +91,7 @@ fn long_trace(alloc: Global) -> Result<Trace, Fail> {
             latency: i % 60,
         })?;
     }
-    Ok(Trace::from_parts(periods).ok_or("not a trace")?)
+    Ok(periods)
 }
 
 /// Sixteen seeks, one each 250 s, all over the film.
@@ -124,13 +110,8 @@ fn many_seeks(alloc: Global) -> Result<Vec<Seek>, Fail> {
 fn many_periods(rt: HostRuntime) -> Result<(), Fail> {
     let alloc = rt.alloc();
     let m = long_film(alloc)?;
-    let clock = Clock::new(alloc, &long_trace(alloc)?)?;
-    let utilities = vec![in alloc; 0, 0, 0]?;
-    let set = Setup {
-        buffer_ms: 10_000,
-        weights: Weights::from_parts(utilities, 0, 100, 1).ok_or("no weights")?,
-        abandon: true,
-    };
+    let clock = clock_of(alloc, many_short_periods(alloc)?)?;
+    let set = setup_of(alloc, 3, 10_000, true)?;
     let seeks = many_seeks(alloc)?;
     let rule = Fixed { rung: 2 };
     assert!(rt; set.fits(&m) && seeks_fit(&seeks, &m) && rule.fits(&m));

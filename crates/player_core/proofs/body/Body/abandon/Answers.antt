@@ -1,8 +1,9 @@
-use Rattle.std.proofs.Common.{◌≡◌, ◌∙◌, ℕ, true, Some, Option, sym, ap, subst, option_map}
+use Rattle.std.proofs.Common.{◌≡◌, ◌∙◌, ℕ, true, Some, sym, ap, option_map}
 use Rattle.std.proofs.lemmas.Bool.{cond-true}
 use Rattle.std.proofs.lemmas.Result.{IfOk-weaker}
 use Rattle.abandonment.specs.Test.{abandonment}
 use Rattle.player_core.specs.State.{Case, Download, Player}
+use Rattle.player_core.specs.Course.{case_on}
 use Rattle.player_core.specs.Parts.{abandon, gives_up, gives_up_any, progress_of}
 use Rattle.player_core.specs.Seen.{download_of, seen}
 use Rattle.player_core.proofs.Follow.{step_as}
@@ -16,9 +17,10 @@ abandons_for k p d q on runs given =
 pub returns-in-Some-rung_instead-clause-abandons : goal.returns-in-Some-rung_instead-clause-abandons
 returns-in-Some-rung_instead-clause-abandons g c =
     IfOk-weaker c.give_up.result _ _
-    (λ x given k film setup.
+    (λ x given kind.
+    let k = case_on c.args.course.now kind in
     step_as _ (abandon k) c.args.self.now c.give_up.new.self
-    (λ history. abandons_for k (seen c.args.self.now history) (download_of c.in-Some.d) c.in-Some-rung_instead.to (ap (λ s. s.abandon) setup ∙ c.if-not-set.false) (ap (option_map download_of) c.in-Some.is)
-    (sym c.in-Some-rung_instead.is ∙ c.rung_instead.ensures.value ∙ ap (λ f. abandonment f c.in-Some.d.segment c.in-Some.d.rung (progress_of f c.args.self.now.t (download_of c.in-Some.d))) (sym film)))
-    (given k film))
+    (λ history. abandons_for k (seen c.args.self.now history) (download_of c.in-Some.d) c.in-Some-rung_instead.to c.if-not-course.false (ap (option_map download_of) c.in-Some.is)
+    (sym c.in-Some-rung_instead.is ∙ c.rung_instead.ensures.value))
+    (given kind))
     c.give_up.ensures.gives_up

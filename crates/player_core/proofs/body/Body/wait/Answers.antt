@@ -1,4 +1,3 @@
-use Rattle.std.proofs.Common.{◌≡◌, ◌∙◌, ◌+◌, ◌-◌, ◌<◌, ◌≤◌, ℕ, refl, sym, arith}
 use Rattle.player_core.proofs.Chain.{glide_left, pass_left, rest_left, waits_left}
 use Rattle.player_core.proofs.body.Body.wait.Goals as goal
 
@@ -10,11 +9,11 @@ pass-requires c = let ready = pass_left _ c.requires.case c.args.self.now c.requ
 
 pub glide-requires : goal.glide-requires
 glide-requires c =
-    glide_left _ c.requires.case c.args.self.now c.requires.left c.requires.goes c.pass.new.self c.in_ok-pass.ensures.passes c.in_ok-pass.ensures.timed
-    c.quiet_ms-quiet.result c.quiet_ms-quiet.ensures.limit c.quiet_ms-quiet.ensures.quiet
+    glide_left _ c.requires.case c.args.self.now c.requires.left c.requires.goes c.pass.new.self (c.in_ok-pass.ensures.passes c.requires.rule) c.in_ok-pass.ensures.timed
+    c.quiet_ms-quiet.result c.quiet_ms-quiet.ensures.limit (λ knows. c.quiet_ms-quiet.ensures.quiet knows c.requires.rule)
 
 pub returns : goal.returns
 returns c = λ kind is left.
-    waits_left _ is c.args.self.now left c.requires.goes c.pass.new.self c.in_ok-pass.ensures.passes c.in_ok-pass.ensures.timed
-    c.quiet_ms-quiet.result c.quiet_ms-quiet.ensures.limit c.quiet_ms-quiet.ensures.quiet
-    c.glide.new.self c.glide.ensures.glides c.glide.ensures.instant (c.glide.ensures.timed c.args.m.now)
+    waits_left _ is c.args.self.now left c.requires.goes c.pass.new.self (c.in_ok-pass.ensures.passes kind) c.in_ok-pass.ensures.timed
+    c.quiet_ms-quiet.result c.quiet_ms-quiet.ensures.limit (λ knows. c.quiet_ms-quiet.ensures.quiet knows kind)
+    c.glide.new.self (λ knows. c.glide.ensures.glides knows kind) c.glide.ensures.instant c.glide.ensures.timed

@@ -1,0 +1,15 @@
+//! What a session is played on.
+
+use lab_model::{Manifest, Seek, Setup};
+use network_clock::Clock;
+
+/// What a session is played on: a film, a network, a setup, a seek script, and the media that are there at instant 0.
+#[derive(Clone, Copy)]
+pub struct Course<'a> {
+    pub film: &'a Manifest,
+    pub clock: &'a Clock,
+    pub setup: &'a Setup,
+    pub seeks: &'a [Seek],
+    /// Milliseconds, at most `ALL_AHEAD_MS`.
+    pub ahead: u32,
+}
