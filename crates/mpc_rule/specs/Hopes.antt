@@ -27,6 +27,10 @@ promise_of o price segment rung =
     pos (1000 * utility_of (weights_of o) segment rung)
     -ℤ pos (price * wait_at o segment rung + ((weights_of o).stall - price) * (wait_at o segment rung - room_of o))
 
+-- the promise of a rung of the segment after so many
+abbrev pub promise_at : Forecast → ℕ → ℕ → ℕ → ℤ
+promise_at f price count rung = promise_of f.outlook price (f.outlook.context.now.next + count) rung
+
 -- a promise lies within its limits
 pub record IsPromise (z : ℤ) : Type 0 where
   pub least : pos 0 ≤ℤ (z +ℤ pos 200000000000000000)

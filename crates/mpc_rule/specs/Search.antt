@@ -133,6 +133,14 @@ pub record IsForecast (f : Forecast) : Type 0 where
   pub length : f.length ≤ segments_ahead f.outlook
   pub table : IsTable f.outlook f.length f.table
 
+-- this is foretold on a rung of the segment after so many
+abbrev pub IsTold : Forecast → ℕ → ℕ → Foretold → Type 0
+IsTold f count rung t = IsForetold f.outlook (f.outlook.context.now.next + count) rung t
+
+-- what one more rung takes from the score of a list in hand
+abbrev pub loss_at : Forecast → Draft → ℕ → ℕ
+loss_at f d rung = loss_of f.outlook d rung (wait_of f.outlook d rung)
+
 -- a list is one of those of the whole horizon
 pub record IsWhole (f : Forecast) (d : Draft) : Type 0 where
   pub list : Contains (completions f.outlook f.length (start_of f.outlook)) d

@@ -1,7 +1,7 @@
 //! The segments of a horizon, and the lists of rungs for them.
 
 ghost use Rattle.std.specs.Prelude.{◌≡◌, ℕ, ◌+◌, ◌*◌, ◌<◌, ◌≤◌};
-ghost use Rattle.mpc_rule.specs.Search.{IsDraft, IsForecast, IsForetold, IsOutlook, IsTable, change_after, extended, ladder_of, loss_of, segment_after, segments_ahead, start_of, wait_of};
+ghost use Rattle.mpc_rule.specs.Search.{IsDraft, IsForecast, IsOutlook, IsTable, IsTold, change_after, extended, ladder_of, loss_at, segments_ahead, start_of};
 
 use crate::outlook::{Foretold, MOST_RUNGS, NOTHING, Outlook};
 
@@ -91,7 +91,7 @@ impl Forecast<'_> {
         requires forecast { IsForecast self.now }
         requires segment { count < self.now.length }
         requires rung { rung < ladder_of self.now.outlook }
-        ensures { IsForetold self.now.outlook (self.now.outlook.context.now.next + count) rung result }
+        ensures { IsTold self.now count rung result }
     {
         self.table.rows[count as usize][rung as usize]
     }
@@ -101,7 +101,7 @@ impl Forecast<'_> {
         requires forecast { IsForecast self.now }
         requires draft { IsDraft self.now.outlook draft.now 1 }
         requires segment { draft.now.count < self.now.length }
-        requires told { IsForetold self.now.outlook (segment_after self.now.outlook draft.now) rung told }
+        requires told { IsTold self.now draft.now.count rung told }
         ensures value { result ≡ change_after self.now.outlook draft.now rung }
         ensures limit { result ≤ 1000000 }
     {
@@ -118,8 +118,8 @@ impl Forecast<'_> {
         requires forecast { IsForecast self.now }
         requires draft { IsDraft self.now.outlook draft.now 1 }
         requires segment { draft.now.count < self.now.length }
-        requires told { IsForetold self.now.outlook (segment_after self.now.outlook draft.now) rung told }
-        ensures value { result ≡ loss_of self.now.outlook draft.now rung (wait_of self.now.outlook draft.now rung) }
+        requires told { IsTold self.now draft.now.count rung told }
+        ensures value { result ≡ loss_at self.now draft.now rung }
         ensures limit { result ≤ 200001000000000000 }
     {
         let weights = &self.outlook.setup.weights;
@@ -135,7 +135,8 @@ impl Forecast<'_> {
         requires segment { draft.count < self.now.length }
         requires rung { rung < ladder_of self.now.outlook }
         ensures value { result ≡ extended self.now.outlook draft rung }
-        ensures draft { (n : ℕ) → IsDraft self.now.outlook draft (n + 1) → IsDraft self.now.outlook result n }
+        ensures draft { (n : ℕ) → IsDraft self.now.outlook draft (n + 1)
+            → IsDraft self.now.outlook result n }
     {
         let seg_ms = self.outlook.film.seg_ms();
         let told = self.foretold(draft.count, rung);

@@ -8,7 +8,7 @@
 ghost use Rattle.std.specs.Prelude.{◌≡◌, ℕ, ◌+◌, ◌-◌, ◌*◌, ◌<◌, ◌≤◌, ◌≤ℤ◌};
 ghost use Rattle.std.specs.List.{All};
 ghost use Rattle.mpc_rule.specs.Search.{IsDraft, IsForecast, completions, ladder_of, weights_of};
-ghost use Rattle.mpc_rule.specs.Hopes.{IsHope, IsPromise, IsUnder, promise_of};
+ghost use Rattle.mpc_rule.specs.Hopes.{IsHope, IsPromise, IsUnder, promise_at};
 
 use crate::forecast::{Draft, Forecast, LONGEST};
 
@@ -28,7 +28,7 @@ impl Forecast<'_> {
         requires price { price ≤ (weights_of self.now.outlook).stall }
         requires segment { count < self.now.length }
         requires rung { rung < ladder_of self.now.outlook }
-        ensures value { result ≡ promise_of self.now.outlook price (self.now.outlook.context.now.next + count) rung }
+        ensures value { result ≡ promise_at self.now price count rung }
         ensures limits { IsPromise result }
     {
         let told = self.foretold(count, rung);
@@ -44,7 +44,7 @@ impl Forecast<'_> {
         requires price { price ≤ (weights_of self.now.outlook).stall }
         requires segment { count < self.now.length }
         ensures most { (rung : ℕ) → rung < ladder_of self.now.outlook
-            → promise_of self.now.outlook price (self.now.outlook.context.now.next + count) rung ≤ℤ result }
+            → promise_at self.now price count rung ≤ℤ result }
         ensures limits { IsPromise result }
     {
         let mut most = self.promise(price, count, 0);
