@@ -1,4 +1,7 @@
-pub mod Lists
-pub mod Cut
-pub mod Drafts
 pub mod History
+pub mod Prospects
+pub mod Floors
+pub mod Parts
+pub mod Lists
+pub mod Drafts
+pub mod Places

@@ -1,11 +1,11 @@
 -- The best of all completions of the empty list is the first list of the greatest horizon score.
-use Rattle.std.proofs.Common.{◌≡◌, ◌∙◌, ℕ, zero, suc, ◌+◌, ◌-◌, ◌*◌, ◌<◌, ◌≤◌, List, [], ◌∷◌, ◌++◌, length, Option, Some, None, Bool, true, false, cond, refl, sym, ap, arith, add-one, add-zero, length-set}
+use Rattle.std.proofs.Common.{◌≡◌, ◌∙◌, ℕ, zero, suc, ◌+◌, ◌-◌, ◌*◌, ◌<◌, ◌≤◌, List, [], ◌∷◌, ◌++◌, length, Option, Some, None, Bool, true, false, cond, refl, sym, ap, arith, ◌==◌, add-zero}
 use Rattle.std.specs.Prelude.{ℤ, pos, ◌+ℤ◌, ◌-ℤ◌, int_lt, map, slice_index, fold}
 use Rattle.std.specs.List.{All, flat_map}
 use Rattle.std.proofs.Math.Dec.{eqb-suc-zero}
 use Rattle.std.proofs.lemmas.Int.{ints}
 use Rattle.std.proofs.lemmas.Bool.{cond_both}
-use Rattle.std.proofs.lemmas.List.{map-append, get_or-set_same, get_or-set_other}
+use Rattle.std.proofs.lemmas.List.{map-append}
 use Rattle.std.proofs.lemmas.Simd.{map-map}
 use Rattle.std.proofs.lemmas.List.Elements.{All-nil, All-cons, All-head, All-tail, All-map}
 use Rattle.lab_model.specs.declared.setup.Setup.{Setup}
@@ -15,9 +15,9 @@ use Rattle.lab_model.specs.Horizon.{foretold_ms, horizon_score, next_level}
 use Rattle.lab_model.specs.Ladder.{rungs_below}
 use Rattle.lab_model.specs.Mpc.{best_list, lists_of}
 use Rattle.lab_model.proofs.Choices.{best_keeps, flat_fits}
-use Rattle.mpc_rule.specs.declared.search.Outlook.{Outlook}
-use Rattle.mpc_rule.specs.declared.search.Draft.{Draft}
-use Rattle.mpc_rule.specs.Search.{better, best_after, best_rung, completions, extended, first_rung, gain_of, ladder_of, rung_before, segment_after, start_of}
+use Rattle.mpc_rule.specs.declared.outlook.Outlook.{Outlook}
+use Rattle.mpc_rule.specs.declared.forecast.Draft.{Draft}
+use Rattle.mpc_rule.specs.Search.{better, best_after, best_rung, completions, extended, first_rung, gain_of, ladder_of, segment_after, start_of}
 
 -- ---- the completions are the lists, each added to the list in hand
 
@@ -53,70 +53,57 @@ horizon_more f s rate segment level before r rs = omega (arith, ints)
 
 -- the score that a list in hand comes to along rungs
 abbrev score_along : Outlook → Draft → List ℕ → ℤ
-score_along o d rs = horizon_score o.film.now o.setup.now o.rate (segment_after o d) d.level (rung_before o d) rs
-
--- after one more rung that rung is the one before
-before_extended : (o : Outlook) (d : Draft) (r : ℕ) → d.count < length d.rungs → rung_before o (extended o d r) ≡ Some r
-unfolding extended
-before_extended o d r room =
-    let back : d.count + 1 - 1 ≡ d.count = omega arith in
-    rw (back, add-one, eqb-suc-zero) (ap Some (get_or-set_same d.rungs d.count r 0 room))
+score_along o d rs = horizon_score o.film.now o.setup.now o.rate (segment_after o d) d.level d.before rs
 
 score_extended : (o : Outlook) (d : Draft) (r : ℕ) → (extended o d r).score ≡ d.score +ℤ gain_of o d r
 unfolding extended
 score_extended o d r = refl
 
-score_more : (o : Outlook) (d : Draft) (r : ℕ) (rs : List ℕ) → d.count < length d.rungs
-    → score_along o d (r ∷ rs) ≡ gain_of o d r +ℤ score_along o (extended o d r) rs
+score_more : (o : Outlook) (d : Draft) (r : ℕ) (rs : List ℕ) → score_along o d (r ∷ rs) ≡ gain_of o d r +ℤ score_along o (extended o d r) rs
 unfolding extended
-score_more o d r rs room =
+score_more o d r rs =
     let later : o.context.now.next + d.count + 1 ≡ o.context.now.next + (d.count + 1) = omega arith in
-    let before = before_extended o d r room in
-    horizon_more o.film.now o.setup.now o.rate (segment_after o d) d.level (rung_before o d) r rs
-    ∙ (λ i. gain_of o d r +ℤ horizon_score o.film.now o.setup.now o.rate (later i) (extended o d r).level (sym before i) rs)
+    horizon_more o.film.now o.setup.now o.rate (segment_after o d) d.level d.before r rs
+    ∙ (λ i. gain_of o d r +ℤ horizon_score o.film.now o.setup.now o.rate (later i) (extended o d r).level (Some r) rs)
 
--- the list in hand has room for so many rungs more
-abbrev HasRoom : Draft → ℕ → Type 0
-HasRoom d n = d.count + n ≤ length d.rungs
-
-room_extended : (o : Outlook) (d : Draft) (r n : ℕ) → HasRoom d (suc n) → HasRoom (extended o d r) n
-unfolding extended
-room_extended o d r n room = let same = length-set d.rungs d.count r in omega (arith, same, room)
-
-score_is : (o : Outlook) (rs : List ℕ) (d : Draft) → HasRoom d (length rs) → (along o d rs).score ≡ d.score +ℤ score_along o d rs
-score_is o [] d room = omega (arith, ints)
-score_is o (r ∷ rs) d room =
-    score_is o rs (extended o d r) (room_extended o d r (length rs) room)
+score_is : (o : Outlook) (rs : List ℕ) (d : Draft) → (along o d rs).score ≡ d.score +ℤ score_along o d rs
+score_is o [] d = omega (arith, ints)
+score_is o (r ∷ rs) d =
+    score_is o rs (extended o d r)
     ∙ (λ i. score_extended o d r i +ℤ score_along o (extended o d r) rs)
     ∙ add_assoc_z d.score (gain_of o d r) (score_along o (extended o d r) rs)
-    ∙ sym (ap (λ (z : ℤ). d.score +ℤ z) (score_more o d r rs (omega (arith, room))))
+    ∙ sym (ap (λ (z : ℤ). d.score +ℤ z) (score_more o d r rs))
   where
     add_assoc_z : (a b c : ℤ) → (a +ℤ b) +ℤ c ≡ a +ℤ (b +ℤ c)
     add_assoc_z a b c = omega (arith, ints)
 
 -- ---- the first rung of a list in hand stays
 
-first_extended : (o : Outlook) (d : Draft) (r : ℕ) → 0 < d.count → slice_index (extended o d r).rungs 0 ≡ slice_index d.rungs 0
+eqb_no : (n : ℕ) → 0 < n → (n == 0) ≡ false
+eqb_no zero some = absurd (omega (arith, some))
+eqb_no (suc n) some = eqb-suc-zero n
+
+first_extended : (o : Outlook) (d : Draft) (r : ℕ) → 0 < d.count → (extended o d r).first ≡ d.first
 unfolding extended
-first_extended o d r some = get_or-set_other d.rungs d.count 0 r 0 (λ e. omega (arith, some, e))
+first_extended o d r some = let none = eqb_no d.count some in rw none refl
 
 count_extended : (o : Outlook) (d : Draft) (r : ℕ) → (extended o d r).count ≡ d.count + 1
 unfolding extended
 count_extended o d r = refl
 
-first_along : (o : Outlook) (rs : List ℕ) (d : Draft) → 0 < d.count → slice_index (along o d rs).rungs 0 ≡ slice_index d.rungs 0
+first_along : (o : Outlook) (rs : List ℕ) (d : Draft) → 0 < d.count → (along o d rs).first ≡ d.first
 first_along o [] d some = refl
 first_along o (r ∷ rs) d some =
     let more = count_extended o d r in first_along o rs (extended o d r) (omega (arith, more)) ∙ first_extended o d r some
 
-first_of_extended : (o : Outlook) (d : Draft) (r : ℕ) → d.count ≡ 0 → 0 < length d.rungs → slice_index (extended o d r).rungs 0 ≡ r
+first_of_extended : (o : Outlook) (d : Draft) (r : ℕ) → d.count ≡ 0 → (extended o d r).first ≡ r
 unfolding extended
-first_of_extended o d r none room = rw none (get_or-set_same d.rungs 0 r 0 room)
+first_of_extended o d r none = rw none refl
 
-first_is : (o : Outlook) (l : List ℕ) (d : Draft) → d.count ≡ 0 → 0 < length d.rungs → 0 < length l → slice_index (along o d l).rungs 0 ≡ slice_index l 0
-first_is o [] d none room some = absurd (omega (arith, some))
-first_is o (r ∷ rs) d none room some =
-    let more = count_extended o d r in first_along o rs (extended o d r) (omega (arith, more)) ∙ first_of_extended o d r none room
+first_is : (o : Outlook) (l : List ℕ) (d : Draft) → d.count ≡ 0 → 0 < length l → (along o d l).first ≡ slice_index l 0
+first_is o [] d none some = absurd (omega (arith, some))
+first_is o (r ∷ rs) d none some =
+    let more = count_extended o d r in first_along o rs (extended o d r) (omega (arith, more)) ∙ first_of_extended o d r none
 
 -- ---- the first of the greatest score
 
@@ -145,7 +132,7 @@ module _ (score : List ℕ → ℤ) (hand : List ℕ → Draft) (P : List ℕ �
       ap (λ (b : Option Draft). fold better b (map hand ls)) (better_hand best l h k) ∙ best_hands (chosen best l) ls (chosen_fits best l h k) (All-tail P l ls all)
 
   -- the first rung of the best list in hand is that of the best list
-  best_first : (ls : List (List ℕ)) → ((l : List ℕ) → P l → slice_index (hand l).rungs 0 ≡ slice_index l 0) → All P ls
+  best_first : (ls : List (List ℕ)) → ((l : List ℕ) → P l → (hand l).first ≡ slice_index l 0) → All P ls
       → first_rung (fold better None (map hand ls)) ≡ slice_index (best_list score ls) 0
   unfolding chosen
   best_first [] first all = refl
@@ -167,8 +154,8 @@ pub best_is : (o : Outlook) (n : ℕ) → 0 < n → n ≤ 5 → first_rung (best
 best_is o n some few =
     ap (λ (ds : List Draft). first_rung (fold better None ds)) (completions_along o n (start_of o))
     ∙ best_first (score_along o (start_of o)) (along o (start_of o)) (λ l. length l ≡ n)
-    (λ l h. score_is o l (start_of o) (omega (arith, h)) ∙ nothing (score_along o (start_of o) l))
-    (lists_of (ladder_of o) n) (λ l h. first_is o l (start_of o) refl (omega arith) (omega (arith, h))) (lists_long (ladder_of o) n)
+    (λ l h. score_is o l (start_of o) ∙ nothing (score_along o (start_of o) l))
+    (lists_of (ladder_of o) n) (λ l h. first_is o l (start_of o) refl (omega (arith, h))) (lists_long (ladder_of o) n)
     ∙ ap (λ (segment : ℕ). slice_index (best_list (horizon_score o.film.now o.setup.now o.rate segment o.context.now.level o.context.now.last) (lists_of (ladder_of o) n)) 0) (add-zero o.context.now.next)
   where
     nothing : (z : ℤ) → pos 0 +ℤ z ≡ z

@@ -7,13 +7,17 @@ ghost use Rattle.lab_model.specs.Film.{IsWithin};
 ghost use Rattle.lab_model.specs.Rules.{mpc};
 ghost use Rattle.mpc_rule.specs.Recall.{Recall, StandsFor, rate_ahead};
 
+mod forecast;
+mod hope;
+mod outlook;
 mod ring;
 mod search;
 
 use circular_buffer::HeapCircularBuffer;
+use forecast::LONGEST;
 use lab_model::{Context, Manifest, Rule, Sample, Setup};
+use outlook::Outlook;
 use ring::{KEPT, error_in, greatest_in, harmonic_in};
-use search::{LONGEST, Outlook};
 use std::alloc::{AllocError, Global};
 use std::marker::Model;
 

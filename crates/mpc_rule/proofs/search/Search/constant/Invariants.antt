@@ -1,0 +1,6 @@
+use Rattle.std.proofs.Common.{◌-◌}
+use Rattle.mpc_rule.specs.Search.{IsDraft, IsPart}
+use Rattle.mpc_rule.proofs.search.Search.constant.Given as goal
+
+abbrev pub invariant-loop-i : goal.invariant-loop-i
+invariant-loop-i l = IsPart l.self.forecast l.i l.draft

@@ -1,0 +1,6 @@
+use Rattle.std.proofs.Common.{◌-◌}
+use Rattle.mpc_rule.specs.Search.{IsPart}
+use Rattle.mpc_rule.proofs.search.Search.led.Given as goal
+
+abbrev pub invariant-loop-count : goal.invariant-loop-count
+invariant-loop-count l = IsPart l.self.forecast l.count l.draft
