@@ -46,7 +46,8 @@ module _ {Y : Type 0} where
 
 -- ---- how many labels there are
 
-before_beyond : (g : Task) (chains : Chains) (i n : ℕ) → labels_before g chains i ≤ labels_before g chains (i + n)
+-- no fewer labels stand before a later segment
+pub before_beyond : (g : Task) (chains : Chains) (i n : ℕ) → labels_before g chains i ≤ labels_before g chains (i + n)
 before_beyond g chains i zero = subst (λ m. labels_before g chains i ≤ labels_before g chains m) (sym (add-zero i)) (itself (labels_before g chains i))
   where
     itself : (n : ℕ) → n ≤ n
