@@ -1,5 +1,5 @@
 -- What is read off coarse frontiers is a coarse plan, and on the grid 1, 1 the plan.
-use Rattle.std.proofs.Common.{◌≡◌, ◌∙◌, ℕ, suc, ◌+◌, ◌-◌, ◌<◌, ◌≤◌, List, Bool, length, refl, sym, ap, subst, arith}
+use Rattle.std.proofs.Common.{◌≡◌, ◌∙◌, ℕ, suc, ◌-◌, ◌≤◌, List, Bool, length, sym, ap, subst, arith}
 use Rattle.std.specs.Prelude.{ℤ, Result, Ok, Err}
 use Rattle.std.specs.Result.{IsErrAnd}
 use Rattle.std.specs.List.{Contains}
@@ -18,7 +18,7 @@ use Rattle.frontier_planner.specs.Grid.{exact}
 use Rattle.frontier_planner.specs.Grown.{grown}
 use Rattle.frontier_planner.specs.Layers.{CanPlan, FrontiersAnswer, HoldAll, HoldPlan, grown_labels, rungs_read}
 use Rattle.frontier_planner.specs.Parts.{CertificateParts, ChainParts, plan_parts}
-use Rattle.frontier_planner.specs.Read.{SpentAt, bound_of, certificate_of, chain_list, end_of_plan, has_table, labels_before, labels_in, list_of_plan, list_value, starts_of}
+use Rattle.frontier_planner.specs.Read.{SpentAt, bound_of, certificate_of, chain_list, end_of_plan, has_table, labels_in, list_of_plan, list_value, starts_of}
 use Rattle.frontier_planner.specs.Valid.{IsValid}
 use Rattle.frontier_planner.specs.Best.{Settles}
 use Rattle.frontier_planner.specs.Planned.{CoarseAnswer, ExactAnswer, IsPlanOf, IsShortCertificate, IsShortValue, PlanAnswer, without_bound}

@@ -1,9 +1,9 @@
 -- One sweep over labels in the order of time, delay and falling value keeps those that no other dominates.
-use Rattle.std.proofs.Common.{◌≡◌, ◌∙◌, ℕ, ◌+◌, ◌<◌, ◌≤◌, ◌⊎◌, inl, inr, ⊎_elim, List, [], ◌∷◌, ◌++◌, length, get_or, take, Bool, true, false, refl, sym, ap, subst, arith, Ordering, Less, Equal, Greater}
-use Rattle.std.specs.Prelude.{ℤ, ◌≤ℤ◌, ◌<ℤ◌, ◌↔◌}
-use Rattle.std.specs.List.{All, Contains}
+use Rattle.std.proofs.Common.{◌≡◌, ◌∙◌, ℕ, ◌<◌, ◌≤◌, ◌⊎◌, inl, inr, ⊎_elim, List, [], ◌∷◌, ◌++◌, length, get_or, take, Bool, false, sym, subst, arith, Less}
+use Rattle.std.specs.Prelude.{ℤ, ◌≤ℤ◌, ◌↔◌}
+use Rattle.std.specs.List.{Contains}
 use Rattle.std.specs.Cmp.{IsStrictWeakOrder, IsTotalOrder}
-use Rattle.std.specs.Ordering.{int_cmp, is_lt, nat_cmp}
+use Rattle.std.specs.Ordering.{is_lt}
 use Rattle.std.specs.List.Sorted.{IsPermutation, IsSortedBy, IsStrictlySortedBy}
 use Rattle.std.proofs.lemmas.Bool.{cases_lt}
 use Rattle.std.proofs.lemmas.Bool.Decides.{nat_tests}
@@ -14,7 +14,7 @@ use Rattle.std.proofs.lemmas.List.Elements.{All-append, All-nil, All-cons, Conta
 use Rattle.std.proofs.lemmas.List.Sorted.{Contains-permutation, IsPermutation-sym, ranks_by, sorted_far}
 use Rattle.lab_model.specs.declared.label.Label.{Label}
 use Rattle.frontier_planner.specs.Covers.{HasAbove}
-use Rattle.frontier_planner.specs.Frontier.{IsKept, label_cmp, undominated}
+use Rattle.frontier_planner.specs.Frontier.{label_cmp, undominated}
 use Rattle.frontier_planner.specs.Labels.{Dominates}
 use Rattle.frontier_planner.specs.Staircase.{IsRising}
 use Rattle.frontier_planner.specs.Sweep.{HasUnder, sweep_cmp}

@@ -1,19 +1,18 @@
 -- Of the labels of a segment some are enough for the frontiers of the next one.
-use Rattle.std.proofs.Common.{◌≡◌, ◌∙◌, ℕ, zero, suc, ◌+◌, ◌-◌, ◌*◌, ◌<◌, ◌≤◌, ◌⊎◌, inl, inr, ⊎_elim, List, [], ◌∷◌, ◌++◌, length, get_or, map, take, max, false, refl, sym, ap, subst, arith, mul-le-mul_left}
-use Rattle.std.specs.Prelude.{ℤ, pos, ◌+ℤ◌, ◌-ℤ◌, ◌≤ℤ◌, Some}
+use Rattle.std.proofs.Common.{◌≡◌, ◌∙◌, ℕ, zero, suc, ◌-◌, ◌*◌, ◌<◌, ◌≤◌, ◌⊎◌, inl, inr, ⊎_elim, List, [], ◌∷◌, ◌++◌, length, get_or, map, take, max, sym, ap, subst, arith}
+use Rattle.std.specs.Prelude.{ℤ, pos, ◌+ℤ◌, ◌-ℤ◌, ◌≤ℤ◌}
 use Rattle.std.specs.List.{All, Contains}
 use Rattle.std.specs.List.Sorted.{IsPermutation, IsSortedBy}
 use Rattle.std.specs.Cmp.{IsStrictWeakOrder}
 use Rattle.std.specs.Ordering.{is_lt}
 use Rattle.std.proofs.lemmas.Int.{ints}
 use Rattle.std.proofs.lemmas.List.Elements.{Contains-append_left, Contains-get_or, Contains-push, Contains-push_cases}
-use Rattle.std.proofs.lemmas.List.Sorted.{Contains-permutation, IsPermutation-sym, ranks_by, sorted_far}
+use Rattle.std.proofs.lemmas.List.Sorted.{Contains-permutation, IsPermutation-sym, ranks_by}
 use Rattle.lab_model.specs.declared.label.Label.{Label}
 use Rattle.lab_model.specs.Film.{rungs_of, segments_of}
-use Rattle.lab_model.specs.Weighing.{change_of, utility_of}
 use Rattle.frontier_planner.specs.declared.label.Grid.{Grid}
 use Rattle.frontier_planner.specs.Frontier.{undominated}
-use Rattle.frontier_planner.specs.Grid.{IsGrid, rounded}
+use Rattle.frontier_planner.specs.Grid.{rounded}
 use Rattle.frontier_planner.specs.Grown.{grown, successors}
 use Rattle.frontier_planner.specs.Labels.{Dominates, IsTask, Task, came_at, next_label, request_at}
 use Rattle.frontier_planner.specs.Layers.{CanPlan, grown_labels}

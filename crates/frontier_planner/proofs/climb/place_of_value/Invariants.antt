@@ -1,4 +1,4 @@
-use Rattle.std.proofs.Common.{◌-◌, ◌*◌, ◌≤◌, length}
+use Rattle.std.proofs.Common.{◌-◌, ◌≤◌, length}
 use Rattle.frontier_planner.specs.Climbing.{IsLessBefore}
 use Rattle.frontier_planner.proofs.climb.place_of_value.Given as goal
 

@@ -1,5 +1,4 @@
-use Rattle.std.proofs.Common.{◌≡◌, ◌∙◌, ◌+◌, ◌-◌, ◌<◌, ◌≤◌, [], ◌∷◌, ap, length, length-append, refl, subst, sym, arith}
-use Rattle.lab_model.specs.Film.{rungs_of}
+use Rattle.std.proofs.Common.{◌∙◌, [], ◌∷◌, ap, length, length-append, subst, sym, arith}
 use Rattle.frontier_planner.specs.Grown.{grown}
 use Rattle.frontier_planner.specs.Brief.{task_in}
 use Rattle.frontier_planner.specs.Layers.{HoldsFrontiers}

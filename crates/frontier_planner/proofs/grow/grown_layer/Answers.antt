@@ -1,4 +1,4 @@
-use Rattle.std.proofs.Common.{◌≡◌, ◌∙◌, ◌+◌, ◌<◌, ◌≤◌, ap, length, refl, sym, arith}
+use Rattle.std.proofs.Common.{◌≡◌, ◌∙◌, ◌+◌, ap, length, refl, arith}
 use Rattle.lab_model.specs.Film.{rungs_of}
 use Rattle.frontier_planner.specs.Frontier.{by_rung}
 use Rattle.frontier_planner.specs.Grown.{grown}

@@ -1,5 +1,4 @@
 use Rattle.std.proofs.Common.{◌∙◌, get_or, subst, sym}
-use Rattle.std.specs.List.{Contains}
 use Rattle.std.proofs.lemmas.List.Elements.{Contains-get_or}
 use Rattle.lab_model.specs.declared.label.Label.{Label}
 use Rattle.frontier_planner.specs.Brief.{task_in}

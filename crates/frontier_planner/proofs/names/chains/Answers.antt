@@ -1,4 +1,4 @@
-use Rattle.std.proofs.Common.{◌≡◌, ◌∙◌, ◌++◌, ap, sym}
+use Rattle.std.proofs.Common.{◌∙◌, ◌++◌, ap, sym}
 use Rattle.frontier_planner.specs.Brief.{task_in}
 use Rattle.frontier_planner.specs.Layers.{chains_read}
 use Rattle.frontier_planner.proofs.Naming.{list_pushed}

@@ -1,4 +1,4 @@
-use Rattle.std.proofs.Common.{◌≡◌, ◌+◌, ◌++◌, suc, map}
+use Rattle.std.proofs.Common.{◌≡◌, ◌++◌, suc, map}
 use Rattle.lab_model.specs.Ladder.{rungs_below}
 use Rattle.frontier_planner.specs.Grown.{grown}
 use Rattle.frontier_planner.specs.Brief.{task_in}

@@ -1,6 +1,5 @@
 use Rattle.std.proofs.Common.{rules, ◌≡◌, ◌+◌, ◌∙◌, of_z, subst, to_z}
 use Rattle.std.specs.Int.{w64}
-use Rattle.std.proofs.lemmas.Int.{to_z-of_z}
 use Rattle.frontier_planner.specs.Brief.{task_in}
 use Rattle.frontier_planner.specs.Climbing.{Reaches}
 use Rattle.frontier_planner.specs.Labels.{next_label}

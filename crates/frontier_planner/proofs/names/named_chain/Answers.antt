@@ -1,5 +1,4 @@
-use Rattle.std.proofs.Common.{◌≡◌, ◌∙◌, ◌+◌, ◌<◌, ◌≤◌, ap, arith}
-use Rattle.lab_model.specs.Film.{segments_of}
+use Rattle.std.proofs.Common.{◌∙◌, ap, arith}
 use Rattle.frontier_planner.specs.Brief.{task_in}
 use Rattle.frontier_planner.proofs.Naming.{chain_is, named_no, named_yes, rung_inside}
 use Rattle.frontier_planner.proofs.names.named_chain.Goals as goal

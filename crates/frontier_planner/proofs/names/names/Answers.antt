@@ -1,7 +1,6 @@
-use Rattle.std.proofs.Common.{◌≡◌, ◌∙◌, ◌+◌, ◌<◌, ap, length, arith}
+use Rattle.std.proofs.Common.{◌∙◌, ap, length, arith}
 use Rattle.std.specs.List.{flat_map}
 use Rattle.std.proofs.lemmas.List.{take_all}
-use Rattle.lab_model.specs.Film.{segments_of}
 use Rattle.frontier_planner.specs.Grown.{grown}
 use Rattle.frontier_planner.specs.Brief.{task_in}
 use Rattle.frontier_planner.specs.Layers.{names_read}

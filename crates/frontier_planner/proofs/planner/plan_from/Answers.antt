@@ -1,5 +1,4 @@
 use Rattle.std.proofs.Common.{subst}
-use Rattle.frontier_planner.specs.Brief.{task_in}
 use Rattle.frontier_planner.specs.Labels.{task_of}
 use Rattle.frontier_planner.specs.Layers.{CanPlan}
 use Rattle.frontier_planner.specs.Planned.{CoarseAnswer}

@@ -1,12 +1,10 @@
-use Rattle.std.proofs.Common.{rules, ◌≡◌, ◌∙◌, ◌-◌, ◌≤◌, ap, sym, subst, arith, not, eqb, of_z, to_z}
+use Rattle.std.proofs.Common.{rules, ◌≡◌, ◌∙◌, ◌-◌, ap, sym, subst, arith, not, eqb, of_z, to_z}
 use Rattle.std.specs.Int.{w128}
-use Rattle.std.proofs.lemmas.Int.{to_z-of_z}
 use Rattle.lab_model.specs.Film.{segments_of}
 use Rattle.frontier_planner.specs.Brief.{task_in}
-use Rattle.frontier_planner.specs.Grown.{grown}
 use Rattle.frontier_planner.specs.Labels.{AreRungs, end_value}
 use Rattle.frontier_planner.specs.Layers.{HoldPlan}
-use Rattle.frontier_planner.specs.Read.{labels_in, list_value}
+use Rattle.frontier_planner.specs.Read.{list_value}
 use Rattle.frontier_planner.proofs.Planned.{coarse_is, end_there, frontiers_stop, list_is, parts_are, plan_held}
 use Rattle.frontier_planner.proofs.ReadBack.{list_fits}
 use Rattle.frontier_planner.proofs.Follows.{label_follows}

@@ -1,4 +1,4 @@
-use Rattle.std.proofs.Common.{ℕ, ◌*◌, ◌<◌, ◌≤◌, arith, mul-le-mul_left, subst, sym}
+use Rattle.std.proofs.Common.{ℕ, ◌*◌, ◌≤◌, arith, mul-le-mul_left, subst, sym}
 use Rattle.std.specs.Prelude.{Some}
 use Rattle.lab_model.specs.Weighing.{Weighing, change_of, utility_of}
 use Rattle.frontier_planner.proofs.thin.dearest_change.Goals as goal

@@ -1,6 +1,5 @@
-use Rattle.std.proofs.Common.{◌≡◌, ◌∙◌, take, get_or, pos, sym, subst, inl}
-use Rattle.std.proofs.lemmas.List.{take_more, take_all}
-use Rattle.std.proofs.lemmas.Bool.{false≢true}
+use Rattle.std.proofs.Common.{get_or, subst, inl}
+use Rattle.std.proofs.lemmas.List.{take_more}
 use Rattle.lab_model.specs.declared.label.Label.{Label}
 use Rattle.frontier_planner.specs.Read.{no_label}
 use Rattle.frontier_planner.specs.Sweep.{HasUnder}

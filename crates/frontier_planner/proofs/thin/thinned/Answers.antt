@@ -1,8 +1,7 @@
-use Rattle.std.proofs.Common.{◌≡◌, ◌-◌, get_or, sym, subst, arith}
+use Rattle.std.proofs.Common.{◌-◌, get_or, sym, subst, arith}
 use Rattle.std.specs.List.{All, Contains}
 use Rattle.std.proofs.lemmas.List.Elements.{Contains-get_or}
 use Rattle.std.proofs.lemmas.Result.{IfOk-weaker}
-use Rattle.lab_model.specs.declared.label.Label.{Label}
 use Rattle.frontier_planner.specs.Brief.{AreFollowed, task_in}
 use Rattle.frontier_planner.specs.Near.{CanFollow}
 use Rattle.frontier_planner.specs.Thinned.{AreLeaders}
