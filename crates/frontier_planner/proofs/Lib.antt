@@ -29,3 +29,5 @@ pub mod Naming
 pub mod Short
 pub mod Planned
 pub mod Passed
+pub mod Thinned
+pub mod Climbing

@@ -1,5 +1,5 @@
 -- Names and chains as they are read off layers.
-use Rattle.std.proofs.Common.{◌≡◌, ◌∙◌, ℕ, zero, suc, ◌+◌, ◌-◌, ◌<◌, ◌≤◌, List, [], ◌∷◌, ◌++◌, length, get_or, take, map, refl, sym, ap, ap₂, subst, arith, add-one, add-zero, lt-ltb}
+use Rattle.std.proofs.Common.{◌≡◌, ◌∙◌, ℕ, zero, suc, ◌+◌, ◌-◌, ◌<◌, ◌≤◌, List, [], ◌∷◌, ◌++◌, length, get_or, take, map, sym, ap, subst, arith, add-one, add-zero, lt-ltb}
 use Rattle.std.specs.Prelude.{Vec, nat_lt, vec_len}
 use Rattle.std.specs.Global.{Global}
 use Rattle.std.specs.List.{Contains, flat_map}
@@ -14,11 +14,9 @@ use Rattle.lab_model.specs.Ladder.{rungs_below}
 use Rattle.lab_model.proofs.Rungs.{rungs_more}
 use Rattle.frontier_planner.specs.declared.label.Grid.{Grid}
 use Rattle.frontier_planner.specs.declared.grow.Layer.{Layer}
-use Rattle.frontier_planner.specs.Frontier.{by_rung}
 use Rattle.frontier_planner.specs.Grown.{grown}
 use Rattle.frontier_planner.specs.Labels.{Task, next_label, start_label}
 use Rattle.frontier_planner.specs.Layers.{HoldPlan, chain_read, grown_labels, names_read}
-use Rattle.frontier_planner.specs.Parts.{ChainParts}
 use Rattle.frontier_planner.specs.Read.{Chains, labels_before, labels_in, names_of, names_of_label, place_above}
 use Rattle.frontier_planner.proofs.Layers.{before_more, by_rung_count, by_rung_fewer, held_at}
 use Rattle.frontier_planner.proofs.Walks.{in_by_rung}

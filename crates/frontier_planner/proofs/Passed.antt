@@ -2,7 +2,6 @@
 use Rattle.std.proofs.Common.{◌≡◌, ◌∙◌, ◌↔◌, ◌⊎◌, ⊎_elim, ℕ, ◌+◌, ◌-◌, ◌*◌, ◌/◌, ◌%◌, ◌<◌, ◌≤◌, true, List, [], ◌∷◌, ◌++◌, length, get_or, min, inl, inr, sym, ap, subst, div-add-mod', arith}
 use Rattle.std.specs.Prelude.{ℤ, ◌≤ℤ◌, Vec}
 use Rattle.std.specs.Global.{Global}
-use Rattle.std.specs.List.{All}
 use Rattle.std.proofs.lemmas.Bool.{cases_Bool, cases_lt}
 use Rattle.std.proofs.lemmas.Int.{ints}
 use Rattle.std.proofs.lemmas.List.{get_or_append_left, get_or_default, length_push}
@@ -10,9 +9,10 @@ use Rattle.std.proofs.lemmas.Nat.{mod_below}
 use Rattle.std.proofs.Math.Nat.{div-lt_iff_lt-mul}
 use Rattle.std.proofs.Math.Seq.{get_or-append_seam}
 use Rattle.lab_model.specs.declared.label.Label.{Label}
+use Rattle.frontier_planner.specs.declared.blocks.Finder.{Finder}
 use Rattle.frontier_planner.specs.declared.blocks.Level.{Level}
 use Rattle.frontier_planner.specs.declared.staircase.Staircase.{Staircase}
-use Rattle.frontier_planner.specs.Blocks.{HaveLevels, IsLevel, IsOver, NoneBefore}
+use Rattle.frontier_planner.specs.Blocks.{HaveFinders, IsFinder, IsLevel, IsOver, NoneBefore}
 use Rattle.frontier_planner.specs.Labels.{dominates}
 use Rattle.frontier_planner.specs.Read.{no_label}
 use Rattle.frontier_planner.specs.Staircase.{IsRising}
@@ -130,28 +130,28 @@ block_passed chain level place s l h low none free k high there =
     let under = h.over b k s (block_inside chain level place h low) (omega (arith, parts, new)) (omega (arith, parts, part, high)) there in
     ⊎_elim (λ (yes : dominates (get_or chain k no_label) l ≡ true). absurd (free (under_less _ (get_or chain k no_label) l yes under))) (λ no. no) (cases_Bool (dominates (get_or chain k no_label) l))) (cases_lt k place)
 
--- ---- the levels of several chains
+-- ---- the finders of several chains
 
--- each of the chains before a place has its levels
-abbrev pub EachHas : List (Vec Label Global) → List (Vec Level Global) → ℕ → Type 0
-EachHas chains levels n = (q : ℕ) (v : Vec Label Global) (x : Vec Level Global) → q < n → All (IsLevel (get_or chains q v).items) (get_or levels q x).items
+-- each of the chains before a place has its finder
+abbrev pub EachHas : List (Vec Label Global) → List Finder → ℕ → Type 0
+EachHas chains finders n = (q : ℕ) (v : Vec Label Global) (x : Finder) → q < n → IsFinder (get_or chains q v).items (get_or finders q x)
 
--- with the levels of the next chain behind them, one chain more has its levels
-pub levels_more : (chains : List (Vec Label Global)) (levels : List (Vec Level Global)) (i : ℕ) (c : Vec Label Global) (labels : List Label) (new : Vec Level Global)
-    → i < length chains → length levels ≡ i → c ≡ get_or chains i c → labels ≡ c.items → All (IsLevel labels) new.items → EachHas chains levels i → EachHas chains (levels ++ new ∷ []) (i + 1)
-levels_more chains levels i c labels new low count here are has each q v x before =
+-- with the finder of the next chain behind them, one chain more has its finder
+pub finders_more : (chains : List (Vec Label Global)) (finders : List Finder) (i : ℕ) (c : Vec Label Global) (labels : List Label) (new : Finder)
+    → i < length chains → length finders ≡ i → c ≡ get_or chains i c → labels ≡ c.items → IsFinder labels new → EachHas chains finders i → EachHas chains (finders ++ new ∷ []) (i + 1)
+finders_more chains finders i c labels new low count here are is each q v x before =
     ⊎_elim
-    (λ (old : q < i). subst (λ (w : Vec Level Global). All (IsLevel (get_or chains q v).items) w.items) (sym (get_or_append_left levels (new ∷ []) x q (omega (arith, old, count)))) (each q v x old))
+    (λ (old : q < i). subst (IsFinder (get_or chains q v).items) (sym (get_or_append_left finders (new ∷ []) x q (omega (arith, old, count)))) (each q v x old))
     (λ (last : i ≤ q).
     let e : i ≡ q = omega arith in
     let at = are ∙ ap (λ (w : Vec Label Global). w.items) (here ∙ get_or_default chains i c v low) in
-    let seam : get_or (levels ++ new ∷ []) i x ≡ new = ap (λ n. get_or (levels ++ new ∷ []) n x) (sym count) ∙ get_or-append_seam levels new [] x in
-    subst (λ n. All (IsLevel (get_or chains n v).items) (get_or (levels ++ new ∷ []) n x).items) e
-    (subst (λ (w : Vec Level Global). All (IsLevel (get_or chains i v).items) w.items) (sym seam) (subst (λ (ls : List Label). All (IsLevel ls) new.items) at has))) (cases_lt q i)
+    let seam : get_or (finders ++ new ∷ []) i x ≡ new = ap (λ n. get_or (finders ++ new ∷ []) n x) (sym count) ∙ get_or-append_seam finders new [] x in
+    subst (λ n. IsFinder (get_or chains n v).items (get_or (finders ++ new ∷ []) n x)) e
+    (subst (IsFinder (get_or chains i v).items) (sym seam) (subst (λ (ls : List Label). IsFinder ls new) at is))) (cases_lt q i)
 
--- the levels of a chain that was read
-pub levels_there : (chains : List (Vec Label Global)) (levels : List (Vec Level Global)) (q : ℕ) (v : Vec Label Global) (x : Vec Level Global) (labels : List Label) (found : List Level)
-    → HaveLevels chains levels → q < length chains → v ≡ get_or chains q v → labels ≡ v.items → x ≡ get_or levels q x → found ≡ x.items → All (IsLevel labels) found
-levels_there chains levels q v x labels found h low there labels_are here found_are =
-    subst (λ (ls : List Label). All (IsLevel ls) found) (sym (labels_are ∙ ap (λ (w : Vec Label Global). w.items) there))
-    (subst (λ (fs : List Level). All (IsLevel (get_or chains q v).items) fs) (sym (found_are ∙ ap (λ (w : Vec Level Global). w.items) here)) (h.each q v x low))
+-- the finder of a chain that was read
+pub finder_there : (chains : List (Vec Label Global)) (finders : List Finder) (q : ℕ) (v : Vec Label Global) (x : Finder) (labels : List Label)
+    → HaveFinders chains finders → q < length chains → v ≡ get_or chains q v → labels ≡ v.items → x ≡ get_or finders q x → IsFinder labels x
+finder_there chains finders q v x labels h low there labels_are here =
+    subst (λ (ls : List Label). IsFinder ls x) (sym (labels_are ∙ ap (λ (w : Vec Label Global). w.items) there))
+    (subst (IsFinder (get_or chains q v).items) (sym here) (h.each q v x low))

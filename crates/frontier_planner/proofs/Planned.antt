@@ -1,5 +1,5 @@
 -- What is read off coarse frontiers is a coarse plan, and on the grid 1, 1 the plan.
-use Rattle.std.proofs.Common.{◌≡◌, ◌∙◌, ℕ, suc, ◌+◌, ◌-◌, ◌<◌, ◌≤◌, List, Bool, refl, sym, ap, subst, arith}
+use Rattle.std.proofs.Common.{◌≡◌, ◌∙◌, ℕ, suc, ◌-◌, ◌≤◌, List, Bool, length, sym, ap, subst, arith}
 use Rattle.std.specs.Prelude.{ℤ, Result, Ok, Err}
 use Rattle.std.specs.Result.{IsErrAnd}
 use Rattle.std.specs.List.{Contains}
@@ -7,6 +7,7 @@ use Rattle.lab_model.specs.declared.label.Label.{Label}
 use Rattle.lab_model.specs.Film.{rungs_of, segments_of}
 use Rattle.frontier_planner.specs.declared.label.Grid.{Grid}
 use Rattle.frontier_planner.specs.declared.grow.Frontiers.{Frontiers}
+use Rattle.frontier_planner.specs.declared.grow.Layer.{Layer}
 use Rattle.frontier_planner.specs.declared.plans.CoarsePlan.{CoarsePlan}
 use Rattle.frontier_planner.specs.declared.plans.Plan.{Plan}
 use Rattle.frontier_planner.specs.declared.plans.PlanErr.{PlanErr}
@@ -15,9 +16,9 @@ use Rattle.frontier_planner.specs.Labels.{Task}
 use Rattle.frontier_planner.specs.Frontier.{frontier}
 use Rattle.frontier_planner.specs.Grid.{exact}
 use Rattle.frontier_planner.specs.Grown.{grown}
-use Rattle.frontier_planner.specs.Layers.{CanPlan, FrontiersAnswer, grown_labels, rungs_read}
+use Rattle.frontier_planner.specs.Layers.{CanPlan, FrontiersAnswer, HoldAll, HoldPlan, grown_labels, rungs_read}
 use Rattle.frontier_planner.specs.Parts.{CertificateParts, ChainParts, plan_parts}
-use Rattle.frontier_planner.specs.Read.{SpentAt, bound_of, certificate_of, chain_list, end_of_plan, has_table, labels_before, labels_in, list_of_plan, list_value, starts_of}
+use Rattle.frontier_planner.specs.Read.{SpentAt, bound_of, certificate_of, chain_list, end_of_plan, has_table, labels_in, list_of_plan, list_value, starts_of}
 use Rattle.frontier_planner.specs.Valid.{IsValid}
 use Rattle.frontier_planner.specs.Best.{Settles}
 use Rattle.frontier_planner.specs.Planned.{CoarseAnswer, ExactAnswer, IsPlanOf, IsShortCertificate, IsShortValue, PlanAnswer, without_bound}
@@ -32,6 +33,10 @@ module _ (d : Grid) (g : Task) (case : CanPlan d g) (budget : ℕ) where
   pub list_is : (last : ℕ) (c : ℕ × Label) (rungs : List ℕ) → last ≡ segments_of g.film - 1 → c ≡ end_of_plan g (grown d g) → rungs ≡ rungs_read d g last c → rungs ≡ list_of_plan d g (grown d g)
   unfolding list_of_plan
   list_is last c rungs at end is = is ∙ ap (λ n. rungs_read d g n c) at ∙ ap (rungs_read d g (segments_of g.film - 1)) end
+
+  -- the layers within the budget are those of a plan
+  pub plan_held : (layers : List Layer) (count : ℕ) → budget ≤ 1000000 → HoldAll d g layers × (length layers ≡ segments_of g.film) × (count ≡ labels_in g (grown d g)) × (count ≤ budget) → HoldPlan d g layers
+  plan_held layers count small h = let sum = h.2 in let most = h.3 in record { case = case; holds = h.0; count = h.1; few = omega (arith, sum, most, small) }
 
   -- the end stands in the last segment
   pub end_there : (last : ℕ) (c : ℕ × Label) → last ≡ segments_of g.film - 1 → c ≡ end_of_plan g (grown d g) → Contains (grown_labels d g last) c

@@ -92,7 +92,7 @@ start_reach g is q rung =
     }
 
 -- the request after a label comes soon
-request_soon : (g : Task) → IsTask g → (i : ℕ) → suc i < segments_of g.film → (l : Label) → IsInReach i l → request_at g (suc i) l ≤ (i + 1) * 500000000 + 120000000
+pub request_soon : (g : Task) → IsTask g → (i : ℕ) → suc i < segments_of g.film → (l : Label) → IsInReach i l → request_at g (suc i) l ≤ (i + 1) * 500000000 + 120000000
 request_soon g is i low l h =
     let time = h.time in
     let delay = h.delay in

@@ -1,6 +1,6 @@
 -- Reading a plan off layers: the best end, the parent that a search finds, and the labels along a list.
 use Rattle.std.proofs.Common.{◌≡◌, ◌∙◌, ℕ, zero, suc, ◌+◌, ◌-◌, ◌<◌, ◌≤◌, List, [], ◌∷◌, ◌++◌, length, get_or, drop, drop-cons, cond, Bool, true, false, Some, None, ◌&&◌, eqb, refl, sym, ap, subst, arith, add-one}
-use Rattle.std.specs.Prelude.{ℤ, ◌<ℤ◌, ◌≤ℤ◌, int_lt, slice_index, unwrap_or}
+use Rattle.std.specs.Prelude.{slice_index, unwrap_or}
 use Rattle.std.specs.Ordering.{int_eq}
 use Rattle.std.specs.List.{Contains, best_of, find}
 use Rattle.std.proofs.lemmas.Bool.Decides.{nat_tests}
@@ -10,7 +10,7 @@ use Rattle.std.proofs.lemmas.Int.{ints}
 use Rattle.lab_model.specs.declared.label.Label.{Label}
 use Rattle.lab_model.specs.Film.{rungs_of, segments_of}
 use Rattle.frontier_planner.specs.declared.label.Grid.{Grid}
-use Rattle.frontier_planner.specs.Labels.{AreRungs, IsTask, Task, end_value, label_at, next_label}
+use Rattle.frontier_planner.specs.Labels.{AreRungs, IsTask, Task, label_at, next_label}
 use Rattle.frontier_planner.specs.Near.{CanFollow}
 use Rattle.frontier_planner.specs.Frontier.{is_same}
 use Rattle.frontier_planner.specs.Grid.{rounded}
@@ -21,7 +21,7 @@ use Rattle.frontier_planner.proofs.Follows.{label_follows}
 use Rattle.frontier_planner.proofs.Grown.{from_next, grown_covers}
 use Rattle.frontier_planner.proofs.Order.{label_total}
 use Rattle.frontier_planner.proofs.Path.{label_next}
-use Rattle.frontier_planner.proofs.ReadBack.{back_first, back_next, parent_found, some_label}
+use Rattle.frontier_planner.proofs.ReadBack.{back_next, parent_found, some_label}
 use Rattle.frontier_planner.proofs.Reached.{label_reach, reach_follows}
 use Rattle.frontier_planner.proofs.Walks.{find_found, from_by_rung, in_by_rung}
 

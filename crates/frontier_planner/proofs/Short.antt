@@ -1,7 +1,7 @@
 -- The numbers of a plan's certificate are no longer than its text may have them.
-use Rattle.std.proofs.Common.{◌≡◌, ◌∙◌, ℕ, zero, suc, ◌+◌, ◌-◌, ◌*◌, ◌<◌, ◌≤◌, List, [], ◌∷◌, ◌++◌, length, map, Bool, true, false, refl, sym, ap, subst, arith, add-one}
-use Rattle.std.specs.Prelude.{ℤ, pos, ◌-ℤ◌, ◌≤ℤ◌, nat_lt}
-use Rattle.std.specs.List.{All, Contains, flat_map, sum_by}
+use Rattle.std.proofs.Common.{◌≡◌, ◌∙◌, ℕ, zero, suc, ◌+◌, ◌-◌, ◌*◌, ◌<◌, ◌≤◌, List, [], ◌∷◌, ◌++◌, length, map, refl, sym, ap, subst, arith, add-one}
+use Rattle.std.specs.Prelude.{ℤ, pos, ◌-ℤ◌, nat_lt}
+use Rattle.std.specs.List.{All, Contains, flat_map}
 use Rattle.std.proofs.Math.Nat.{mul-le-mul}
 use Rattle.std.proofs.lemmas.Bool.{cond_both, ltb-true}
 use Rattle.std.proofs.lemmas.Int.{ints}
@@ -12,19 +12,19 @@ use Rattle.lab_model.specs.Film.{rungs_of, segments_of}
 use Rattle.lab_model.specs.Ladder.{rungs_below}
 use Rattle.frontier_planner.specs.declared.label.Grid.{Grid}
 use Rattle.frontier_planner.specs.Frontier.{by_rung}
-use Rattle.frontier_planner.specs.Labels.{IsTask, Task, dominates, end_value, label_at, next_label, start_label}
+use Rattle.frontier_planner.specs.Labels.{IsTask, Task, end_value, label_at, next_label, start_label}
 use Rattle.frontier_planner.specs.Near.{IsNear}
 use Rattle.frontier_planner.specs.Grown.{grown}
 use Rattle.frontier_planner.specs.Layers.{CanPlan}
 use Rattle.frontier_planner.specs.Parts.{ChainParts}
-use Rattle.frontier_planner.specs.Read.{Chains, bound_of, certificate_of, chain_list, chain_with_names, end_of_plan, labels_before, labels_in, list_of_plan, list_value, names_of, names_of_label, place_above, starts_of}
+use Rattle.frontier_planner.specs.Read.{Chains, bound_of, certificate_of, chain_list, chain_with_names, end_of_plan, labels_before, labels_in, list_of_plan, names_of, names_of_label, place_above, starts_of}
 use Rattle.frontier_planner.specs.Planned.{IsShort, IsShortCertificate, IsShortChain, IsShortValue, label_count}
 use Rattle.frontier_planner.proofs.Follows.{in_reach}
 use Rattle.frontier_planner.proofs.Layers.{before_more, before_none, by_rung_count}
 use Rattle.frontier_planner.proofs.Naming.{chain_within, list_pushed, rung_pushed}
 use Rattle.frontier_planner.proofs.Reached.{IsInReach, grown_reach, label_reach}
 use Rattle.frontier_planner.proofs.ReadBack.{end_found, list_fits}
-use Rattle.frontier_planner.proofs.Walks.{from_flat_map, from_map, from_rungs, none_at}
+use Rattle.frontier_planner.proofs.Walks.{from_flat_map, from_map, from_rungs}
 
 -- what holds of what a list contains holds of all of it
 all_by : {X : Type 0} (P : X → Type 0) (xs : List X) → ((x : X) → Contains xs x → P x) → All P xs

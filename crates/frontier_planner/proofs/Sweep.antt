@@ -1,9 +1,9 @@
 -- One sweep over labels in the order of time, delay and falling value keeps those that no other dominates.
-use Rattle.std.proofs.Common.{◌≡◌, ◌∙◌, ℕ, ◌+◌, ◌<◌, ◌≤◌, ◌⊎◌, inl, inr, ⊎_elim, List, [], ◌∷◌, ◌++◌, length, get_or, take, Bool, true, false, refl, sym, ap, subst, arith, Ordering, Less, Equal, Greater}
-use Rattle.std.specs.Prelude.{ℤ, ◌≤ℤ◌, ◌<ℤ◌, ◌↔◌}
-use Rattle.std.specs.List.{All, Contains}
+use Rattle.std.proofs.Common.{◌≡◌, ◌∙◌, ℕ, ◌<◌, ◌≤◌, ◌⊎◌, inl, inr, ⊎_elim, List, [], ◌∷◌, ◌++◌, length, get_or, take, Bool, false, sym, subst, arith, Less}
+use Rattle.std.specs.Prelude.{ℤ, ◌≤ℤ◌, ◌↔◌}
+use Rattle.std.specs.List.{Contains}
 use Rattle.std.specs.Cmp.{IsStrictWeakOrder, IsTotalOrder}
-use Rattle.std.specs.Ordering.{int_cmp, is_lt, nat_cmp}
+use Rattle.std.specs.Ordering.{is_lt}
 use Rattle.std.specs.List.Sorted.{IsPermutation, IsSortedBy, IsStrictlySortedBy}
 use Rattle.std.proofs.lemmas.Bool.{cases_lt}
 use Rattle.std.proofs.lemmas.Bool.Decides.{nat_tests}
@@ -14,7 +14,7 @@ use Rattle.std.proofs.lemmas.List.Elements.{All-append, All-nil, All-cons, Conta
 use Rattle.std.proofs.lemmas.List.Sorted.{Contains-permutation, IsPermutation-sym, ranks_by, sorted_far}
 use Rattle.lab_model.specs.declared.label.Label.{Label}
 use Rattle.frontier_planner.specs.Covers.{HasAbove}
-use Rattle.frontier_planner.specs.Frontier.{IsKept, label_cmp, undominated}
+use Rattle.frontier_planner.specs.Frontier.{label_cmp, undominated}
 use Rattle.frontier_planner.specs.Labels.{Dominates}
 use Rattle.frontier_planner.specs.Staircase.{IsRising}
 use Rattle.frontier_planner.specs.Sweep.{HasUnder, sweep_cmp}
@@ -31,7 +31,8 @@ NotBefore m l = is_lt (sweep_cmp l m) ≡ false
 
 -- ---- what an earlier place says
 
-times : (a b : Label) → NotBefore a b → a.t ≤ b.t
+-- is no later
+pub times : (a b : Label) → NotBefore a b → a.t ≤ b.t
 times a b h = grind (arith, nat_tests, ints)
 
 delays : (a b : Label) → NotBefore a b → a.t ≡ b.t → a.p ≤ b.p
@@ -163,15 +164,19 @@ swept_all xs kept steps s =
 pub sweep_ranks : IsStrictWeakOrder (λ (a b : Label). is_lt (sweep_cmp a b))
 sweep_ranks = ranks_by sweep_total (λ (l : Label). l)
 
--- in a list in order none of the labels so far is swept after the next
-pub none_after : (xs : List Label) (i : ℕ) (d : Label) → IsSortedBy (λ a b. is_lt (sweep_cmp a b)) xs → i < length xs → (m : Label) → Contains (take i xs) m → NotBefore m (get_or xs i d)
-none_after xs i d h low m there =
+-- in a list in order none of the members so far comes behind the next
+pub none_behind : {X : Type 0} → (less : X → X → Bool) → IsStrictWeakOrder less → (xs : List X) (i : ℕ) (d : X) → IsSortedBy less xs → i < length xs → (m : X) → Contains (take i xs) m → less (get_or xs i d) m ≡ false
+none_behind less ranks xs i d h low m there =
     let within = there.1 in
     let short = length-take-le i xs (omega arith) in
     let at = get_or-take i xs there.0 m (omega (arith, within, short)) in
-    let far = sorted_far (λ a b. is_lt (sweep_cmp a b)) sweep_ranks xs h there.0 i m (omega (arith, within, short)) low in
-    subst (λ y. is_lt (sweep_cmp (get_or xs i d) y) ≡ false) (sym at ∙ there.2)
-    (subst (λ y. is_lt (sweep_cmp y (get_or xs there.0 m)) ≡ false) (get_or_default xs i m d low) far)
+    let far = sorted_far less ranks xs h there.0 i m (omega (arith, within, short)) low in
+    subst (λ y. less (get_or xs i d) y ≡ false) (sym at ∙ there.2)
+    (subst (λ y. less y (get_or xs there.0 m) ≡ false) (get_or_default xs i m d low) far)
+
+-- so it is with labels in the order of the sweep
+pub none_after : (xs : List Label) (i : ℕ) (d : Label) → IsSortedBy (λ a b. is_lt (sweep_cmp a b)) xs → i < length xs → (m : Label) → Contains (take i xs) m → NotBefore m (get_or xs i d)
+none_after xs i d h low m there = none_behind (λ a b. is_lt (sweep_cmp a b)) sweep_ranks xs i d h low m there
 
 -- the order of a list is nothing to what is left of it
 pub undominated_moved : (xs ys : List Label) → IsPermutation xs ys → undominated ys ≡ undominated xs

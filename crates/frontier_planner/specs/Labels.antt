@@ -52,6 +52,10 @@ start_label g q =
 abbrev pub request_at : Task → ℕ → Label → ℕ
 request_at g segment l = max (max l.t (l.p + (segment + 1) * g.film.seg_ms - g.setup.buffer_ms)) (there_at g segment)
 
+-- the value of a successor, to a segment on rung `r`, of a label of rung `q` with this value
+abbrev pub next_value : Weighing → ℕ → ℕ → ℤ → ℕ → ℤ
+next_value w segment q v r = (v +ℤ pos (1000 * utility_of w segment r)) -ℤ pos (w.switch * change_of w segment (Some q) r)
+
 -- the successor of a label of rung `q`, to a segment on rung `r`
 abbrev pub next_label : Task → ℕ → ℕ → Label → ℕ → Label
 next_label g segment q l r =
@@ -59,7 +63,7 @@ next_label g segment q l r =
     record {
       t = t;
       p = max l.p (t - segment * g.film.seg_ms);
-      v = (l.v +ℤ pos (1000 * utility_of g.setup.weights segment r)) -ℤ pos (g.setup.weights.switch * change_of g.setup.weights segment (Some q) r);
+      v = next_value g.setup.weights segment q l.v r;
     }
 
 -- the value that a label comes to at the end under these weights, in thousandths of a point

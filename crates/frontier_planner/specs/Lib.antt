@@ -15,4 +15,7 @@ pub mod Best
 pub mod Laws
 pub mod Along
 pub mod ValueLaw
+pub mod Climbing
 pub mod Blocks
+pub mod Thinned
+pub mod Brief

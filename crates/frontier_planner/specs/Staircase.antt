@@ -1,5 +1,5 @@
 -- Staircases: labels along which delays and values rise.
-use Rattle.std.specs.Prelude.{ℕ, ◌<◌, ◌<ℤ◌, List}
+use Rattle.std.specs.Prelude.{◌<◌, ◌<ℤ◌, List}
 use Rattle.std.specs.List.{AllPairs}
 use Rattle.lab_model.specs.declared.label.Label.{Label}
 

@@ -2,10 +2,11 @@
 
 ghost use Rattle.std.specs.Prelude.{◌≡◌, ℕ, ◌+◌, ◌*◌, ◌<◌, ◌≤◌, IfOk, length, slice_index_or};
 ghost use Rattle.std.specs.List.{All};
-ghost use Rattle.frontier_planner.specs.Blocks.{AreOver, HaveLevels, IsLevel, IsOver, NoneBefore};
+ghost use Rattle.frontier_planner.specs.Blocks.{AreOver, HaveFinders, IsFinder, IsLevel, IsOver, NoneBefore};
 ghost use Rattle.frontier_planner.specs.Read.{place_above};
 ghost use Rattle.frontier_planner.specs.Staircase.{IsRising};
 
+use crate::climb::climbs;
 use crate::grow::Layer;
 use crate::label::dominates;
 use crate::staircase::Staircase;
@@ -85,23 +86,45 @@ fn levels_of(alloc: Global, chain: &[Label]) -> Result<Vec<Level>, AllocError>
     Ok(levels)
 }
 
-/// The levels of each chain of a segment.
-fn levels_by_rung(alloc: Global, chains: &[Vec<Label>]) -> Result<Vec<Vec<Level>>, AllocError>
-    ensures { IfOk result (λ v. HaveLevels chains.now v.items) }
-{
-    let mut levels = Vec::new(alloc);
-    for chain in chains {
-        levels.push(levels_of(alloc, chain)?)?;
-    }
-    Ok(levels)
+/// By what the first label of a chain that dominates another is found.
+#[derive(Drop)]
+pub struct Finder {
+    /// Whether times, delays and values rise together along the chain.
+    pub climbs: bool,
+    /// The levels, where they don't.
+    pub levels: Vec<Level>,
 }
 
-/// The levels of each chain of the segment behind one, if there is such a segment.
-pub fn next_levels(alloc: Global, layers: &[Layer], seg: u16) -> Result<Vec<Vec<Level>>, AllocError>
+/// The finder of a chain.
+fn finder_of(alloc: Global, chain: &[Label]) -> Result<Finder, AllocError>
+    ensures { IfOk result (λ f. IsFinder chain.now f) }
+{
+    let climbs = climbs(chain);
+    let levels = if climbs {
+        Vec::new(alloc)
+    } else {
+        levels_of(alloc, chain)?
+    };
+    Ok(Finder { climbs, levels })
+}
+
+/// The finders of the chains of a segment.
+fn finders_by_rung(alloc: Global, chains: &[Vec<Label>]) -> Result<Vec<Finder>, AllocError>
+    ensures { IfOk result (λ v. HaveFinders chains.now v.items) }
+{
+    let mut finders = Vec::new(alloc);
+    for chain in chains {
+        finders.push(finder_of(alloc, chain)?)?;
+    }
+    Ok(finders)
+}
+
+/// The finders of the chains of the segment behind one, if there is such a segment.
+pub fn next_finders(alloc: Global, layers: &[Layer], seg: u16) -> Result<Vec<Finder>, AllocError>
     ensures { IfOk result (λ v. AreOver layers.now (seg + 1) v.items) }
 {
     match layers.get(seg as usize + 1) {
-        Some(layer) => levels_by_rung(alloc, &layer.chains),
+        Some(layer) => finders_by_rung(alloc, &layer.chains),
         None => Ok(Vec::new(alloc)),
     }
 }

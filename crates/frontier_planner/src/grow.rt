@@ -4,23 +4,25 @@ ghost use Rattle.std.specs.Prelude.{◌≡◌, ℕ, ◌+◌, ◌-◌, ◌*◌, �
 ghost use Rattle.std.specs.List.Sorted.{IsSortedBy};
 ghost use Rattle.std.specs.Ordering.{is_lt};
 ghost use Rattle.lab_model.specs.Film.{rungs_of, segments_of};
+ghost use Rattle.frontier_planner.specs.Brief.{AreFollowed, IsBrief, task_in};
 ghost use Rattle.frontier_planner.specs.Frontier.{undominated};
 ghost use Rattle.frontier_planner.specs.Grid.{rounded};
 ghost use Rattle.frontier_planner.specs.Grown.{grown};
-ghost use Rattle.frontier_planner.specs.Labels.{next_label, task_of};
-ghost use Rattle.frontier_planner.specs.Layers.{CanPlan, LayerAnswer, FrontiersAnswer, grown_labels};
+ghost use Rattle.frontier_planner.specs.Labels.{next_label};
+ghost use Rattle.frontier_planner.specs.Layers.{LayerAnswer, FrontiersAnswer, grown_labels};
 ghost use Rattle.frontier_planner.specs.Sweep.{sweep_cmp};
 
-use crate::label::{Grid, next_from, round_label, start_from};
+use crate::brief::Brief;
+use crate::label::round_label;
 use crate::plans::PlanErr;
 use crate::staircase::Staircase;
-use lab_model::{Label, Manifest, Setup};
-use network_clock::Clock;
+use crate::thin::thinned;
+use lab_model::Label;
 use std::alloc::{AllocError, Global};
 use std::cmp::Ordering;
 
 /// The order of the sweep: by finish time, then delay, then falling value.
-fn sweep_order(a: &Label, b: &Label) -> Ordering
+pub(crate) fn sweep_order(a: &Label, b: &Label) -> Ordering
     ensures { result ≡ sweep_cmp a.now b.now }
 {
     a.t.cmp(&b.t).then(a.p.cmp(&b.p)).then(b.v.cmp(&a.v))
@@ -51,63 +53,72 @@ fn undominated(alloc: Global, labels: Vec<Label>) -> Result<Vec<Label>, AllocErr
     sweep(alloc, &candidates)
 }
 
-/// The rounded successors, to a segment on a rung, of labels of the segment before with their rungs.
+/// The rounded successors, to a segment on a rung, of labels that are enough to follow, with their rungs.
 fn successors(
     alloc: Global,
-    m: &Manifest,
-    clock: &Clock,
-    set: &Setup,
-    ahead: u32,
-    grid: Grid,
+    brief: &Brief,
     seg: u16,
-    before: &[(u8, Label)],
+    followed: &[(u8, Label)],
     rung: u8,
 ) -> Result<Vec<Label>, AllocError>
-    requires case { CanPlan grid (task_of m.now clock.now set.now ahead) }
-    requires seg { (1 ≤ seg) × (seg < segments_of m.now) }
-    requires rung { rung < rungs_of m.now }
-    requires before { before.now
-        ≡ grown_labels grid (task_of m.now clock.now set.now ahead) (seg - 1) }
+    requires brief { IsBrief brief.now }
+    requires seg { (1 ≤ seg) × (seg < segments_of brief.now.film.now) }
+    requires rung { rung < rungs_of brief.now.film.now }
+    requires followed { AreFollowed brief.now seg followed.now }
     ensures { IfOk result (λ v. v.items ≡ map
-        (λ c. rounded grid (next_label (task_of m.now clock.now set.now ahead) seg c.0 c.1 rung))
-        before.now) }
+        (λ c. rounded brief.now.grid (next_label (task_in brief.now) seg c.0 c.1 rung))
+        followed.now) }
 {
-    let mut made = Vec::with_capacity(alloc, before.len())?;
-    for (old_rung, old) in before {
-        let next = next_from(m, clock, set, ahead, seg, *old_rung, *old, rung);
-        made.push(round_label(grid, next))?;
+    let mut made = Vec::with_capacity(alloc, followed.len())?;
+    for old in followed {
+        let next = brief.next(seg, *old, rung);
+        made.push(round_label(brief.grid, next))?;
     }
     Ok(made)
 }
 
-/// The coarse frontier of a segment and a rung, from the labels of the segment before.
+/// The coarse frontier of a segment and a rung, from labels that are enough to follow; segment 0 needs none.
 fn frontier(
     alloc: Global,
-    m: &Manifest,
-    clock: &Clock,
-    set: &Setup,
-    ahead: u32,
-    grid: Grid,
+    brief: &Brief,
     seg: u16,
-    before: &[(u8, Label)],
+    followed: &[(u8, Label)],
     rung: u8,
 ) -> Result<Vec<Label>, AllocError>
-    requires case { CanPlan grid (task_of m.now clock.now set.now ahead) }
-    requires seg { seg < segments_of m.now }
-    requires rung { rung < rungs_of m.now }
-    requires before { 0 < seg
-        → before.now ≡ grown_labels grid (task_of m.now clock.now set.now ahead) (seg - 1) }
+    requires brief { IsBrief brief.now }
+    requires seg { seg < segments_of brief.now.film.now }
+    requires rung { rung < rungs_of brief.now.film.now }
+    requires followed { 0 < seg → AreFollowed brief.now seg followed.now }
     ensures { IfOk result (λ v. v.items
-        ≡ grown grid (task_of m.now clock.now set.now ahead) seg rung) }
+        ≡ grown brief.now.grid (task_in brief.now) seg rung) }
 {
     if seg == 0 {
-        let start = start_from(m, clock, set, ahead, rung);
+        let start = brief.start(rung);
         let mut only = Vec::new(alloc);
-        only.push(round_label(grid, start))?;
+        only.push(round_label(brief.grid, start))?;
         return Ok(only);
     }
-    let candidates = successors(alloc, m, clock, set, ahead, grid, seg, before, rung)?;
+    let candidates = successors(alloc, brief, seg, followed, rung)?;
     undominated(alloc, candidates)
+}
+
+/// Labels that are enough to follow to a segment, and none for segment 0.
+fn followed(
+    alloc: Global,
+    brief: &Brief,
+    seg: u16,
+    before: &[(u8, Label)],
+) -> Result<Vec<(u8, Label)>, AllocError>
+    requires brief { IsBrief brief.now }
+    requires seg { seg < segments_of brief.now.film.now }
+    requires before { 0 < seg
+        → before.now ≡ grown_labels brief.now.grid (task_in brief.now) (seg - 1) }
+    ensures { IfOk result (λ v. 0 < seg → AreFollowed brief.now seg v.items) }
+{
+    if seg == 0 {
+        return Ok(Vec::new(alloc));
+    }
+    thinned(alloc, brief, seg, before)
 }
 
 /// The frontiers of one segment.
@@ -134,25 +145,22 @@ fn add_chain(labels: &mut Vec<(u8, Label)>, rung: u8, chain: &[Label]) -> Result
 /// the budget.
 fn grown_layer(
     alloc: Global,
-    m: &Manifest,
-    clock: &Clock,
-    set: &Setup,
-    ahead: u32,
-    grid: Grid,
+    brief: &Brief,
     seg: u16,
     before: &[(u8, Label)],
     left: u32,
 ) -> Result<Layer, PlanErr>
-    requires case { CanPlan grid (task_of m.now clock.now set.now ahead) }
-    requires seg { seg < segments_of m.now }
+    requires brief { IsBrief brief.now }
+    requires seg { seg < segments_of brief.now.film.now }
     requires before { 0 < seg
-        → before.now ≡ grown_labels grid (task_of m.now clock.now set.now ahead) (seg - 1) }
-    ensures { LayerAnswer grid (task_of m.now clock.now set.now ahead) seg left result }
+        → before.now ≡ grown_labels brief.now.grid (task_in brief.now) (seg - 1) }
+    ensures { LayerAnswer brief.now.grid (task_in brief.now) seg left result }
 {
+    let followed = followed(alloc, brief, seg, before)?;
     let mut labels = Vec::new(alloc);
     let mut chains = Vec::new(alloc);
-    for rung in 0..m.rungs() {
-        let chain = frontier(alloc, m, clock, set, ahead, grid, seg, before, rung)?;
+    for rung in 0..brief.film.rungs() {
+        let chain = frontier(alloc, brief, seg, &followed, rung)?;
         if chain.len() > left as usize - labels.len() {
             return Err(PlanErr::BudgetSpent { segment: seg });
         }
@@ -183,23 +191,15 @@ pub struct Frontiers {
 }
 
 /// The frontiers of all segments, which may have as many labels as the budget.
-pub fn grown_frontiers(
-    alloc: Global,
-    m: &Manifest,
-    clock: &Clock,
-    set: &Setup,
-    ahead: u32,
-    grid: Grid,
-    budget: u32,
-) -> Result<Frontiers, PlanErr>
-    requires { CanPlan grid (task_of m.now clock.now set.now ahead) }
-    ensures { FrontiersAnswer grid (task_of m.now clock.now set.now ahead) budget result }
+pub fn grown_frontiers(alloc: Global, brief: &Brief, budget: u32) -> Result<Frontiers, PlanErr>
+    requires { IsBrief brief.now }
+    ensures { FrontiersAnswer brief.now.grid (task_in brief.now) budget result }
 {
     let mut layers = Vec::new(alloc);
     let mut left = budget;
-    for seg in 0..m.segments() {
+    for seg in 0..brief.film.segments() {
         let before = last_labels(&layers);
-        let next = grown_layer(alloc, m, clock, set, ahead, grid, seg, before, left)?;
+        let next = grown_layer(alloc, brief, seg, before, left)?;
         left -= next.labels.len() as u32;
         layers.push(next)?;
     }

@@ -3,9 +3,10 @@
 ghost use Rattle.std.specs.Prelude.{◌≡◌, ℕ, ◌+◌, ◌-◌, ◌*◌, ◌<◌, ◌≤◌, [], pos, ◌+ℤ◌, ◌-ℤ◌};
 ghost use Rattle.lab_model.specs.Film.{rungs_of, segments_of};
 ghost use Rattle.lab_model.specs.Fit.{SetupFits};
+ghost use Rattle.lab_model.specs.Weighing.{IsWeighing};
 ghost use Rattle.player_core.specs.Available.{all_ahead};
 ghost use Rattle.frontier_planner.specs.Grid.{IsGrid, multiple_above, multiple_below, rounded};
-ghost use Rattle.frontier_planner.specs.Labels.{Dominates, IsTask, dominates, next_label, request_at, start_label, task_of, value_at_end};
+ghost use Rattle.frontier_planner.specs.Labels.{Dominates, IsTask, dominates, next_label, next_value, request_at, start_label, task_of, value_at_end};
 ghost use Rattle.frontier_planner.specs.Near.{CanFollow, IsNear};
 
 use lab_model::{Label, Manifest, Setup};
@@ -46,7 +47,7 @@ pub fn start_from(m: &Manifest, clock: &Clock, set: &Setup, ahead: u32, rung: u8
 }
 
 /// The instant at which a segment is asked for after a label of the segment before.
-fn request_after(m: &Manifest, set: &Setup, ahead: u32, seg: u16, old: Label) -> u64
+pub(crate) fn request_after(m: &Manifest, set: &Setup, ahead: u32, seg: u16, old: Label) -> u64
     requires seg { seg < segments_of m.now }
     requires old { CanFollow old }
     ensures value { result ≡ request_at (task_of m.now [] set.now ahead) seg old }
@@ -56,6 +57,24 @@ fn request_after(m: &Manifest, set: &Setup, ahead: u32, seg: u16, old: Label) ->
     let wanted = old.p + (seg as u64 + 1) * m.seg_ms() as u64;
     let room = wanted.saturating_sub(set.buffer_ms as u64);
     old.t.max(room).max(available(m, ahead, seg))
+}
+
+/// The value of a successor, to segment `seg` on `rung`, of a label of the segment before on `old_rung` with the
+/// value `v`, which lies within 10^18 of 0.
+pub(crate) fn next_value(m: &Manifest, set: &Setup, seg: u16, old_rung: u8, v: i64, rung: u8) -> i64
+    requires setup { SetupFits set.now m.now }
+    requires seg { seg < segments_of m.now }
+    requires old_rung { old_rung < rungs_of m.now }
+    requires rung { rung < rungs_of m.now }
+    requires value { IsNear 1000000000000000000 v }
+    ensures value { result ≡ next_value set.now.weights seg old_rung v rung }
+    ensures weighing { IsWeighing set.now.weights }
+{
+    let utility = set.weights.utility(seg, rung);
+    let change = utility.abs_diff(set.weights.utility(seg, old_rung));
+    let gain = 1000 * utility as u64;
+    let loss = set.weights.switch() as u64 * change as u64;
+    weighed(v, gain, loss)
 }
 
 /// The successor, to segment `seg` on `rung`, of a label of the segment before on `old_rung`, where `ahead`
@@ -84,14 +103,10 @@ pub fn next_from(
     let request = request_after(m, set, ahead, seg, old);
     let t = clock.finish(request, m.size(seg, rung)).done;
     let played_from = t.saturating_sub(seg as u64 * m.seg_ms() as u64);
-    let utility = set.weights.utility(seg, rung);
-    let change = utility.abs_diff(set.weights.utility(seg, old_rung));
-    let gain = 1000 * utility as u64;
-    let loss = set.weights.switch() as u64 * change as u64;
     Label {
         t,
         p: old.p.max(played_from),
-        v: weighed(old.v, gain, loss),
+        v: next_value(m, set, seg, old_rung, old.v, rung),
     }
 }
 

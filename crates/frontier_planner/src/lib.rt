@@ -2,6 +2,8 @@
 #![tactic(auto)]
 
 mod blocks;
+mod brief;
+mod climb;
 mod grow;
 mod label;
 mod laws;
@@ -10,6 +12,7 @@ mod planner;
 mod plans;
 mod read;
 mod staircase;
+mod thin;
 mod values;
 
 pub use label::{

@@ -3,69 +3,98 @@
 ghost use Rattle.std.specs.Prelude.{◌≡◌, ℕ, ◌+◌, ◌-◌, ◌*◌, ◌<◌, ◌≤◌, ◌++◌, IfOk, length, map};
 ghost use Rattle.std.specs.List.{Contains, flat_map};
 ghost use Rattle.lab_model.specs.Film.{rungs_of, segments_of};
-ghost use Rattle.frontier_planner.specs.Blocks.{AreOver};
+ghost use Rattle.frontier_planner.specs.Blocks.{AreOver, IsFinder};
+ghost use Rattle.frontier_planner.specs.Brief.{CanGoOn, IsBrief, task_in};
+ghost use Rattle.frontier_planner.specs.Covers.{HasAbove};
 ghost use Rattle.frontier_planner.specs.Grown.{grown};
-ghost use Rattle.frontier_planner.specs.Labels.{task_of};
+ghost use Rattle.frontier_planner.specs.Labels.{next_label};
 ghost use Rattle.frontier_planner.specs.Layers.{HoldPlan, chain_read, chains_read, grown_labels, names_read};
 ghost use Rattle.frontier_planner.specs.Parts.{chain_parts};
 ghost use Rattle.frontier_planner.specs.Read.{chain_list, place_above, starts_of};
 
-use crate::blocks::{Level, first_above, next_levels, place_from};
+use crate::blocks::{Finder, first_above, next_finders, place_from};
+use crate::brief::Brief;
+use crate::climb::place_of_value;
 use crate::grow::Layer;
-use crate::label::{Grid, next_from, start_from};
 use crate::plans::Chain;
-use lab_model::{Label, Manifest, Setup};
-use network_clock::Clock;
+use lab_model::Label;
 use std::alloc::{AllocError, Global};
 
 /// For each rung the first place of a label of segment 0 that dominates the start label.
-pub fn starts(
-    alloc: Global,
-    m: &Manifest,
-    clock: &Clock,
-    set: &Setup,
-    ahead: u32,
-    grid: Grid,
-    layers: &[Layer],
-) -> Result<Vec<u32>, AllocError>
-    requires { HoldPlan grid (task_of m.now clock.now set.now ahead) layers.now }
+pub fn starts(alloc: Global, brief: &Brief, layers: &[Layer]) -> Result<Vec<u32>, AllocError>
+    requires { HoldPlan brief.now.grid (task_in brief.now) layers.now }
     ensures { IfOk result (λ v. v.items
-        ≡ starts_of (task_of m.now clock.now set.now ahead)
-        (grown grid (task_of m.now clock.now set.now ahead))) }
+        ≡ starts_of (task_in brief.now)
+        (grown brief.now.grid (task_in brief.now))) }
 {
     let mut starts = Vec::new(alloc);
-    for rung in 0..m.rungs() {
-        let start = start_from(m, clock, set, ahead, rung);
+    for rung in 0..brief.film.rungs() {
+        let start = brief.start(rung);
         starts.push(place_from(&layers[0].chains[rung as usize], 0, start))?;
     }
     Ok(starts)
 }
 
+/// The first place in the chain of a rung of the next segment at which a label dominates the successor. The hint is
+/// a place near which it may be.
+fn name_of(
+    brief: &Brief,
+    seg: u16,
+    reached: (u8, Label),
+    rung: u8,
+    chain: &[Label],
+    finder: &Finder,
+    hint: usize,
+) -> u32
+    requires brief { IsBrief brief.now }
+    requires seg { seg + 1 < segments_of brief.now.film.now }
+    requires reached { CanGoOn brief.now reached rung }
+    requires few { length chain.now ≤ 1000000 }
+    requires finder { IsFinder chain.now finder.now }
+    requires above { HasAbove chain.now
+        (next_label (task_in brief.now) (seg + 1) reached.0 reached.1 rung) }
+    ensures { result ≡ place_above chain.now
+        (next_label (task_in brief.now) (seg + 1) reached.0 reached.1 rung) }
+{
+    if finder.climbs {
+        let value = brief.next_value(seg + 1, reached, rung);
+        return place_of_value(chain, hint, value) as u32;
+    }
+    first_above(chain, &finder.levels, brief.next(seg + 1, reached, rung))
+}
+
+/// The name that stands so many places before the end, as a hint for the next one, and 0 where there is none.
+fn hint_in(names: &[u32], back: u8) -> usize {
+    match names.len().checked_sub(back as usize) {
+        Some(place) if back > 0 => names[place] as usize,
+        _ => 0,
+    }
+}
+
 /// Adds the names of a label of a segment, where there is a next one.
 fn name_label(
-    m: &Manifest,
-    clock: &Clock,
-    set: &Setup,
-    ahead: u32,
-    grid: Grid,
+    brief: &Brief,
     layers: &[Layer],
-    levels: &[Vec<Level>],
+    finders: &[Finder],
     seg: u16,
     reached: (u8, Label),
     names: &mut Vec<u32>,
 ) -> Result<(), AllocError>
-    requires layers { HoldPlan grid (task_of m.now clock.now set.now ahead) layers.now }
-    requires levels { AreOver layers.now (seg + 1) levels.now }
-    requires seg { seg + 1 < segments_of m.now }
+    requires layers { HoldPlan brief.now.grid (task_in brief.now) layers.now }
+    requires finders { AreOver layers.now (seg + 1) finders.now }
+    requires seg { seg + 1 < segments_of brief.now.film.now }
     requires reached { Contains
-        (grown_labels grid (task_of m.now clock.now set.now ahead) seg) reached }
+        (grown_labels brief.now.grid (task_in brief.now) seg) reached }
     ensures { IfOk result (λ _. names.new.items
-        ≡ names.old.items ++ names_read grid (task_of m.now clock.now set.now ahead) seg reached) }
+        ≡ names.old.items ++ names_read brief.now.grid (task_in brief.now) seg reached) }
 {
     let next = &layers[seg as usize + 1].chains;
-    for rung in 0..m.rungs() {
-        let successor = next_from(m, clock, set, ahead, seg + 1, reached.0, reached.1, rung);
-        let place = first_above(&next[rung as usize], &levels[rung as usize], successor);
+    let rungs = brief.film.rungs();
+    for rung in 0..rungs {
+        let hint = hint_in(names, rungs);
+        let chain = &next[rung as usize];
+        let finder = &finders[rung as usize];
+        let place = name_of(brief, seg, reached, rung, chain, finder, hint);
         names.push(place)?;
     }
     Ok(())
@@ -74,38 +103,23 @@ fn name_label(
 /// The names of the chain of a segment on a rung, where there is a next segment.
 fn names(
     alloc: Global,
-    m: &Manifest,
-    clock: &Clock,
-    set: &Setup,
-    ahead: u32,
-    grid: Grid,
+    brief: &Brief,
     layers: &[Layer],
-    levels: &[Vec<Level>],
+    finders: &[Finder],
     seg: u16,
     rung: u8,
 ) -> Result<Vec<u32>, AllocError>
-    requires layers { HoldPlan grid (task_of m.now clock.now set.now ahead) layers.now }
-    requires levels { AreOver layers.now (seg + 1) levels.now }
-    requires seg { seg + 1 < segments_of m.now }
-    requires rung { rung < rungs_of m.now }
+    requires layers { HoldPlan brief.now.grid (task_in brief.now) layers.now }
+    requires finders { AreOver layers.now (seg + 1) finders.now }
+    requires seg { seg + 1 < segments_of brief.now.film.now }
+    requires rung { rung < rungs_of brief.now.film.now }
     ensures { IfOk result (λ v. v.items
-        ≡ flat_map (λ l. names_read grid (task_of m.now clock.now set.now ahead) seg (rung, l))
-        (grown grid (task_of m.now clock.now set.now ahead) seg rung)) }
+        ≡ flat_map (λ l. names_read brief.now.grid (task_in brief.now) seg (rung, l))
+        (grown brief.now.grid (task_in brief.now) seg rung)) }
 {
     let mut names = Vec::new(alloc);
     for l in &layers[seg as usize].chains[rung as usize] {
-        name_label(
-            m,
-            clock,
-            set,
-            ahead,
-            grid,
-            layers,
-            levels,
-            seg,
-            (rung, *l),
-            &mut names,
-        )?;
+        name_label(brief, layers, finders, seg, (rung, *l), &mut names)?;
     }
     Ok(names)
 }
@@ -113,26 +127,22 @@ fn names(
 /// The chain of a segment on a rung with its names, which the last segment doesn't have.
 fn named_chain(
     alloc: Global,
-    m: &Manifest,
-    clock: &Clock,
-    set: &Setup,
-    ahead: u32,
-    grid: Grid,
+    brief: &Brief,
     layers: &[Layer],
-    levels: &[Vec<Level>],
+    finders: &[Finder],
     seg: u16,
     rung: u8,
 ) -> Result<Chain, AllocError>
-    requires layers { HoldPlan grid (task_of m.now clock.now set.now ahead) layers.now }
-    requires levels { AreOver layers.now (seg + 1) levels.now }
-    requires seg { seg < segments_of m.now }
-    requires rung { rung < rungs_of m.now }
+    requires layers { HoldPlan brief.now.grid (task_in brief.now) layers.now }
+    requires finders { AreOver layers.now (seg + 1) finders.now }
+    requires seg { seg < segments_of brief.now.film.now }
+    requires rung { rung < rungs_of brief.now.film.now }
     ensures { IfOk result (λ c. chain_parts c
-        ≡ chain_read grid (task_of m.now clock.now set.now ahead) seg rung) }
+        ≡ chain_read brief.now.grid (task_in brief.now) seg rung) }
 {
     let labels = Vec::from_slice(alloc, &layers[seg as usize].chains[rung as usize])?;
-    let names = if seg + 1 < m.segments() {
-        names(alloc, m, clock, set, ahead, grid, layers, levels, seg, rung)?
+    let names = if seg + 1 < brief.film.segments() {
+        names(alloc, brief, layers, finders, seg, rung)?
     } else {
         Vec::new(alloc)
     };
@@ -142,49 +152,35 @@ fn named_chain(
 /// Adds the chains of a segment with their names.
 fn add_named(
     alloc: Global,
-    m: &Manifest,
-    clock: &Clock,
-    set: &Setup,
-    ahead: u32,
-    grid: Grid,
+    brief: &Brief,
     layers: &[Layer],
     seg: u16,
     chains: &mut Vec<Chain>,
 ) -> Result<(), AllocError>
-    requires layers { HoldPlan grid (task_of m.now clock.now set.now ahead) layers.now }
-    requires seg { seg < segments_of m.now }
+    requires layers { HoldPlan brief.now.grid (task_in brief.now) layers.now }
+    requires seg { seg < segments_of brief.now.film.now }
     ensures { IfOk result (λ _. map chain_parts chains.new.items
         ≡ map chain_parts chains.old.items
-        ++ chains_read grid (task_of m.now clock.now set.now ahead) seg) }
+        ++ chains_read brief.now.grid (task_in brief.now) seg) }
 {
-    let levels = next_levels(alloc, layers, seg)?;
-    for rung in 0..m.rungs() {
-        let chain = named_chain(
-            alloc, m, clock, set, ahead, grid, layers, &levels, seg, rung,
-        )?;
+    let finders = next_finders(alloc, layers, seg)?;
+    for rung in 0..brief.film.rungs() {
+        let chain = named_chain(alloc, brief, layers, &finders, seg, rung)?;
         chains.push(chain)?;
     }
     Ok(())
 }
 
 /// The chains by segment, then rung, with their names.
-pub fn chains(
-    alloc: Global,
-    m: &Manifest,
-    clock: &Clock,
-    set: &Setup,
-    ahead: u32,
-    grid: Grid,
-    layers: &[Layer],
-) -> Result<Vec<Chain>, AllocError>
-    requires { HoldPlan grid (task_of m.now clock.now set.now ahead) layers.now }
+pub fn chains(alloc: Global, brief: &Brief, layers: &[Layer]) -> Result<Vec<Chain>, AllocError>
+    requires { HoldPlan brief.now.grid (task_in brief.now) layers.now }
     ensures { IfOk result (λ v. map chain_parts v.items
-        ≡ chain_list (task_of m.now clock.now set.now ahead)
-        (grown grid (task_of m.now clock.now set.now ahead))) }
+        ≡ chain_list (task_in brief.now)
+        (grown brief.now.grid (task_in brief.now))) }
 {
     let mut chains = Vec::new(alloc);
-    for seg in 0..m.segments() {
-        add_named(alloc, m, clock, set, ahead, grid, layers, seg, &mut chains)?;
+    for seg in 0..brief.film.segments() {
+        add_named(alloc, brief, layers, seg, &mut chains)?;
     }
     Ok(chains)
 }

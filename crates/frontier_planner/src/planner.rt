@@ -3,10 +3,12 @@
 ghost use Rattle.std.specs.Prelude.{◌≤◌};
 ghost use Rattle.lab_model.specs.Fit.{SetupFits};
 ghost use Rattle.player_core.specs.Available.{all_ahead};
+ghost use Rattle.frontier_planner.specs.Brief.{IsBrief, task_in};
 ghost use Rattle.frontier_planner.specs.Grid.{IsGrid};
 ghost use Rattle.frontier_planner.specs.Labels.{task_of};
 ghost use Rattle.frontier_planner.specs.Planned.{CoarseAnswer, ExactAnswer, PlanAnswer};
 
+use crate::brief::Brief;
 use crate::grow::{Frontiers, grown_frontiers};
 use crate::label::{Grid, end_value};
 use crate::names::{chains, starts};
@@ -15,6 +17,34 @@ use crate::read::{best_end, rungs_to, value_of_list};
 use lab_model::{Manifest, Setup};
 use network_clock::Clock;
 use std::alloc::Global;
+
+/// The plan of a brief, whose frontiers may have as many labels as the budget.
+fn plan_of(alloc: Global, brief: &Brief, budget: u32) -> Result<CoarsePlan, PlanErr>
+    requires brief { IsBrief brief.now }
+    requires budget { (1 ≤ budget) × (budget ≤ 1000000) }
+    ensures { CoarseAnswer brief.now.grid (task_in brief.now) budget result }
+{
+    let table = brief.setup.weights.rows() != 0;
+    let last = brief.film.segments() - 1;
+    let Frontiers { layers, labels } = grown_frontiers(alloc, brief, budget)?;
+    let end = best_end(brief, &layers[last as usize].labels);
+    let rungs = rungs_to(alloc, brief, &layers, last, end)?;
+    let score = value_of_list(brief, &rungs);
+    let starts = starts(alloc, brief, &layers)?;
+    let chains = chains(alloc, brief, &layers)?;
+    let plan = Plan {
+        table,
+        rungs,
+        score,
+        labels,
+        starts,
+        chains,
+    };
+    Ok(CoarsePlan {
+        plan,
+        bound: end_value(brief.setup, end.1),
+    })
+}
 
 /// The plan on a grid, where `ahead` milliseconds of media, at most 120000000, are there at instant 0. The
 /// frontiers may have as many labels as the budget, 1 to 1000000: `BudgetSpent` names the first segment at whose
@@ -35,27 +65,7 @@ pub fn plan_from(
     ensures coarse { CoarseAnswer grid (task_of m.now clock.now set.now ahead) budget result }
     ensures exact { ExactAnswer grid (task_of m.now clock.now set.now ahead) budget result }
 {
-    let table = set.weights.rows() != 0;
-    let last = m.segments() - 1;
-    prove!(!clock.periods().is_empty());
-    let Frontiers { layers, labels } = grown_frontiers(alloc, m, clock, set, ahead, grid, budget)?;
-    let end = best_end(m, clock, set, ahead, grid, &layers[last as usize].labels);
-    let rungs = rungs_to(alloc, m, clock, set, ahead, grid, &layers, last, end)?;
-    let score = value_of_list(m, clock, set, ahead, &rungs);
-    let starts = starts(alloc, m, clock, set, ahead, grid, &layers)?;
-    let chains = chains(alloc, m, clock, set, ahead, grid, &layers)?;
-    let plan = Plan {
-        table,
-        rungs,
-        score,
-        labels,
-        starts,
-        chains,
-    };
-    Ok(CoarsePlan {
-        plan,
-        bound: end_value(set, end.1),
-    })
+    plan_of(alloc, &Brief::new(m, clock, set, ahead, grid), budget)
 }
 
 /// So many milliseconds of media ahead that all of a film is there at instant 0.

@@ -3,15 +3,16 @@
 ghost use Rattle.std.specs.Prelude.{◌≡◌, ℕ, ◌+◌, ◌-◌, ◌*◌, ◌<◌, ◌≤◌, IfOk, int_lt, length};
 ghost use Rattle.std.specs.List.{Contains, find};
 ghost use Rattle.lab_model.specs.Film.{segments_of};
+ghost use Rattle.frontier_planner.specs.Brief.{IsBrief, task_in};
 ghost use Rattle.frontier_planner.specs.Grown.{grown};
-ghost use Rattle.frontier_planner.specs.Labels.{AreRungs, IsTask, task_of, value_at_end};
-ghost use Rattle.frontier_planner.specs.Layers.{CanPlan, HoldAll, grown_labels, rungs_read};
+ghost use Rattle.frontier_planner.specs.Labels.{AreRungs, value_at_end};
+ghost use Rattle.frontier_planner.specs.Layers.{HoldAll, grown_labels, rungs_read};
 ghost use Rattle.frontier_planner.specs.Read.{end_of_plan, leads_to, list_value};
 
+use crate::brief::Brief;
 use crate::grow::Layer;
-use crate::label::{Grid, end_value, next_from, round_label, start_from};
-use lab_model::{Label, Manifest, Setup};
-use network_clock::Clock;
+use crate::label::{end_value, round_label};
+use lab_model::{Label, Setup};
 use std::alloc::{AllocError, Global};
 
 /// Whether the first label ends at more than the second.
@@ -24,24 +25,17 @@ fn ends_higher(set: &Setup, a: Label, b: Label) -> bool
 }
 
 /// The first of the labels of the last segment with the greatest end value, with its rung.
-pub fn best_end(
-    m: &Manifest,
-    clock: &Clock,
-    set: &Setup,
-    ahead: u32,
-    grid: Grid,
-    last: &[(u8, Label)],
-) -> (u8, Label)
-    requires case { CanPlan grid (task_of m.now clock.now set.now ahead) }
+pub fn best_end(brief: &Brief, last: &[(u8, Label)]) -> (u8, Label)
+    requires brief { IsBrief brief.now }
     requires last { last.now
-        ≡ grown_labels grid (task_of m.now clock.now set.now ahead) (segments_of m.now - 1) }
+        ≡ grown_labels brief.now.grid (task_in brief.now) (segments_of brief.now.film.now - 1) }
     ensures { result
-        ≡ end_of_plan (task_of m.now clock.now set.now ahead)
-        (grown grid (task_of m.now clock.now set.now ahead)) }
+        ≡ end_of_plan (task_in brief.now)
+        (grown brief.now.grid (task_in brief.now)) }
 {
     let mut best = last[0];
     for reached in last {
-        if ends_higher(set, reached.1, best.1) {
+        if ends_higher(brief.setup, reached.1, best.1) {
             best = *reached;
         }
     }
@@ -50,27 +44,23 @@ pub fn best_end(
 
 /// The first of the labels of the segment before whose rounded successor is this one.
 fn parent(
-    m: &Manifest,
-    clock: &Clock,
-    set: &Setup,
-    ahead: u32,
-    grid: Grid,
+    brief: &Brief,
     seg: u16,
     before: &[(u8, Label)],
     reached: (u8, Label),
 ) -> Option<(u8, Label)>
-    requires case { CanPlan grid (task_of m.now clock.now set.now ahead) }
-    requires seg { (1 ≤ seg) × (seg < segments_of m.now) }
+    requires brief { IsBrief brief.now }
+    requires seg { (1 ≤ seg) × (seg < segments_of brief.now.film.now) }
     requires before { before.now
-        ≡ grown_labels grid (task_of m.now clock.now set.now ahead) (seg - 1) }
+        ≡ grown_labels brief.now.grid (task_in brief.now) (seg - 1) }
     requires reached { Contains
-        (grown_labels grid (task_of m.now clock.now set.now ahead) seg) reached }
+        (grown_labels brief.now.grid (task_in brief.now) seg) reached }
     ensures { result ≡ find
-        (λ b. leads_to grid (task_of m.now clock.now set.now ahead) seg b reached) before.now }
+        (λ b. leads_to brief.now.grid (task_in brief.now) seg b reached) before.now }
 {
     for old in before {
-        let next = next_from(m, clock, set, ahead, seg, old.0, old.1, reached.0);
-        if round_label(grid, next) == reached.1 {
+        let next = brief.next(seg, *old, reached.0);
+        if round_label(brief.grid, next) == reached.1 {
             return Some(*old);
         }
     }
@@ -80,22 +70,18 @@ fn parent(
 /// The rungs up to a label of a segment, read backwards.
 pub fn rungs_to(
     alloc: Global,
-    m: &Manifest,
-    clock: &Clock,
-    set: &Setup,
-    ahead: u32,
-    grid: Grid,
+    brief: &Brief,
     layers: &[Layer],
     seg: u16,
     reached: (u8, Label),
 ) -> Result<Vec<u8>, AllocError>
-    requires case { CanPlan grid (task_of m.now clock.now set.now ahead) }
-    requires seg { (seg < segments_of m.now) × (seg < length layers.now) }
-    requires layers { HoldAll grid (task_of m.now clock.now set.now ahead) layers.now }
+    requires brief { IsBrief brief.now }
+    requires seg { (seg < segments_of brief.now.film.now) × (seg < length layers.now) }
+    requires layers { HoldAll brief.now.grid (task_in brief.now) layers.now }
     requires reached { Contains
-        (grown_labels grid (task_of m.now clock.now set.now ahead) seg) reached }
+        (grown_labels brief.now.grid (task_in brief.now) seg) reached }
     ensures { IfOk result (λ v. v.items
-        ≡ rungs_read grid (task_of m.now clock.now set.now ahead) seg reached) }
+        ≡ rungs_read brief.now.grid (task_in brief.now) seg reached) }
 {
     if seg == 0 {
         let mut rungs = Vec::with_capacity(alloc, layers.len())?;
@@ -103,34 +89,25 @@ pub fn rungs_to(
         return Ok(rungs);
     }
     let before = &layers[seg as usize - 1].labels;
-    let Some(old) = parent(m, clock, set, ahead, grid, seg, before, reached) else {
+    let Some(old) = parent(brief, seg, before, reached) else {
         unreachable!()
     };
-    let mut rungs = rungs_to(alloc, m, clock, set, ahead, grid, layers, seg - 1, old)?;
+    let mut rungs = rungs_to(alloc, brief, layers, seg - 1, old)?;
     rungs.push(reached.0)?;
     Ok(rungs)
 }
 
 /// What the labels along a rung list end at.
-pub fn value_of_list(m: &Manifest, clock: &Clock, set: &Setup, ahead: u32, rungs: &[u8]) -> i128
-    requires task { IsTask (task_of m.now clock.now set.now ahead) }
+pub fn value_of_list(brief: &Brief, rungs: &[u8]) -> i128
+    requires brief { IsBrief brief.now }
     requires rungs { AreRungs
-        (task_of m.now clock.now set.now ahead) (segments_of m.now) rungs.now }
-    ensures { result ≡ list_value (task_of m.now clock.now set.now ahead) rungs.now }
+        (task_in brief.now) (segments_of brief.now.film.now) rungs.now }
+    ensures { result ≡ list_value (task_in brief.now) rungs.now }
 {
-    let mut label = start_from(m, clock, set, ahead, rungs[0]);
-    for seg in 1..m.segments() {
+    let mut label = brief.start(rungs[0]);
+    for seg in 1..brief.film.segments() {
         let old_rung = rungs[seg as usize - 1];
-        label = next_from(
-            m,
-            clock,
-            set,
-            ahead,
-            seg,
-            old_rung,
-            label,
-            rungs[seg as usize],
-        );
+        label = brief.next(seg, (old_rung, label), rungs[seg as usize]);
     }
-    end_value(set, label)
+    end_value(brief.setup, label)
 }

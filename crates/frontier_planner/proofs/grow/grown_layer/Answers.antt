@@ -1,16 +1,16 @@
-use Rattle.std.proofs.Common.{◌≡◌, ◌∙◌, ◌+◌, ◌<◌, ◌≤◌, ap, length, refl, sym, arith}
+use Rattle.std.proofs.Common.{◌≡◌, ◌∙◌, ◌+◌, ap, length, refl, arith}
 use Rattle.lab_model.specs.Film.{rungs_of}
 use Rattle.frontier_planner.specs.Frontier.{by_rung}
 use Rattle.frontier_planner.specs.Grown.{grown}
-use Rattle.frontier_planner.specs.Labels.{task_of}
+use Rattle.frontier_planner.specs.Brief.{task_in}
 use Rattle.frontier_planner.proofs.Layers.{by_rung_added, by_rung_count, by_rung_fewer, held_more}
 use Rattle.frontier_planner.proofs.grow.grown_layer.Goals as goal
 
 pub returns-then-len-left : goal.returns-then-len-left
 returns-then-len-left c =
-    let chain = grown c.args.grid (task_of c.args.m.now c.args.clock.now c.args.set.now c.args.ahead) c.args.seg in
+    let chain = grown c.args.brief.now.grid (task_in c.args.brief.now) c.args.seg in
     let r = c.loop-rung.rung in
-    let fewer = by_rung_fewer chain (r + 1) (rungs_of c.args.m.now) (omega arith) in
+    let fewer = by_rung_fewer chain (r + 1) (rungs_of c.args.brief.now.film.now) (omega arith) in
     let count = by_rung_count chain r in
     let old = ap length c.loop-rung.invariant.labels in
     let one = ap length c.in_ok-chain.ensures in
@@ -18,12 +18,12 @@ returns-then-len-left c =
 
 pub loop-rung-preserved : goal.loop-rung-preserved
 loop-rung-preserved c =
-    let chain = grown c.args.grid (task_of c.args.m.now c.args.clock.now c.args.set.now c.args.ahead) c.args.seg in
+    let chain = grown c.args.brief.now.grid (task_in c.args.brief.now) c.args.seg in
     let r = c.loop-rung.rung in
     let i = c.loop-rung.invariant in
     let one = c.in_ok-chain.ensures in
     let labels : c.add_chain.new.labels.items ≡ by_rung (r + 1) chain =
-    by_rung_added chain r c.loop-rung.labels.items c.add_chain.new.labels.items c.deref.result.now i.labels (c.deref.ensures.value ∙ one) c.in_ok-add_chain.ensures in
+    by_rung_added chain r c.loop-rung.labels.items c.add_chain.new.labels.items c.deref-in-loop-rung.result.now i.labels (c.deref-in-loop-rung.ensures.value ∙ one) c.in_ok-add_chain.ensures in
     let count = by_rung_count chain r in
     let all = ap length labels in
     let old = ap length i.labels in

@@ -1,7 +1,6 @@
-use Rattle.std.proofs.Common.{◌≡◌, ◌∙◌, take, get_or, pos, sym, subst}
+use Rattle.std.proofs.Common.{◌∙◌, get_or, sym, subst}
 use Rattle.std.proofs.lemmas.List.{take_more, take_all}
 use Rattle.std.proofs.lemmas.Bool.{false≢true}
-use Rattle.lab_model.specs.declared.label.Label.{Label}
 use Rattle.frontier_planner.specs.Read.{no_label}
 use Rattle.frontier_planner.proofs.Sweep.{Swept, none_after, swept_all, swept_dropped, swept_kept, swept_none}
 use Rattle.frontier_planner.proofs.grow.sweep.Goals as goal

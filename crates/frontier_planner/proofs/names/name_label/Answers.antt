@@ -1,89 +1,93 @@
-use Rattle.std.proofs.Common.{◌∙◌, ◌+◌, ◌<◌, suc, length, get_or, ap, arith}
+use Rattle.std.proofs.Common.{◌≡◌, ◌∙◌, ◌+◌, ◌<◌, suc, length, get_or, ap, refl, subst, sym, arith}
 use Rattle.lab_model.specs.Film.{rungs_of}
+use Rattle.frontier_planner.specs.Blocks.{HaveFinders}
+use Rattle.frontier_planner.specs.Brief.{task_in}
+use Rattle.frontier_planner.specs.Covers.{HasAbove}
 use Rattle.frontier_planner.specs.Grown.{grown}
-use Rattle.frontier_planner.specs.Labels.{next_label, task_of}
+use Rattle.frontier_planner.specs.Labels.{next_label}
 use Rattle.frontier_planner.specs.Read.{place_above}
 use Rattle.frontier_planner.proofs.Follows.{in_reach, label_follows}
+use Rattle.frontier_planner.proofs.Grown.{grown_covers}
 use Rattle.frontier_planner.proofs.Naming.{chain_few, chain_is, chains_count, name_one, rung_inside, rung_pushed}
-use Rattle.frontier_planner.specs.Blocks.{HaveLevels}
-use Rattle.frontier_planner.proofs.Passed.{levels_there}
+use Rattle.frontier_planner.proofs.Passed.{finder_there}
+use Rattle.frontier_planner.proofs.Walks.{from_by_rung}
 use Rattle.frontier_planner.proofs.names.name_label.Goals as goal
-use Rattle.frontier_planner.proofs.names.name_label.Goals.{After-index}
+use Rattle.frontier_planner.proofs.names.name_label.Goals.{After-deref-in-loop-rung, After-index-chain}
 
-pub next_from-successor-requires-clause-old_rung : goal.next_from-successor-requires-clause-old_rung
-next_from-successor-requires-clause-old_rung c =
-    let d = c.args.grid in
-    let g = task_of c.args.m.now c.args.clock.now c.args.set.now c.args.ahead in
-    let h = c.requires.layers in
-    let layers = c.args.layers.now in
-    let next = c.requires.seg in
-    (in_reach d g h.case c.args.seg c.args.reached (omega (arith, next)) c.requires.reached).0
-
-pub next_from-successor-requires-clause-old : goal.next_from-successor-requires-clause-old
-next_from-successor-requires-clause-old c =
-    let d = c.args.grid in
-    let g = task_of c.args.m.now c.args.clock.now c.args.set.now c.args.ahead in
-    let h = c.requires.layers in
-    let layers = c.args.layers.now in
-    let next = c.requires.seg in
-    label_follows d g h.case c.args.seg c.args.reached (omega (arith, next)) c.requires.reached
-
-pub index-requires : goal.index-requires
-index-requires c =
-    let d = c.args.grid in
-    let g = task_of c.args.m.now c.args.clock.now c.args.set.now c.args.ahead in
+pub index-chain-requires : goal.index-chain-requires
+index-chain-requires c =
+    let d = c.args.brief.now.grid in
+    let g = task_in c.args.brief.now in
     let h = c.requires.layers in
     let layers = c.args.layers.now in
     rung_inside d g layers h (c.args.seg + 1) c.loop-rung.rung c.index-layers-seg.result c.requires.seg (omega arith)
 
--- the levels of the next segment's chains
-have : (c : After-index) → HaveLevels (get_or c.args.layers.now (c.args.seg + 1) c.index-layers-seg.result).chains.items c.args.levels.now
+-- the finders of the next segment's chains
+have : (c : After-index-chain) → HaveFinders (get_or c.args.layers.now (c.args.seg + 1) c.index-layers-seg.result).chains.items c.args.finders.now
 have c =
     let count = c.requires.layers.count in
     let next = c.requires.seg in
-    c.requires.levels (omega (arith, next, count)) c.index-layers-seg.result
+    c.requires.finders (omega (arith, next, count)) c.index-layers-seg.result
 
 -- a rung is one of them
-inside : (c : After-index) → c.loop-rung.rung < length (get_or c.args.layers.now (c.args.seg + 1) c.index-layers-seg.result).chains.items
+inside : (c : After-index-chain) → c.loop-rung.rung < length (get_or c.args.layers.now (c.args.seg + 1) c.index-layers-seg.result).chains.items
 inside c =
-    let d = c.args.grid in
-    let g = task_of c.args.m.now c.args.clock.now c.args.set.now c.args.ahead in
+    let d = c.args.brief.now.grid in
+    let g = task_in c.args.brief.now in
     let count = chains_count d g c.args.layers.now c.requires.layers (c.args.seg + 1) c.index-layers-seg.result c.requires.seg in
-    let rung : c.loop-rung.rung < rungs_of c.args.m.now = omega arith in
+    let rung : c.loop-rung.rung < rungs_of c.args.brief.now.film.now = omega arith in
     omega (arith, count, rung)
 
-pub bounds-levels-rung : goal.bounds-levels-rung
-bounds-levels-rung c =
-    let s = (goal.at.bounds-levels-rung c).After-index in
+pub bounds-finders-rung : goal.bounds-finders-rung
+bounds-finders-rung c =
+    let s = (goal.at.bounds-finders-rung c).After-index-chain in
     let count = (have s).count in
     let low = inside s in
     omega (arith, count, low)
 
-pub first_above-place-requires-clause-few : goal.first_above-place-requires-clause-few
-first_above-place-requires-clause-few c =
-    let d = c.args.grid in
-    let g = task_of c.args.m.now c.args.clock.now c.args.set.now c.args.ahead in
-    let h = c.requires.layers in
-    let layers = c.args.layers.now in
-    let rung : c.loop-rung.rung < rungs_of c.args.m.now = omega arith in
-    let is = c.deref.ensures.value ∙ chain_is d g layers h (c.args.seg + 1) c.loop-rung.rung c.index-layers-seg.result c.index.result.now c.requires.seg rung c.index.ensures in
-    let few = chain_few d g layers h (c.args.seg + 1) c.loop-rung.rung c.requires.seg rung in
-    let long = ap length is in
+-- the chain that was read is the coarse frontier of the rung
+chain_there : (c : After-deref-in-loop-rung) → c.deref-in-loop-rung.result.now ≡ grown c.args.brief.now.grid (task_in c.args.brief.now) (c.args.seg + 1) c.loop-rung.rung
+chain_there c =
+    c.deref-in-loop-rung.ensures.value
+    ∙ chain_is c.args.brief.now.grid (task_in c.args.brief.now) c.args.layers.now c.requires.layers (c.args.seg + 1) c.loop-rung.rung c.index-layers-seg.result c.index-chain.result.now c.requires.seg (omega arith) c.index-chain.ensures
+
+pub name_of-place-requires-clause-reached : goal.name_of-place-requires-clause-reached
+name_of-place-requires-clause-reached c =
+    let d = c.args.brief.now.grid in
+    let g = task_in c.args.brief.now in
+    let next = c.requires.seg in
+    let low : c.args.seg < _ = omega (arith, next) in
+    record {
+      old_rung = (in_reach d g c.requires.layers.case c.args.seg c.args.reached low c.requires.reached).0;
+      old = label_follows d g c.requires.layers.case c.args.seg c.args.reached low c.requires.reached;
+      rung = omega arith;
+    }
+
+pub name_of-place-requires-clause-few : goal.name_of-place-requires-clause-few
+name_of-place-requires-clause-few c =
+    let few = chain_few c.args.brief.now.grid (task_in c.args.brief.now) c.args.layers.now c.requires.layers (c.args.seg + 1) c.loop-rung.rung c.requires.seg (omega arith) in
+    let long = ap length (chain_there c) in
     omega (arith, few, long)
 
-pub first_above-place-requires-clause-levels : goal.first_above-place-requires-clause-levels
-first_above-place-requires-clause-levels c =
-    let s = (goal.at.first_above-place-requires-clause-levels c).After-index in
-    levels_there _ c.args.levels.now c.loop-rung.rung c.index.result.now c.index-levels-rung.result _ _ (have s) (inside s) c.index.ensures c.deref.ensures.value c.index-levels-rung.is c.deref-in-loop-rung.ensures.value
+pub name_of-place-requires-clause-finder : goal.name_of-place-requires-clause-finder
+name_of-place-requires-clause-finder c =
+    let s = (goal.at.name_of-place-requires-clause-finder c).After-index-chain in
+    finder_there _ c.args.finders.now c.loop-rung.rung c.index-chain.result.now c.index-finders-rung.result _ (have s) (inside s) c.index-chain.ensures c.deref-in-loop-rung.ensures.value c.index-finders-rung.is
+
+pub name_of-place-requires-clause-above : goal.name_of-place-requires-clause-above
+name_of-place-requires-clause-above c =
+    let d = c.args.brief.now.grid in
+    let g = task_in c.args.brief.now in
+    let case = c.requires.layers.case in
+    let at = from_by_rung (rungs_of c.args.brief.now.film.now) (grown d g c.args.seg) c.args.reached c.requires.reached in
+    subst (λ ls. HasAbove ls (next_label g (c.args.seg + 1) c.args.reached.0 c.args.reached.1 c.loop-rung.rung)) (sym (chain_there c))
+    ((grown_covers d g case.grid).goes_on c.args.seg c.args.reached.0 c.loop-rung.rung c.requires.seg at.0 (omega arith) c.args.reached.1 at.1)
 
 pub loop-rung-preserved : goal.loop-rung-preserved
 loop-rung-preserved c =
-    let d = c.args.grid in
-    let g = task_of c.args.m.now c.args.clock.now c.args.set.now c.args.ahead in
-    let h = c.requires.layers in
-    let layers = c.args.layers.now in
-    let rung : c.loop-rung.rung < rungs_of c.args.m.now = omega arith in
-    let is = c.deref.ensures.value ∙ chain_is d g layers h (c.args.seg + 1) c.loop-rung.rung c.index-layers-seg.result c.index.result.now c.requires.seg rung c.index.ensures in
+    let d = c.args.brief.now.grid in
+    let g = task_in c.args.brief.now in
+    let s = (goal.at.loop-rung-preserved c).After-deref-in-loop-rung in
     c.in_ok-push.ensures.items
-    ∙ rung_pushed c.args.names.now.items c.loop-rung.names.items (λ r. place_above (grown d g (suc c.args.seg) r) (next_label g (suc c.args.seg) c.args.reached.0 c.args.reached.1 r)) c.loop-rung.rung c.first_above-place.result c.loop-rung.invariant
-    (name_one d g c.args.seg c.loop-rung.rung c.args.reached c.first_above-place.result c.deref.result.now c.next_from-successor.result c.first_above-place.ensures is c.next_from-successor.ensures.label)
+    ∙ rung_pushed c.args.names.now.items c.loop-rung.names.items (λ r. place_above (grown d g (suc c.args.seg) r) (next_label g (suc c.args.seg) c.args.reached.0 c.args.reached.1 r)) c.loop-rung.rung c.name_of-place.result c.loop-rung.invariant
+    (name_one d g c.args.seg c.loop-rung.rung c.args.reached c.name_of-place.result c.deref-in-loop-rung.result.now _ c.name_of-place.ensures (chain_there s) refl)

@@ -1,22 +1,21 @@
-use Rattle.std.proofs.Common.{◌≡◌, ◌∙◌, ◌+◌, ◌<◌, ◌≤◌, ap, arith}
-use Rattle.lab_model.specs.Film.{segments_of}
-use Rattle.frontier_planner.specs.Labels.{task_of}
+use Rattle.std.proofs.Common.{◌∙◌, ap, arith}
+use Rattle.frontier_planner.specs.Brief.{task_in}
 use Rattle.frontier_planner.proofs.Naming.{chain_is, named_no, named_yes, rung_inside}
 use Rattle.frontier_planner.proofs.names.named_chain.Goals as goal
 use Rattle.frontier_planner.proofs.names.named_chain.Goals.{then-seg-segments+in_ok-names, else-seg-segments}
 
 pub index-requires : goal.index-requires
 index-requires c =
-    let d = c.args.grid in
-    let g = task_of c.args.m.now c.args.clock.now c.args.set.now c.args.ahead in
+    let d = c.args.brief.now.grid in
+    let g = task_in c.args.brief.now in
     let h = c.requires.layers in
     let layers = c.args.layers.now in
     rung_inside d g layers h c.args.seg c.args.rung c.index-layers-seg.result c.requires.seg c.requires.rung
 
 pub returns : goal.returns
 returns c =
-    let d = c.args.grid in
-    let g = task_of c.args.m.now c.args.clock.now c.args.set.now c.args.ahead in
+    let d = c.args.brief.now.grid in
+    let g = task_in c.args.brief.now in
     let h = c.requires.layers in
     let layers = c.args.layers.now in
     let is = c.in_ok-labels.ensures.items ∙ c.deref.ensures.value ∙ chain_is d g layers h c.args.seg c.args.rung c.index-layers-seg.result c.index.result.now c.requires.seg c.requires.rung c.index.ensures in

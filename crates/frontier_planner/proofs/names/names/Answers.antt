@@ -1,9 +1,8 @@
-use Rattle.std.proofs.Common.{◌≡◌, ◌∙◌, ◌+◌, ◌<◌, ap, length, arith}
+use Rattle.std.proofs.Common.{◌∙◌, ap, length, arith}
 use Rattle.std.specs.List.{flat_map}
 use Rattle.std.proofs.lemmas.List.{take_all}
-use Rattle.lab_model.specs.Film.{segments_of}
 use Rattle.frontier_planner.specs.Grown.{grown}
-use Rattle.frontier_planner.specs.Labels.{task_of}
+use Rattle.frontier_planner.specs.Brief.{task_in}
 use Rattle.frontier_planner.specs.Layers.{names_read}
 use Rattle.frontier_planner.specs.Read.{no_label}
 use Rattle.frontier_planner.proofs.Naming.{chain_is, label_pushed, label_there, rung_inside}
@@ -11,8 +10,8 @@ use Rattle.frontier_planner.proofs.names.names.Goals as goal
 
 pub index-requires : goal.index-requires
 index-requires c =
-    let d = c.args.grid in
-    let g = task_of c.args.m.now c.args.clock.now c.args.set.now c.args.ahead in
+    let d = c.args.brief.now.grid in
+    let g = task_in c.args.brief.now in
     let h = c.requires.layers in
     let layers = c.args.layers.now in
     let next = c.requires.seg in
@@ -20,8 +19,8 @@ index-requires c =
 
 pub name_label-requires-clause-reached : goal.name_label-requires-clause-reached
 name_label-requires-clause-reached c =
-    let d = c.args.grid in
-    let g = task_of c.args.m.now c.args.clock.now c.args.set.now c.args.ahead in
+    let d = c.args.brief.now.grid in
+    let g = task_in c.args.brief.now in
     let h = c.requires.layers in
     let layers = c.args.layers.now in
     let next = c.requires.seg in
@@ -30,8 +29,8 @@ name_label-requires-clause-reached c =
 
 pub loop-l-preserved : goal.loop-l-preserved
 loop-l-preserved c =
-    let d = c.args.grid in
-    let g = task_of c.args.m.now c.args.clock.now c.args.set.now c.args.ahead in
+    let d = c.args.brief.now.grid in
+    let g = task_in c.args.brief.now in
     let h = c.requires.layers in
     let layers = c.args.layers.now in
     let next = c.requires.seg in
@@ -41,8 +40,8 @@ loop-l-preserved c =
 
 pub returns : goal.returns
 returns c =
-    let d = c.args.grid in
-    let g = task_of c.args.m.now c.args.clock.now c.args.set.now c.args.ahead in
+    let d = c.args.brief.now.grid in
+    let g = task_in c.args.brief.now in
     let h = c.requires.layers in
     let layers = c.args.layers.now in
     let next = c.requires.seg in

@@ -1,0 +1,124 @@
+//! Thinning: of the labels of a segment, those that are enough for the frontiers of the next one. They serve each
+//! next rung, so that few labels are followed.
+
+ghost use Rattle.std.specs.Prelude.{◌≡◌, ℕ, ◌+◌, ◌-◌, ◌*◌, ◌<◌, ◌≤◌, IfOk, List, map};
+ghost use Rattle.std.specs.List.{All};
+ghost use Rattle.std.specs.List.Sorted.{IsPermutation, IsSortedBy};
+ghost use Rattle.std.specs.Ordering.{is_lt};
+ghost use Rattle.lab_model.specs.Film.{rungs_of, segments_of};
+ghost use Rattle.frontier_planner.specs.Brief.{AreFollowed, IsBrief, task_in};
+ghost use Rattle.frontier_planner.specs.Layers.{grown_labels};
+ghost use Rattle.frontier_planner.specs.Near.{CanFollow};
+ghost use Rattle.frontier_planner.specs.Sweep.{sweep_cmp};
+ghost use Rattle.frontier_planner.specs.Thinned.{AreLeaders, CoversChange, raised, waiting};
+
+use crate::brief::Brief;
+use crate::grow::sweep_order;
+use crate::staircase::Staircase;
+use lab_model::Label;
+use std::alloc::{AllocError, Global};
+
+/// The labels of the segment before, each with the instant of its request in place of its finish time.
+fn waiting_labels(
+    alloc: Global,
+    brief: &Brief,
+    seg: u16,
+    before: &[(u8, Label)],
+) -> Result<Vec<(u8, Label)>, AllocError>
+    requires brief { IsBrief brief.now }
+    requires seg { (1 ≤ seg) × (seg < segments_of brief.now.film.now) }
+    requires before { All (λ c. CanFollow c.1) before.now }
+    ensures { IfOk result (λ v. v.items ≡ map (waiting (task_in brief.now) seg) before.now) }
+{
+    let mut waits = Vec::with_capacity(alloc, before.len())?;
+    for old in before {
+        let request = brief.request(seg, old.1);
+        waits.push((
+            old.0,
+            Label {
+                t: request,
+                ..old.1
+            },
+        ))?;
+    }
+    Ok(waits)
+}
+
+/// Puts labels into the order of the sweep, whatever their rungs.
+fn put_in_order(labels: &mut Vec<(u8, Label)>)
+    ensures sorted { IsSortedBy (λ a b. is_lt (sweep_cmp a.1 b.1)) labels.new.items }
+    ensures same { IsPermutation labels.old.items labels.new.items }
+{
+    labels.sort_unstable_by(|a, b| sweep_order(&a.1, &b.1));
+}
+
+/// What a change of rung costs at a segment at most: 0 to 10^12 thousandths of a point.
+fn dearest_change(brief: &Brief, seg: u16) -> u64
+    requires brief { IsBrief brief.now }
+    requires seg { seg < segments_of brief.now.film.now }
+    ensures most { CoversChange (task_in brief.now) seg result }
+    ensures limit { result ≤ 1000000000000 }
+{
+    let weights = &brief.setup.weights;
+    let mut top = 0;
+    for rung in 0..brief.film.rungs() {
+        top = weights.utility(seg, rung).max(top);
+    }
+    weights.switch() as u64 * top as u64
+}
+
+/// The label with so much more value.
+fn raised(label: Label, slack: u64) -> Label
+    requires label { CanFollow label }
+    requires slack { slack ≤ 1000000000000 }
+    ensures { result ≡ raised slack label }
+{
+    Label {
+        v: label.v + slack as i64,
+        ..label
+    }
+}
+
+/// Of labels in the order of the sweep, those that no earlier one leads by the slack, at most 10^12 thousandths
+/// of a point.
+fn leaders(
+    alloc: Global,
+    labels: &[(u8, Label)],
+    slack: u64,
+) -> Result<Vec<(u8, Label)>, AllocError>
+    requires sorted { IsSortedBy (λ a b. is_lt (sweep_cmp a.1 b.1)) labels.now }
+    requires follow { All (λ c. CanFollow c.1) labels.now }
+    requires slack { slack ≤ 1000000000000 }
+    ensures { IfOk result (λ v. AreLeaders slack labels.now v.items) }
+{
+    let mut kept = Vec::new(alloc);
+    let mut staircase = Staircase::new(alloc);
+    for reached in labels {
+        let label = reached.1;
+        if !staircase.covers(raised(label, slack)) {
+            kept.push(*reached)?;
+            if !staircase.covers(label) {
+                staircase.add(label)?;
+            }
+        }
+    }
+    Ok(kept)
+}
+
+/// Labels that are enough to follow to a segment, in place of all labels of the segment before.
+pub fn thinned(
+    alloc: Global,
+    brief: &Brief,
+    seg: u16,
+    before: &[(u8, Label)],
+) -> Result<Vec<(u8, Label)>, AllocError>
+    requires brief { IsBrief brief.now }
+    requires seg { (1 ≤ seg) × (seg < segments_of brief.now.film.now) }
+    requires before { before.now
+        ≡ grown_labels brief.now.grid (task_in brief.now) (seg - 1) }
+    ensures { IfOk result (λ v. AreFollowed brief.now seg v.items) }
+{
+    let mut waits = waiting_labels(alloc, brief, seg, before)?;
+    put_in_order(&mut waits);
+    leaders(alloc, &waits, dearest_change(brief, seg))
+}
