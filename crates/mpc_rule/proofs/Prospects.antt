@@ -1,13 +1,12 @@
 -- What the segments to come can add at most bounds each completion.
-use Rattle.std.proofs.Common.{◌≡◌, ◌∙◌, ℕ, zero, suc, ◌+◌, ◌-◌, ◌*◌, ◌<◌, ◌≤◌, List, [], ◌∷◌, get_or, refl, sym, ap, subst, min, arith}
-use Rattle.std.specs.Prelude.{ℤ, pos, ◌+ℤ◌, ◌-ℤ◌, ◌≤ℤ◌, slice_index_or}
+use Rattle.std.proofs.Common.{◌≡◌, ℕ, suc, ◌+◌, ◌-◌, ◌*◌, ◌<◌, ◌≤◌, [], refl, sym, ap, subst, arith}
+use Rattle.std.specs.Prelude.{ℤ, pos, ◌+ℤ◌, ◌≤ℤ◌, slice_index_or}
 use Rattle.std.specs.List.{All}
 use Rattle.std.proofs.Math.Nat.{mul-le-mul, mul-le-mul_left}
 use Rattle.std.proofs.lemmas.Int.{ints}
 use Rattle.std.proofs.lemmas.List.Elements.{All-nil, All-cons, All-weaker}
-use Rattle.lab_model.specs.Horizon.{next_level}
 use Rattle.lab_model.specs.Ladder.{rungs_below}
-use Rattle.lab_model.specs.Weighing.{change_of, utility_of}
+use Rattle.lab_model.specs.Weighing.{change_of}
 use Rattle.lab_model.proofs.Choices.{all_below, flat_fits}
 use Rattle.mpc_rule.specs.declared.outlook.Outlook.{Outlook}
 use Rattle.mpc_rule.specs.declared.forecast.Draft.{Draft}

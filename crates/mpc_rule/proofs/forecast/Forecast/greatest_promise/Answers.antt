@@ -1,4 +1,4 @@
-use Rattle.std.proofs.Common.{◌+◌, ◌<◌, ℕ, arith}
+use Rattle.std.proofs.Common.{◌+◌, ℕ, arith}
 use Rattle.std.specs.Prelude.{◌≤ℤ◌}
 use Rattle.std.proofs.lemmas.Int.{clamps, ints}
 use borrow.Author.Count.{below_more}

@@ -1,7 +1,5 @@
-use Rattle.std.proofs.Common.{◌+◌, ◌-◌, ◌*◌, ◌<◌, ◌≤◌, pos, arith}
-use Rattle.std.specs.Prelude.{slice_index_or}
+use Rattle.std.proofs.Common.{◌-◌, pos, arith}
 use Rattle.std.proofs.lemmas.Int.{ints}
-use Rattle.mpc_rule.specs.Search.{weights_of}
 use Rattle.mpc_rule.proofs.Prospects.{price_most, reach_is}
 use Rattle.mpc_rule.proofs.forecast.Forecast.reach.Goals as goal
 

@@ -1,5 +1,4 @@
-use Rattle.std.proofs.Common.{◌-◌}
-use Rattle.mpc_rule.specs.Search.{IsDraft, IsPart}
+use Rattle.mpc_rule.specs.Search.{IsPart}
 use Rattle.mpc_rule.proofs.search.Search.constant.Given as goal
 
 abbrev pub invariant-loop-i : goal.invariant-loop-i

@@ -1,4 +1,3 @@
-use Rattle.std.proofs.Common.{◌-◌}
 use Rattle.mpc_rule.specs.Search.{IsPart}
 use Rattle.mpc_rule.proofs.search.Search.led.Given as goal
 
