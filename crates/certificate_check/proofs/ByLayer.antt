@@ -1,9 +1,7 @@
 -- A certificate that is checked layer by layer: what was found stands for every certificate that begins with what was read.
-use Rattle.std.proofs.Common.{◌≡◌, ◌∙◌, ℕ, ◌+◌, ◌-◌, ◌*◌, ◌/◌, ◌<◌, ◌≤◌, List, [], ◌++◌, length, map, get_or, Option, Some, None, Result, Ok, Err, refl, sym, ap, ap₂, subst, append_assoc, append-nil, length-append, arith}
-use Rattle.std.specs.Prelude.{ℤ}
+use Rattle.std.proofs.Common.{◌≡◌, ◌∙◌, ℕ, ◌+◌, ◌*◌, ◌<◌, ◌≤◌, List, [], ◌++◌, length, map, get_or, Option, Some, None, Result, Ok, Err, refl, sym, ap, subst, append_assoc, length-append, arith}
 use Rattle.std.proofs.lemmas.List.{get_or-append-add, get_or_append_left, length-map}
 use Rattle.std.proofs.lemmas.Nat.{div-mul-add}
-use Rattle.lab_model.specs.Film.{rungs_of, segments_of}
 use Rattle.lab_model.specs.Reading.{Fails}
 use Rattle.lab_model.proofs.Refusals.{fails_on}
 use Rattle.lab_model.specs.declared.fault.InputFault.{InputFault}
@@ -11,13 +9,13 @@ use Rattle.lab_model.specs.declared.fault.Refusal.{Refusal}
 use Rattle.frontier_planner.specs.declared.plans.Chain.{Chain}
 use Rattle.frontier_planner.specs.Labels.{IsTask, Task}
 use Rattle.frontier_planner.specs.Parts.{CertificateParts, ChainParts, chain_parts}
-use Rattle.frontier_planner.specs.Valid.{chain_in, no_chain}
+use Rattle.frontier_planner.specs.Valid.{no_chain}
 use Rattle.certificate_text.specs.declared.certificate.Layer.{Layer}
 use Rattle.certificate_text.specs.declared.certificate.Verdict.{Verdict}
 use Rattle.certificate_text.specs.declared.certificate.Verdict.TheVariants.{Yes}
 use Rattle.certificate_text.specs.Fields.{◌>>=◌}
 use Rattle.certificate_text.specs.Form.{AreChains, IsChain, IsHead, label_count, names_per}
-use Rattle.certificate_text.specs.Reading.{Place, certificate_of, head_at}
+use Rattle.certificate_text.specs.Reading.{Place, certificate_of}
 use Rattle.certificate_text.specs.Walk.{IsBegun, Walk, begun, layer_of, layer_parts}
 use Rattle.certificate_text.proofs.CertificateLaws.{chains_take}
 use Rattle.certificate_text.proofs.FieldLaws.{bind_ok}
@@ -26,7 +24,7 @@ use Rattle.certificate_text.proofs.HeadLaws.{certificate_takes, head_takes}
 use Rattle.certificate_text.proofs.WalkLaws.{begins, begun_rest, layer_ends, layer_reads, prepended, rest_more, rest_of, rest_stopped, whole_of}
 use Rattle.certificate_check.specs.declared.checker.Found.{Found}
 use Rattle.certificate_check.specs.Scheme.{both}
-use Rattle.certificate_check.specs.Clauses.{count_of, counts_verdict, ends_verdict, layer_of as chains_by_rung, names_verdict, plan_verdict, ranges_verdict, score_verdict, starts_held, starts_verdict}
+use Rattle.certificate_check.specs.Clauses.{counts_verdict, ends_verdict, layer_of as chains_by_rung, names_verdict, plan_verdict, ranges_verdict, score_verdict, starts_held, starts_verdict}
 use Rattle.certificate_check.specs.Layers.{AreBoth, IsLayer, IsLayerOf, MayEnd}
 use Rattle.certificate_check.specs.Soundness.{Certifies}
 use Rattle.certificate_check.specs.Verdict.{lines_verdict, verdict_of}

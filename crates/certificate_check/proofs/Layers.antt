@@ -1,13 +1,11 @@
 -- The chains of a layer as the code reads them.
-use Rattle.std.proofs.Common.{◌≡◌, ◌∙◌, ℕ, ◌+◌, ◌*◌, ◌<◌, ◌≤◌, Bool, true, List, length, get_or, refl, sym, ap, subst, arith}
-use Rattle.std.specs.Prelude.{nat_lt}
-use Rattle.std.proofs.lemmas.List.{get_or-map, get_or_read}
-use Rattle.std.proofs.lemmas.Nat.{mul-add-lt}
+use Rattle.std.proofs.Common.{◌≡◌, ◌∙◌, ℕ, ◌<◌, ◌≤◌, List, length, get_or, sym, ap, subst}
+use Rattle.std.proofs.lemmas.List.{get_or-map}
 use Rattle.frontier_planner.specs.declared.plans.Chain.{Chain}
-use Rattle.frontier_planner.specs.Parts.{ChainParts, chain_parts}
+use Rattle.frontier_planner.specs.Parts.{chain_parts}
 use Rattle.frontier_planner.specs.Valid.{no_chain}
 use Rattle.certificate_text.specs.Form.{IsChain}
-use Rattle.certificate_check.specs.Clauses.{Layer, count_of, layer_of}
+use Rattle.certificate_check.specs.Clauses.{count_of, layer_of}
 use Rattle.certificate_check.specs.Layers.{IsLayer}
 
 -- the chain at a place, whatever stands for none

@@ -1,8 +1,8 @@
 -- The labels along a certificate's plan, as they are followed.
-use Rattle.std.proofs.Common.{◌≡◌, ◌∙◌, ℕ, suc, ◌+◌, ◌-◌, ◌<◌, ◌≤◌, List, length, sym, ap, subst, arith}
+use Rattle.std.proofs.Common.{◌≡◌, ◌∙◌, ℕ, suc, ◌<◌, List, sym, ap, arith}
 use Rattle.std.specs.Prelude.{slice_index}
 use Rattle.lab_model.specs.declared.label.Label.{Label}
-use Rattle.lab_model.specs.Film.{rungs_of, segments_of}
+use Rattle.lab_model.specs.Film.{segments_of}
 use Rattle.frontier_planner.specs.Labels.{AreRungs, IsTask, Task, label_at, next_label}
 use Rattle.frontier_planner.specs.Near.{CanFollow}
 use Rattle.frontier_planner.proofs.Path.{label_next}

@@ -1,21 +1,20 @@
 -- What the layers so far gave, beside the verdict on the whole certificate.
-use Rattle.std.proofs.Common.{◌≡◌, ◌∙◌, ℕ, zero, suc, ◌+◌, ◌-◌, ◌*◌, ◌<◌, ◌≤◌, List, [], length, refl, sym, ap, ap₂, subst, arith}
+use Rattle.std.proofs.Common.{◌≡◌, ◌∙◌, ℕ, zero, suc, ◌+◌, ◌-◌, ◌<◌, List, [], length, sym, ap, ap₂, subst, arith}
 use Rattle.std.specs.Prelude.{ℤ, slice_index, nat_lt}
-use Rattle.std.specs.List.{All}
 use Rattle.lab_model.specs.Film.{rungs_of, segments_of}
 use Rattle.frontier_planner.specs.declared.plans.Chain.{Chain}
-use Rattle.frontier_planner.specs.Labels.{AreRungs, Task, dominates, next_label, start_label}
-use Rattle.frontier_planner.specs.Parts.{CertificateParts, ChainParts}
+use Rattle.frontier_planner.specs.Labels.{Task, dominates, next_label, start_label}
+use Rattle.frontier_planner.specs.Parts.{CertificateParts}
 use Rattle.frontier_planner.specs.Valid.{chain_in}
 use Rattle.certificate_text.specs.declared.certificate.Verdict.{Verdict}
-use Rattle.certificate_text.specs.declared.certificate.Verdict.TheVariants.{Yes, No}
+use Rattle.certificate_text.specs.declared.certificate.Verdict.TheVariants.{Yes}
 use Rattle.certificate_text.specs.Form.{names_per}
 use Rattle.certificate_check.specs.declared.checker.Found.{Found}
 use Rattle.certificate_check.specs.Scheme.{both, first_no, tested}
-use Rattle.certificate_check.specs.Clauses.{Layer, count_of, counts_verdict, end_verdict, ends_verdict, is_near, label_of, layer_of, name_of, name_ranges, name_verdict, names_verdict, plan_verdict, range_verdict, ranges_verdict, score_verdict, starts_held, starts_verdict}
+use Rattle.certificate_check.specs.Clauses.{Layer, count_of, counts_verdict, end_verdict, ends_verdict, is_near, label_of, layer_of, name_of, name_verdict, names_verdict, plan_verdict, range_verdict, ranges_verdict, score_verdict, starts_held, starts_verdict}
 use Rattle.certificate_check.specs.Layers.{AreBoth, IsLayerOf, MayEnd}
 use Rattle.certificate_check.specs.Verdict.{claims_up_to, ends_in, names_in, ranges_in, ranges_up_to, verdict_of}
-use Rattle.certificate_check.proofs.Scheme.{both-assoc, both_first, both_second, both_none, both_same, both_yes, first_next, first_none, first_same}
+use Rattle.certificate_check.proofs.Scheme.{both-assoc, both_first, both_second, both_none, both_same, first_next, first_none, first_same}
 use Rattle.certificate_check.proofs.Verdicts.{all_below, counts_match, per_inside, per_last, plan_in_range}
 
 -- ---- layers that agree give the same verdicts

@@ -1,10 +1,10 @@
 -- The layers of a certificate as slices of its chains.
-use Rattle.std.proofs.Common.{◌≡◌, ◌∙◌, ℕ, zero, suc, ◌+◌, ◌-◌, ◌*◌, ◌/◌, ◌<◌, ◌≤◌, List, [], ◌∷◌, length, map, take, drop, get_or, refl, sym, ap, subst, arith}
+use Rattle.std.proofs.Common.{◌≡◌, ◌∙◌, ℕ, zero, suc, ◌+◌, ◌-◌, ◌*◌, ◌/◌, ◌<◌, ◌≤◌, List, [], ◌∷◌, length, map, take, drop, get_or, sym, ap, subst, arith}
 use Rattle.std.proofs.lemmas.List.{drop-map, get_or-drop, get_or-take, length-drop, length-map, length-take-le, take-map}
 use Rattle.std.proofs.lemmas.Nat.{div-mul-add, mul-add-lt}
 use Rattle.frontier_planner.specs.declared.plans.Chain.{Chain}
-use Rattle.frontier_planner.specs.Parts.{CertificateParts, ChainParts, chain_parts}
-use Rattle.frontier_planner.specs.Valid.{chain_in, no_chain}
+use Rattle.frontier_planner.specs.Parts.{ChainParts, chain_parts}
+use Rattle.frontier_planner.specs.Valid.{no_chain}
 use Rattle.certificate_text.specs.declared.certificate.Certificate.{Certificate}
 use Rattle.certificate_text.specs.Form.{AreChains, IsCertificate, IsChain, certificate_parts, label_count, names_per}
 use Rattle.certificate_check.specs.Clauses.{count_of, layer_of}

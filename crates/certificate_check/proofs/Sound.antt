@@ -1,13 +1,13 @@
 -- A valid certificate proves what it claims, whoever made it.
-use Rattle.std.proofs.Common.{◌≡◌, ◌∙◌, ℕ, ◌+◌, ◌-◌, ◌<◌, ◌≤◌, List, length, refl, sym, ap, subst, arith}
+use Rattle.std.proofs.Common.{◌≡◌, ◌∙◌, ℕ, ◌+◌, ◌-◌, ◌<◌, ◌≤◌, length, sym, ap, subst, arith}
 use Rattle.std.specs.Prelude.{ℤ, ◌≤ℤ◌, slice_index}
 use Rattle.std.specs.List.{Contains}
 use Rattle.std.proofs.lemmas.List.{get_or_read}
 use Rattle.std.proofs.lemmas.List.Elements.{Contains-get_or}
 use Rattle.lab_model.specs.declared.label.Label.{Label}
 use Rattle.lab_model.specs.Film.{rungs_of, segments_of}
-use Rattle.frontier_planner.specs.Labels.{AreRungs, Dominates, IsTask, Task, end_value, next_label, start_label}
-use Rattle.frontier_planner.specs.Covers.{Covers, HasAbove}
+use Rattle.frontier_planner.specs.Labels.{AreRungs, Dominates, IsTask, Task, end_value, next_label}
+use Rattle.frontier_planner.specs.Covers.{Covers}
 use Rattle.frontier_planner.specs.Parts.{CertificateParts}
 use Rattle.frontier_planner.specs.Read.{Chains, no_label}
 use Rattle.frontier_planner.specs.Valid.{IsPlace, IsValid, chain_in, count_in, label_in, name_in, start_in}

@@ -1,24 +1,23 @@
 -- The verdict is a Yes exactly where the certificate is valid.
-use Rattle.std.proofs.Common.{◌≡◌, ◌∙◌, ℕ, zero, suc, ◌+◌, ◌-◌, ◌*◌, ◌<◌, ◌≤◌, ◌⊎◌, ⊎_elim, Bool, true, false, not, ◌&&◌, List, length, refl, sym, ap, subst, arith}
+use Rattle.std.proofs.Common.{◌≡◌, ℕ, ◌+◌, ◌-◌, ◌<◌, ◌≤◌, ⊎_elim, Bool, true, false, not, ◌&&◌, List, length, refl, sym, subst, arith}
 use Rattle.std.specs.Prelude.{ℤ, ◌≤ℤ◌, ◌==◌, if◌then◌else◌, int_le, nat_le, nat_lt, slice_index}
 use Rattle.std.specs.List.{All}
 use Rattle.std.specs.Ordering.{int_eq}
 use Rattle.std.proofs.lemmas.Grind.{get_or_default_zero}
-use Rattle.std.proofs.lemmas.Bool.{and_from, and_parts, cases_lt, cond-true, cond-false, le-leb, leb-true, lt-ltb, ltb-true}
+use Rattle.std.proofs.lemmas.Bool.{and_from, and_parts, cases_lt, cond-true, cond-false, le-leb, lt-ltb, ltb-true}
 use Rattle.std.proofs.lemmas.Int.{ints}
-use Rattle.lab_model.specs.declared.label.Label.{Label}
 use Rattle.lab_model.specs.Film.{rungs_of, segments_of}
-use Rattle.frontier_planner.specs.Labels.{AreRungs, Dominates, Task, dominates, end_value, next_label, start_label}
+use Rattle.frontier_planner.specs.Labels.{Dominates, Task, dominates, end_value, next_label, start_label}
 use Rattle.frontier_planner.specs.Near.{farthest_ms}
-use Rattle.frontier_planner.specs.Parts.{CertificateParts, ChainParts}
+use Rattle.frontier_planner.specs.Parts.{CertificateParts}
 use Rattle.frontier_planner.specs.Read.{has_table, list_value}
-use Rattle.frontier_planner.specs.Valid.{CountsMatch, EndsBelow, InRange, IsPlace, IsValid, NamesHold, ScoreHolds, StartsHold, chain_in, count_in, label_in, name_in, start_in}
+use Rattle.frontier_planner.specs.Valid.{CountsMatch, EndsBelow, InRange, IsPlace, IsValid, NamesHold, ScoreHolds, StartsHold, chain_in, count_in, label_in, start_in}
 use Rattle.frontier_planner.proofs.Kept.{dominates_from, dominates_true}
 use Rattle.certificate_text.specs.declared.certificate.Verdict.{Verdict}
-use Rattle.certificate_text.specs.declared.certificate.Verdict.TheVariants.{Yes, No}
+use Rattle.certificate_text.specs.declared.certificate.Verdict.TheVariants.{Yes}
 use Rattle.certificate_text.specs.Form.{names_per}
-use Rattle.certificate_check.specs.Scheme.{both, first_no, tested}
-use Rattle.certificate_check.specs.Clauses.{Layer, count_of, counts_verdict, end_verdict, ends_verdict, is_near, label_of, name_of, name_ranges, name_verdict, names_verdict, over_labels, plan_verdict, range_verdict, ranges_verdict, score_verdict, starts_held, starts_verdict}
+use Rattle.certificate_check.specs.Scheme.{first_no, tested}
+use Rattle.certificate_check.specs.Clauses.{Layer, count_of, counts_verdict, end_verdict, ends_verdict, is_near, name_of, name_verdict, over_labels, plan_verdict, range_verdict, score_verdict, starts_held, starts_verdict}
 use Rattle.certificate_check.specs.Verdict.{claims_up_to, ends_in, names_in, ranges_in, ranges_up_to, verdict_of}
 use Rattle.certificate_check.proofs.Scheme.{all_yes, both_first, both_second, both_yes, tested_yes, yes_at, yes_tested}
 use Rattle.certificate_check.proofs.InRange.{name_in_range, start_in_range, times_in}

@@ -1,6 +1,6 @@
 -- How long the text of a certificate may be.
-use Rattle.std.proofs.Common.{◌≡◌, ◌∙◌, ◌+◌, ◌-◌, ◌*◌, ◌/◌, ◌%◌, ◌^◌, ◌<◌, ◌≤◌, ◌++◌, ◌==◌, ℕ, zero, suc, List, [], ◌∷◌, Bool, true, false, codes, drop, length, length-append, map, take, min, refl, sym, ap, subst, arith, if◌then◌else◌, lit≤}
-use Rattle.std.specs.Prelude.{ℤ, pos, negsuc, ◌-ℤ◌, ◌<ℤ◌}
+use Rattle.std.proofs.Common.{◌≡◌, ◌+◌, ◌*◌, ◌/◌, ◌%◌, ◌^◌, ◌<◌, ◌≤◌, ◌++◌, ◌==◌, ℕ, suc, List, [], ◌∷◌, Bool, true, false, codes, drop, length, length-append, map, take, ap, arith, if◌then◌else◌, lit≤}
+use Rattle.std.specs.Prelude.{ℤ, pos, negsuc}
 use Rattle.std.specs.List.{All}
 use Rattle.std.specs.Fmt.{decimal, signed_decimal}
 use Rattle.std.proofs.lemmas.Fmt.{length-decimal-le_wide}
@@ -15,7 +15,7 @@ use Rattle.frontier_planner.specs.Parts.{CertificateParts, ChainParts}
 use Rattle.certificate_text.specs.Fields.{HasDigits, HasSignedDigits}
 use Rattle.certificate_text.specs.Line.{fields_of}
 use Rattle.certificate_text.specs.Grammar.{end_line, plan_line, rungs_line, score_line, segments_line, start_line}
-use Rattle.certificate_text.specs.Form.{AreChains, IsCertificate, IsChain, IsHead, IsSpelled, label_count, names_per}
+use Rattle.certificate_text.specs.Form.{AreChains, IsCertificate, IsHead, IsSpelled, label_count, names_per}
 use Rattle.certificate_text.specs.Spelling.{chain_lines, chains_lines, head_lines, label_fields, label_lines, layer_fields, lines_text, spelling, table_lines, version_fields, version_number}
 use Rattle.certificate_text.proofs.Texts.{spelling_parts}
 

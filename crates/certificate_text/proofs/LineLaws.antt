@@ -1,5 +1,5 @@
 -- Lines: what is read of any form is held by it and spelled so, and what it holds is read from its spelling, whatever follows.
-use Rattle.std.proofs.Common.{◌≡◌, ◌∙◌, ◌+◌, ◌≤◌, ◌++◌, ℕ, suc, List, [], ◌∷◌, Bool, true, Ok, length, map, refl, sym, ap, subst, append_assoc, arith}
+use Rattle.std.proofs.Common.{◌≡◌, ◌∙◌, ◌≤◌, ◌++◌, ℕ, suc, List, [], ◌∷◌, true, Ok, length, map, refl, sym, ap, subst, append_assoc, arith}
 use Rattle.std.specs.Fmt.{decimal, signed_decimal}
 use Rattle.std.proofs.lemmas.List.{length-map}
 use Rattle.lab_io.specs.Sink.{Text}

@@ -1,7 +1,7 @@
 -- The certificate of a plan has a text.
-use Rattle.std.proofs.Common.{◌≡◌, ◌∙◌, ℕ, zero, suc, ◌+◌, ◌-◌, ◌*◌, ◌/◌, ◌%◌, ◌^◌, ◌<◌, ◌≤◌, ◌==◌, ◌⊎◌, ⊎_elim, List, [], ◌∷◌, length, get_or, map, refl, sym, ap, subst, length-append, lt-ltb, arith}
-use Rattle.std.specs.Prelude.{ℤ, pos, ◌-ℤ◌, ◌<ℤ◌, nat_lt}
-use Rattle.std.specs.List.{All, flat_map, sum_by}
+use Rattle.std.proofs.Common.{◌≡◌, ◌∙◌, ℕ, suc, ◌+◌, ◌*◌, ◌/◌, ◌%◌, ◌<◌, ◌≤◌, ◌==◌, ⊎_elim, List, [], ◌∷◌, length, get_or, map, refl, sym, ap, subst, length-append, lt-ltb, arith}
+use Rattle.std.specs.Prelude.{ℤ, nat_lt}
+use Rattle.std.specs.List.{flat_map}
 use Rattle.std.proofs.Math.Nat.{div-lt_iff_lt-mul, mod-lt}
 use Rattle.std.proofs.lemmas.Nat.{div-add-mod'}
 use Rattle.std.proofs.lemmas.Bool.{cases_lt, cond-true, cond-false, le-ltb}
@@ -19,7 +19,7 @@ use Rattle.frontier_planner.specs.Parts.{CertificateParts, ChainParts, plan_part
 use Rattle.frontier_planner.specs.Planned as planned
 use Rattle.frontier_planner.specs.Planned.{IsPlanOf, IsShort, IsShortCertificate, IsShortChain, IsShortValue}
 use Rattle.frontier_planner.specs.Read.{Chains, certificate_of, chain_list, chain_with_names, list_of_plan, names_of, names_of_label, place_above, starts_of}
-use Rattle.frontier_planner.specs.Valid.{chain_in, no_chain}
+use Rattle.frontier_planner.specs.Valid.{no_chain}
 use Rattle.frontier_planner.proofs.Accepts.{chain_at}
 use Rattle.certificate_text.specs.Fields.{HasDigits, HasSignedDigits, place_digits}
 use Rattle.certificate_text.specs.Grammar.{rung_digits, score_digits}

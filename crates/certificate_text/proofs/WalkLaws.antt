@@ -1,5 +1,5 @@
 -- A certificate that is read layer by layer: each layer is the next of the chains, and what is left decides the whole.
-use Rattle.std.proofs.Common.{◌≡◌, ◌∙◌, ◌+◌, ◌-◌, ◌*◌, ◌/◌, ◌%◌, ◌<◌, ◌≤◌, ◌==◌, ◌++◌, ℕ, zero, suc, List, [], ◌∷◌, Bool, true, false, Option, Some, None, Result, Ok, Err, refl, sym, ap, subst, append_assoc, append-nil, cond, arith}
+use Rattle.std.proofs.Common.{◌≡◌, ◌∙◌, ◌+◌, ◌-◌, ◌*◌, ◌/◌, ◌%◌, ◌<◌, ◌≤◌, ◌==◌, ◌++◌, ℕ, zero, suc, List, [], ◌∷◌, Bool, true, false, Option, Some, None, Result, Ok, Err, refl, sym, ap, subst, cond, arith}
 use Rattle.std.specs.Prelude.{IfOk, map}
 use Rattle.std.specs.Option.{is_some}
 use Rattle.lab_model.specs.declared.fault.Refusal.{Refusal}
@@ -13,7 +13,7 @@ use Rattle.certificate_text.specs.Fields.{◌>>=◌}
 use Rattle.certificate_text.specs.Reading.{Place, Walks, certificate_of, chain_at, chains_at, end_at, head_at}
 use Rattle.certificate_text.specs.Walk.{IsBegun, Walk, accepted, begun, ended, layer_of, layer_parts, went}
 use Rattle.certificate_text.proofs.FieldLaws.{bind_ok}
-use Rattle.certificate_text.proofs.Loops.{given, ok_is, with_front}
+use Rattle.certificate_text.proofs.Loops.{ok_is, with_front}
 
 -- ---- chains in two parts
 

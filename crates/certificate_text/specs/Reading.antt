@@ -1,7 +1,6 @@
 -- What the bytes of a certificate stand for, or their first bad line.
 use Rattle.std.specs.Prelude.{ℕ, zero, suc, ◌+◌, ◌-◌, ◌*◌, ◌/◌, ◌%◌, ◌==◌, Bool, List, [], ◌∷◌, ◌++◌, Result, Ok, Err, if◌then◌else◌, nat_le}
 use Rattle.lab_model.specs.declared.fault.Refusal.{Refusal}
-use Rattle.lab_model.specs.declared.label.Label.{Label}
 use Rattle.lab_io.specs.Sink.{Text}
 use Rattle.frontier_planner.specs.Parts.{CertificateParts, ChainParts}
 use Rattle.certificate_text.specs.declared.chains.Spot.{Spot}

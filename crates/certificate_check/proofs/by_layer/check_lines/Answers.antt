@@ -1,4 +1,4 @@
-use Rattle.std.proofs.Common.{◌≡◌, ◌∙◌, ℕ, ℤ, List, Ok, [], ◌+◌, ◌-◌, ◌<◌, ◌≤◌, length, refl, sym, ap, ap₂, subst, arith, rules}
+use Rattle.std.proofs.Common.{◌≡◌, ◌∙◌, ℕ, ℤ, List, Ok, [], ◌-◌, ◌≤◌, length, refl, sym, ap, ap₂, subst, arith, rules}
 use mir.Val.{SFits}
 use Rattle.std.specs.Int.{w128}
 use Rattle.std.proofs.lemmas.Int.{to_z-of_z}
@@ -11,7 +11,7 @@ use Rattle.certificate_check.specs.Clauses.{counts_verdict, ends_verdict, layer_
 use Rattle.certificate_check.specs.Verdict.{lines_verdict}
 use Rattle.certificate_check.proofs.ByLayer.{end_fits, fault_first, fault_said, first_read, head_read, more_fits, stands_begun, stands_on, still_inside, verdict_said, yes_said}
 use Rattle.certificate_check.proofs.Scheme.{both_first}
-use Rattle.certificate_check.proofs.Verdicts.{counts_match, per_inside, per_last}
+use Rattle.certificate_check.proofs.Verdicts.{counts_match}
 use Rattle.certificate_check.proofs.by_layer.check_lines.Goals as goal
 
 pub head_verdict-head-requires : goal.head_verdict-head-requires

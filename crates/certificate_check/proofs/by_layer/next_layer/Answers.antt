@@ -1,6 +1,5 @@
-use Rattle.std.proofs.Common.{◌∙◌, arith, ap, sym}
+use Rattle.std.proofs.Common.{arith}
 use Rattle.certificate_text.proofs.WalkLaws.{layer_ends}
-use Rattle.certificate_text.specs.Walk.{layer_parts}
 use Rattle.certificate_check.proofs.by_layer.next_layer.Goals as goal
 
 pub unreachable-requires : goal.unreachable-requires

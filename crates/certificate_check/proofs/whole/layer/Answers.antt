@@ -1,4 +1,4 @@
-use Rattle.std.proofs.Common.{◌≡◌, ◌∙◌, ◌+◌, ◌-◌, ◌*◌, take, drop, sym, ap, ap₂, subst, arith}
+use Rattle.std.proofs.Common.{◌≡◌, ◌+◌, ◌-◌, ◌*◌, take, drop, sym, ap₂, subst, arith}
 use Rattle.certificate_text.specs.Form.{certificate_parts, names_per}
 use Rattle.certificate_check.specs.Layers.{IsLayer, IsLayerOf}
 use Rattle.certificate_check.proofs.Slices.{slice_form, slice_is}

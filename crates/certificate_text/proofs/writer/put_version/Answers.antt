@@ -1,4 +1,4 @@
-use Rattle.std.proofs.Common.{◌≡◌, ◌∷◌, [], ◌++◌, codes, pos, subst, arith, ℤ}
+use Rattle.std.proofs.Common.{◌≡◌, ◌∷◌, [], codes, pos, subst, arith, ℤ}
 use Rattle.std.specs.Int.{w128}
 use Rattle.std.specs.Fmt.{signed_decimal}
 use Rattle.std.proofs.lemmas.Int.{ints}

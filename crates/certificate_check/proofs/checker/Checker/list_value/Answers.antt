@@ -1,7 +1,7 @@
-use Rattle.std.proofs.Common.{◌≡◌, ◌∙◌, ◌+◌, ◌-◌, ◌<◌, ◌≤◌, suc, length, refl, sym, ap, subst, slice_index, arith, add-one}
+use Rattle.std.proofs.Common.{◌≡◌, ◌∙◌, ◌+◌, ◌-◌, ◌<◌, ◌≤◌, suc, refl, sym, ap, subst, slice_index, arith, add-one}
 use Rattle.lab_model.specs.declared.label.Label.{Label}
 use Rattle.lab_model.specs.Film.{rungs_of, segments_of}
-use Rattle.frontier_planner.specs.Labels.{end_value, label_at}
+use Rattle.frontier_planner.specs.Labels.{label_at}
 use Rattle.frontier_planner.specs.Near.{CanFollow}
 use Rattle.frontier_planner.proofs.Path.{label_first}
 use Rattle.frontier_planner.proofs.Covered.{rung_at}

@@ -1,4 +1,4 @@
-use Rattle.std.proofs.Common.{◌≡◌, ◌∙◌, sym, ap}
+use Rattle.std.proofs.Common.{◌∙◌, sym, ap}
 use Rattle.lab_model.proofs.Refusals.{fails_on, gives_error}
 use Rattle.certificate_text.proofs.WalkLaws.{begun_accepted, rest_stopped, silent, walk_on, walk_over}
 use Rattle.certificate_text.proofs.lines.Lines.read_rest.Goals as goal
