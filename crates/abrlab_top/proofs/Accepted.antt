@@ -1,13 +1,10 @@
 -- `check` says yes to the certificate that `plan` answers.
-use Rattle.std.proofs.Common.{◌≡◌, ◌∙◌, ℕ, zero, suc, ◌+◌, ◌-◌, ◌<◌, ◌≤◌, ⊎_elim, Bool, true, false, List, [], ◌∷◌, ◌++◌, length, Option, Some, None, Result, Ok, refl, sym, ap, ap₂, subst, arith, append_assoc, append-nil}
-use Rattle.std.specs.Prelude.{nat_lt, if◌then◌else◌}
-use Rattle.std.specs.List.{All, find, range_with_len}
-use Rattle.std.proofs.lemmas.Bool.{cases_lt}
+use Rattle.std.proofs.Common.{◌≡◌, ◌∙◌, ℕ, suc, ◌+◌, ◌-◌, ◌≤◌, true, false, List, [], ◌∷◌, ◌++◌, length, Option, Some, None, Result, Ok, refl, sym, ap, ap₂, subst, arith, append_assoc, append-nil}
+use Rattle.std.specs.Prelude.{nat_lt}
 use Rattle.std.proofs.lemmas.Bool.Decides.{nat_tests}
 use Rattle.lab_io.specs.Sink.{Text}
 use Rattle.lab_model.specs.declared.trace.Period.{Period}
 use Rattle.lab_model.specs.declared.setup.Setup.{Setup}
-use Rattle.lab_model.specs.Cycle.{IsTrace}
 use Rattle.lab_model.specs.Film.{segments_of}
 use Rattle.lab_words.specs.declared.Verb.TheVariants.{Plan, Check}
 use Rattle.lab_words.specs.Command.{CommandWords}
@@ -17,8 +14,7 @@ use Rattle.lab_inputs.specs.declared.stop.Setting.{Setting}
 use Rattle.lab_inputs.specs.declared.stop.Stop.{Stop}
 use Rattle.lab_inputs.specs.Files.{Files, later_files, optional_file, trace_files, traces_from}
 use Rattle.lab_inputs.specs.Inputs.{◌>>=◌, InputValues, inputs_from, inputs_of, with_certificate, with_file}
-use Rattle.lab_inputs.specs.Settings.{kinds_of, misfit_of, ready_of, settled, setup_of, unless_misfit}
-use Rattle.lab_inputs.proofs.Fits.{all_fits}
+use Rattle.lab_inputs.specs.Settings.{misfit_of, ready_of, settled, setup_of, unless_misfit}
 use Rattle.lab_inputs.proofs.Steps.{bind_ok, inputs_one_more, ok_same, ready_traces}
 use Rattle.player_core.specs.Available.{all_ahead}
 use Rattle.frontier_planner.specs.Frontier.{frontier}

@@ -1,10 +1,9 @@
 -- The headline of each command, from what is known of a run that answered 0.
-use Rattle.std.proofs.Common.{◌≡◌, ◌∙◌, ℕ, List, [], ◌∷◌, length, Option, Some, None, Result, Ok, Err, ap, sym, refl, subst, arith}
+use Rattle.std.proofs.Common.{◌≡◌, ◌∙◌, ℕ, List, [], ◌∷◌, length, Option, Some, None, Ok, ap, sym, refl, subst, arith}
 use Rattle.std.specs.List.{All}
 use Rattle.lab_io.specs.Sink.{Text, Grew}
 use Rattle.lab_model.specs.declared.trace.Period.{Period}
 use Rattle.lab_model.specs.Cycle.{IsTrace}
-use Rattle.lab_model.specs.Fit.{SetupFits}
 use Rattle.lab_words.specs.declared.Verb.{Verb}
 use Rattle.lab_words.specs.declared.Verb.TheVariants as verb
 use Rattle.lab_words.specs.Command.{CommandWords}
@@ -13,21 +12,17 @@ use Rattle.lab_words.specs.Words.{command_of}
 use Rattle.lab_inputs.specs.declared.stop.Ending.{Ending}
 use Rattle.lab_inputs.specs.declared.stop.Ending.TheVariants as ending
 use Rattle.lab_inputs.specs.declared.stop.Role.TheVariants as role
-use Rattle.lab_inputs.specs.declared.stop.Stop.{Stop}
 use Rattle.lab_inputs.specs.Files.{Files}
 use Rattle.lab_inputs.specs.Inputs.{◌>>=◌, InputValues, inputs_of, read_as}
-use Rattle.lab_inputs.specs.Settings.{ready_of, settled, setup_of}
+use Rattle.lab_inputs.specs.Settings.{ready_of, settled}
 use Rattle.lab_inputs.specs.Stages.{Tells}
 use Rattle.lab_inputs.proofs.Steps.{bind_ok, ok_same, read_ok, ready_traces, role_ok}
-use Rattle.lab_inputs.proofs.Within.{AreWithin, ready_within, settled_fits}
-use Rattle.frontier_planner.specs.Frontier.{frontier}
-use Rattle.frontier_planner.specs.Grid.{exact}
+use Rattle.lab_inputs.proofs.Within.{ready_within, settled_fits}
 use Rattle.frontier_planner.specs.Labels.{IsTask}
 use Rattle.frontier_planner.specs.Parts.{CertificateParts}
 use Rattle.frontier_planner.proofs.Sound.{plan_accepted, plan_settles, sound}
 use Rattle.certificate_text.specs.declared.certificate.Verdict.{Verdict}
 use Rattle.certificate_text.specs.declared.certificate.Verdict.TheVariants.{Yes, No}
-use Rattle.certificate_text.specs.Form.{IsCertificate}
 use Rattle.certificate_text.specs.Reading.{certificate_of}
 use Rattle.certificate_text.proofs.HeadLaws.{certificate_takes}
 use Rattle.certificate_check.specs.Verdict.{verdict_of}

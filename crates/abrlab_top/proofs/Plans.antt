@@ -1,8 +1,7 @@
 -- What `plan` answers, from what the planner gave.
-use Rattle.std.proofs.Common.{◌≡◌, ◌∙◌, ◌+◌, ◌-◌, ◌≤◌, ◌<◌, ◌⊎◌, ⊎_elim, ℕ, zero, suc, Bool, true, false, List, [], ◌∷◌, length, Some, None, Ok, Err, Option, Result, ap, sym, refl, subst, arith, if◌then◌else◌}
+use Rattle.std.proofs.Common.{◌≡◌, ◌∙◌, ◌-◌, ◌≤◌, ℕ, suc, List, [], ◌∷◌, Some, None, Ok, Err, Result, ap, sym, refl, subst, arith}
 use Rattle.std.specs.Prelude.{nat_lt}
-use Rattle.std.specs.List.{find, range_with_len}
-use Rattle.std.proofs.lemmas.Bool.{cases_lt, cond-true, cond-false, le-ltb, lt-ltb}
+use Rattle.std.proofs.lemmas.Bool.{le-ltb, lt-ltb}
 use Rattle.lab_model.specs.declared.setup.Setup.{Setup}
 use Rattle.lab_model.specs.declared.trace.Period.{Period}
 use Rattle.lab_model.specs.Film.{segments_of}
@@ -18,11 +17,11 @@ use Rattle.frontier_planner.specs.Grid.{exact}
 use Rattle.frontier_planner.specs.Labels.{IsTask, Task, task_of}
 use Rattle.frontier_planner.specs.Parts.{CertificateParts, plan_parts}
 use Rattle.frontier_planner.specs.Planned.{IsPlanOf, PlanAnswer}
-use Rattle.frontier_planner.specs.Read.{SpentAt, labels_before, labels_in, labels_of}
+use Rattle.frontier_planner.specs.Read.{SpentAt, labels_before, labels_in}
 use Rattle.frontier_planner.proofs.Naming.{before_beyond}
 use Rattle.certificate_text.proofs.PlanText.{plan_has_text}
-use Rattle.abrlab_top.specs.Answer.{Answer, printed}
-use Rattle.abrlab_top.specs.Plan.{labels_on, parts_text, plan, plan_text, plan_traces, spent_on, task_on, unless_spent}
+use Rattle.abrlab_top.specs.Answer.{printed}
+use Rattle.abrlab_top.specs.Plan.{labels_on, parts_text, plan, spent_on, task_on, unless_spent}
 use Rattle.abrlab_top.specs.Stages.{Plans}
 use Rattle.abrlab_top.proofs.Finds.{found_from, none_from}
 

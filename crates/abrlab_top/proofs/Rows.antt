@@ -1,12 +1,12 @@
 -- What each answer of a run has for a cause, from the cause of its ending.
-use Rattle.std.proofs.Common.{◌≡◌, ◌⊎◌, ℕ, ◌<◌, ◌^◌, ◌-◌, ◌==◌, ◌||◌, ◌++◌, List, [], ◌∷◌, Bool, true, false, Option, Some, None, Result, Ok, Err, IsSome, ap, sym, ◌∙◌, refl, arith, inl, inr, append-nil, subst, length}
+use Rattle.std.proofs.Common.{◌≡◌, ◌⊎◌, ℕ, ◌<◌, ◌^◌, ◌-◌, ◌==◌, ◌||◌, ◌++◌, List, [], ◌∷◌, Bool, true, false, Option, Some, None, Result, Ok, Err, IsSome, ap, sym, ◌∙◌, refl, arith, inl, inr, subst}
 use Rattle.std.specs.List.{Contains, list_any}
 use Rattle.std.proofs.lemmas.List.Elements.{Contains-append_right}
 use Rattle.lab_io.specs.Shelf.{Shelved}
-use Rattle.lab_io.specs.Sink.{Text, Seen, Rose, Grew, GrewPart}
+use Rattle.lab_io.specs.Sink.{Text, Seen, Rose}
 use Rattle.lab_words.specs.declared.Verb.{Verb}
 use Rattle.lab_words.specs.declared.Verb.TheVariants as verb
-use Rattle.lab_words.specs.Limits.{AreCounted, HasFilm, IsWithinLimits}
+use Rattle.lab_words.specs.Limits.{HasFilm}
 use Rattle.lab_words.specs.Command.{CommandWords}
 use Rattle.lab_words.specs.Words.{begins_with_verb, command_of}
 use Rattle.lab_inputs.specs.declared.stop.Ending.{Ending}
@@ -16,19 +16,18 @@ use Rattle.lab_inputs.specs.declared.stop.Role.{Role}
 use Rattle.lab_inputs.specs.declared.stop.Stop.{Stop}
 use Rattle.lab_inputs.specs.declared.stop.Stop.TheVariants as stop
 use Rattle.lab_inputs.specs.Files.{Files, NamedFile, files_of, later_files}
-use Rattle.lab_inputs.specs.Inputs.{AreAccepted, InputValues, inputs_of}
+use Rattle.lab_inputs.specs.Inputs.{AreAccepted, inputs_of}
 use Rattle.lab_inputs.specs.Notes.{Told}
 use Rattle.lab_inputs.specs.Settings.{ready_of}
 use Rattle.lab_inputs.specs.Stages.{Asks, AsksFor, AsksSome, AsksUpTo, Means, Stops, Tells}
 use Rattle.lab_inputs.proofs.Files.{asks_all, asks_none}
-use Rattle.lab_inputs.proofs.Steps.{bind_ok, lacking, named_film, ok_same, on_film, ready_traces, stops_some}
+use Rattle.lab_inputs.proofs.Steps.{lacking, named_film, on_film, stops_some}
 use Rattle.abrlab_top.specs.Answer.{Answer}
 use Rattle.abrlab_top.specs.Causes.{AtTheEnd, HasCause, IsAmong, IsComplete, IsDone, IsInvalid, IsNoMemory, IsNotRead, IsOutputFailed, IsRefused, IsSpent, IsStatus, IsUsage, LeavesShelf, World, answers_to}
-use Rattle.abrlab_top.specs.Outcome.{AreTaken, IsWritten, Outcome, answer_by, answer_of, named_files, outcome, status, stop_status, text}
+use Rattle.abrlab_top.specs.Outcome.{AreTaken, Outcome, answer_by, answer_of, named_files, outcome, status, stop_status, text}
 use Rattle.abrlab_top.specs.Check.{check}
-use Rattle.abrlab_top.specs.Simulate.{simulate}
 use Rattle.abrlab_top.specs.Stages.{OutFails, Ran, ending_status}
-use Rattle.abrlab_top.proofs.Whole.{nothing_written, session_printed}
+use Rattle.abrlab_top.proofs.Whole.{nothing_written}
 use Rattle.abrlab_top.proofs.Words.{begins}
 
 -- what is known of a run at its end: why it ended so, what `err` was told, and the status

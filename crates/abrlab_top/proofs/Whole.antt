@@ -31,7 +31,7 @@ use Rattle.lab_inputs.specs.Settings.{ready_of, setup_of}
 use Rattle.lab_inputs.specs.Stages.{Asks, Means}
 use Rattle.lab_inputs.proofs.Files.{asks_all}
 use Rattle.abrlab_top.specs.Answer.{Answer, printed}
-use Rattle.abrlab_top.specs.Outcome.{answer_of, outcome_text, writes_between}
+use Rattle.abrlab_top.specs.Outcome.{answer_of, outcome_text}
 use Rattle.abrlab_top.specs.Simulate.{case_on, simulate}
 use Rattle.abrlab_top.specs.Stages.{Ends, Ran, Writes, ending_of}
 use Rattle.abrlab_top.proofs.Words.{begins}

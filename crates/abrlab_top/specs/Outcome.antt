@@ -13,7 +13,7 @@ use Rattle.lab_inputs.specs.Files.{Files, NamedFile, files_of}
 use Rattle.lab_inputs.specs.Inputs.{◌>>=◌}
 use Rattle.lab_inputs.specs.Notes.{stop_note, usage_note}
 use Rattle.lab_inputs.specs.Settings.{ready_of}
-use Rattle.abrlab_top.specs.Answer.{Answer, printed}
+use Rattle.abrlab_top.specs.Answer.{Answer}
 use Rattle.abrlab_top.specs.Simulate.{simulate}
 use Rattle.abrlab_top.specs.Compare.{compare}
 use Rattle.abrlab_top.specs.Plan.{plan}

@@ -1,7 +1,6 @@
-use Rattle.std.proofs.Common.{inl, map, refl, string_bytes}
+use Rattle.std.proofs.Common.{map, string_bytes}
 use Rattle.lab_words.specs.Command.{view}
 use Rattle.abrlab_top.proofs.Whole.{ran}
-use Rattle.abrlab_top.proofs.Words.{begins_wanting}
 use Rattle.abrlab_top.proofs.command.run_command.Goals as goal
 
 pub returns-in-Ok : goal.returns-in-Ok

@@ -1,4 +1,4 @@
-use Rattle.std.proofs.Common.{◌≡◌, ◌∙◌, length, subst, sym}
+use Rattle.std.proofs.Common.{◌∙◌, length, subst, sym}
 use Rattle.lab_words.specs.Command.{view}
 use Rattle.lab_words.specs.Limits.{AreCounted, HasItsOwn}
 use Rattle.lab_inputs.specs.Stages.{values_of}
