@@ -6,6 +6,7 @@ pub mod Meters
 pub mod Laws
 pub mod Downloads
 pub mod Pace
+pub mod Flows
 pub mod Openings
 pub mod Order
 pub mod Places

@@ -16,7 +16,8 @@ use Rattle.network_clock.specs.Flow.{Opens, Reaches, carried_in, delay_in, delay
 use Rattle.network_clock.proofs.Sums.{sum_below_at_least, sum_below_grows, sum_below_same}
 use Rattle.network_clock.proofs.Periods.{cycle_positive, latency_at, period_here, period_later}
 use Rattle.network_clock.proofs.Downloads.{done_is, first_is}
-use Rattle.network_clock.proofs.Laws.{carries_enough, credit_after, flow_next, free_spends, job_apart, job_start, left_after, left_waits, no_latency_spends, used_least}
+use Rattle.network_clock.proofs.Flows.{carries_enough}
+use Rattle.network_clock.proofs.Laws.{credit_after, flow_next, free_spends, job_apart, job_start, left_after, left_waits, no_latency_spends, used_least}
 
 -- ---- the delay of a trace is a trace
 
@@ -112,7 +113,7 @@ module _ (ps : List Period) (h : IsTrace ps) (from credit end : ℕ) (some : 1 �
 
   credit_left : (left k : ℕ) → from + k < end → (job_after ps from k (record { credit = credit; left = left })).credit ≡ 0 → ⊥
   credit_left left k early none =
-      let after = credit_after ps from k (record { credit = credit; left = left }) few in
+      let after = credit_after (period_at ps) from k (record { credit = credit; left = left }) few in
       let grows = sum_below_grows (λ i. used_in (period_at ps i)) (from + k) (end - 1) (omega arith) in
       absurd (omega (arith, after, grows, before, none))
 
@@ -121,7 +122,7 @@ module _ (ps : List Period) (h : IsTrace ps) (from credit end : ℕ) (some : 1 �
       ⊎_elim (λ none. credit_left left k (omega arith) none)
       (λ (none : (period_at ps (from + k)).latency ≡ 0).
       let uses = no_latency_uses (period_at ps (from + k)) none in
-      let more = flow_next used_in ps (from + k) in
+      let more = flow_next used_in (period_at ps) (from + k) in
       let grows = sum_below_grows (λ i. used_in (period_at ps i)) (suc (from + k)) (end - 1) early in
       let starts = sum_below_grows (λ i. used_in (period_at ps i)) from (from + k) (omega arith) in
       absurd (omega (arith, uses, more, grows, starts, before, few))) (spent_means (period_at ps (from + k)) (job_after ps from k (record { credit = credit; left = left })) spent)
@@ -149,7 +150,7 @@ module _ (ps : List Period) (h : IsTrace ps) (from credit end : ℕ) (some : 1 �
     spends = λ left.
         let later = end_later in
         let place : from + (end - from) ≡ end = omega arith in
-        let after = credit_after ps from (end - from) (record { credit = credit; left = left }) few in
+        let after = credit_after (period_at ps) from (end - from) (record { credit = credit; left = left }) few in
         let all = ap (flow used_in ps) place in
         free_spends (period_at ps end) (job_after ps from (end - from) (record { credit = credit; left = left })) (omega (arith, after, all, there));
     uses = let grows = sum_below_grows (λ i. used_in (period_at ps i)) end (end + 1) (omega arith) in omega (arith, grows, there);
@@ -174,7 +175,7 @@ job_is a b credit left = ap₂ {C = Job} (λ c l. record { credit = c; left = l 
 
 -- until then nothing comes
 pub left_until : (ps : List Period) (from first t : ℕ) (j : Job) → Opens ps from j.credit first → from ≤ t → t ≤ first → (job_after ps from (t - from) j).left ≡ j.left
-left_until ps from first t j o later early = left_waits ps from (t - from) j (λ k inside. o.waits j.left k (omega arith))
+left_until ps from first t j o later early = left_waits (period_at ps) from (t - from) j (λ k inside. o.waits j.left k (omega arith))
 
 -- from then on all that can be carried comes
 pub left_from : (ps : List Period) (from first t : ℕ) (j : Job) → Opens ps from j.credit first → first ≤ t → (job_after ps from (t - from) j).left ≡ (j.left + flow carried_in ps first) - flow carried_in ps t
@@ -184,10 +185,10 @@ left_from ps from first t j o later =
     let place : from + (first - from) ≡ first = omega arith in
     let end : first + (t - first) ≡ t = omega arith in
     let i = job_after ps from (first - from) j in
-    let apart = ap (λ n. job_after ps from n j) parts ∙ job_apart ps from (first - from) (t - first) j ∙ ap (λ n. job_after ps n (t - first) i) place in
+    let apart = ap (λ n. job_after ps from n j) parts ∙ job_apart (period_at ps) from (first - from) (t - first) j ∙ ap (λ n. job_after ps n (t - first) i) place in
     let left = ap (λ (k : Job). k.left) apart in
     let until = left_until ps from first first j o start (omega arith) in
-    let after = (left_after ps first (t - first) i (o.spends j.left)).1 in
+    let after = (left_after (period_at ps) first (t - first) i (o.spends j.left)).1 in
     let all = ap (flow carried_in ps) end in
     omega (arith, left, until, after, all)
 
@@ -196,7 +197,7 @@ pub job_until : (ps : List Period) (from first t : ℕ) (j : Job) → j.credit �
     → job_after ps from (t - from) j ≡ record { credit = j.credit - (flow used_in ps t - flow used_in ps from); left = j.left }
 job_until ps from first t j few o later early =
     let place : from + (t - from) ≡ t = omega arith in
-    let credit = credit_after ps from (t - from) j few in
+    let credit = credit_after (period_at ps) from (t - from) j few in
     let all = ap (flow used_in ps) place in
     let grows = sum_below_grows (λ i. used_in (period_at ps i)) from t later in
     job_is (job_after ps from (t - from) j) (record { credit = j.credit - (flow used_in ps t - flow used_in ps from); left = j.left }) (omega (arith, credit, all, grows)) (left_until ps from first t j o later early)
@@ -207,7 +208,7 @@ pub job_from : (ps : List Period) (from first t : ℕ) (j : Job) → j.credit �
 job_from ps from first t j few o later =
     let start = o.from_on in
     let place : from + (t - from) ≡ t = omega arith in
-    let credit = credit_after ps from (t - from) j few in
+    let credit = credit_after (period_at ps) from (t - from) j few in
     let all = ap (flow used_in ps) place in
     let grows = sum_below_grows (λ i. used_in (period_at ps i)) (first + 1) t (omega arith) in
     let left = left_from ps from first t j o (omega arith) in
@@ -220,7 +221,7 @@ first_opens ps start bits first o =
     let from = o.from_on in
     let soon = o.soon in
     let place : start + (first - start) ≡ first = omega arith in
-    sym place ∙ first_is ps start bits (first - start) (omega arith) (rw place (o.spends (1000 * bits))) (λ k inside. o.waits (1000 * bits) k (omega arith))
+    sym place ∙ first_is (period_at ps) start bits (first - start) (omega arith) (rw place (o.spends (1000 * bits))) (λ k inside. o.waits (1000 * bits) k (omega arith))
 
 -- the instant at which nothing is left of one
 pub done_reached : (ps : List Period) → IsTrace ps → (start bits first done : ℕ) → 1 ≤ bits → bits ≤ 200000000 → Opens ps start 100000000 first → Reaches ps (flow carried_in ps first + 1000 * bits) done → done ≡ done_at ps start bits
@@ -234,7 +235,7 @@ done_reached ps h start bits first done some few o r =
     let near : done ≤ first + 300000000 = ⊎_elim (λ (late : first + 300000000 < done). let grows = sum_below_grows (λ i. carried_in (period_at ps i)) (first + 300000000) (done - 1) (omega arith) in absurd (omega (arith, grows, before, enough, few))) (λ (near : done ≤ first + 300000000). near) (cases_lt (first + 300000000) done) in
     let place : start + (done - start) ≡ done = omega arith in
     let left = left_from ps start first done (start_job bits) o (omega arith) in
-    sym place ∙ done_is ps start bits (done - start) (omega arith) (omega (arith, left, there))
+    sym place ∙ done_is (period_at ps) start bits (done - start) (omega arith) (omega (arith, left, there))
     (λ k inside none. ⊎_elim
     (λ (after : first < start + k).
     let back : (start + k) - start ≡ k = omega arith in

@@ -14,8 +14,12 @@ sum_below f zero = 0
 sum_below f (suc n) = sum_below f n + f n
 
 -- what the milliseconds before an instant bring, each at its period's rate
+abbrev pub flow_on : (Period → ℕ) → (ℕ → Period) → ℕ → ℕ
+flow_on rate net t = sum_below (λ i. rate (net i)) t
+
+-- the same on a trace
 abbrev pub flow : (Period → ℕ) → List Period → ℕ → ℕ
-flow rate ps t = sum_below (λ i. rate (period_at ps i)) t
+flow rate ps t = flow_on rate (period_at ps) t
 
 -- the same within the first cycle
 abbrev pub flow_in : (Period → ℕ) → List Period → ℕ → ℕ
@@ -24,6 +28,12 @@ flow_in rate ps t = sum_below (λ i. rate (period_in ps i)) t
 -- the bits that a millisecond can carry, in thousandths
 abbrev pub carried_in : Period → ℕ
 carried_in p = p.bandwidth
+
+-- a network on which so many milliseconds and more, from any instant on, carry the bits of the greatest download
+pub record IsFlowing (longest : ℕ) (net : ℕ → Period) : Type 0 where
+  pub latency : (t : ℕ) → (net t).latency ≤ 10000
+  pub bandwidth : (t : ℕ) → (net t).bandwidth ≤ 10000000000
+  pub carries : (t n : ℕ) → longest ≤ n → 200000000000 + flow_on carried_in net t ≤ flow_on carried_in net (t + n)
 
 -- the credit that a millisecond takes off a job: all of it where there is no latency
 abbrev pub used_in : Period → ℕ

@@ -3,7 +3,7 @@
 ghost use Rattle.std.specs.Prelude.{◌≡◌, ℕ, ◌+◌, ◌-◌, ◌*◌, ◌<◌, ◌≤◌, IfOk};
 ghost use Rattle.lab_model.specs.Cycle.{IsTrace};
 ghost use Rattle.network_clock.specs.Flow.{Opens, Touches, delay_in, delay_of, used_in};
-ghost use Rattle.network_clock.specs.Network.{done_at, first_at, job_after};
+ghost use Rattle.network_clock.specs.Network.{done_at, first_at, job_after, period_at};
 
 use crate::job::{Job, Landing};
 use crate::meter::{Meter, Moment};
@@ -136,6 +136,14 @@ impl Clock {
         ensures trace { IsTrace self.now }
     {
         self.bits.periods()
+    }
+
+    /// The period that holds an instant.
+    pub fn period_at(&self, instant: u64) -> Period
+        ensures value { result ≡ period_at self.now instant }
+        ensures trace { IsTrace self.now }
+    {
+        self.bits.period_of(self.bits.place_at(instant))
     }
 
     /// The job after the milliseconds `from` to `to - 1`, at most 2 * 10^15.

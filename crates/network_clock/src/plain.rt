@@ -49,7 +49,7 @@ pub fn first_at(periods: &[Period], start: u64, bits: u32) -> u64
     ensures { result ≡ first_at periods.now start bits }
 {
     let mut job = Job::start(bits);
-    for n in 0..410_000_000u64 {
+    for n in 0..2_000_000_000u64 {
         let period = period_at(periods, start + n);
         if job.spends(period) {
             return start + n;
@@ -67,7 +67,7 @@ pub fn done_at(periods: &[Period], start: u64, bits: u32) -> u64
     ensures { result ≡ done_at periods.now start bits }
 {
     let mut job = Job::start(bits);
-    for n in 0..410_000_000u64 {
+    for n in 0..2_000_000_000u64 {
         if job.left == 0 {
             return start + n;
         }

@@ -3,7 +3,7 @@ use Rattle.lab_model.specs.Cycle.{IsTrace, cycle_bits}
 use Rattle.network_clock.specs.Flow.{Reaches, carried_in, flow}
 use Rattle.network_clock.specs.Network.{done_at, first_at, period_at}
 use Rattle.network_clock.proofs.Downloads.{done_found, first_before_done}
-use Rattle.network_clock.proofs.Laws.{carries_enough}
+use Rattle.network_clock.proofs.Flows.{carries_enough, trace_flows}
 use Rattle.network_clock.proofs.Openings.{done_reached, first_opens}
 use Rattle.network_clock.proofs.Order.{first_in_first_out}
 use Rattle.network_clock.proofs.Sums.{sum_below_grows}
@@ -41,14 +41,14 @@ returns-clause-done c = done c
 
 pub returns-clause-carries : goal.returns-clause-carries
 returns-clause-carries c =
-    let before = first_before_done c.args.self.now (trace c) c.args.start c.args.bits c.requires.bits.0 c.requires.bits.1 in
+    let before = first_before_done (period_at c.args.self.now) (trace_flows c.args.self.now (trace c)) (omega arith) c.args.start c.args.bits c.requires.bits.0 c.requires.bits.1 in
     let from = first c in
     let end = done c in
     omega (arith, before, from, end)
 
 pub returns-clause-ends : goal.returns-clause-ends
 returns-clause-ends c =
-    let found = (done_found c.args.self.now (trace c) c.args.start c.args.bits c.requires.bits.1).0 in
+    let found = (done_found (period_at c.args.self.now) (trace_flows c.args.self.now (trace c)) (omega arith) c.args.start c.args.bits c.requires.bits.1).0 in
     let end = done c in
     omega (arith, found, end)
 
