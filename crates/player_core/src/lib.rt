@@ -5,6 +5,7 @@ mod body;
 mod course;
 mod limits;
 mod mode;
+pub mod parts;
 mod player;
 mod quiet;
 mod rules;
