@@ -9,3 +9,4 @@ pub mod Sound
 pub mod Seen
 pub mod Ready
 pub mod Quiet
+pub mod Lists

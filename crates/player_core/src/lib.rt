@@ -3,6 +3,7 @@
 
 mod body;
 mod course;
+mod laws;
 mod limits;
 mod mode;
 pub mod parts;
@@ -13,6 +14,7 @@ mod running;
 mod script;
 mod session;
 
+pub use laws::rules_are_lists;
 pub use player::{available, play, play_from, seeks_fit};
 pub use rules::{Fixed, Listed};
 pub use session::{Event, Session};

@@ -1,5 +1,6 @@
 use Rattle.std.proofs.lemmas.Result.{IfOk-weaker}
 use Rattle.player_core.proofs.Chain.{is_case, session_count, session_ends, session_rungs, session_times}
+use Rattle.player_core.proofs.Lists.{session_listed}
 use Rattle.player_core.proofs.player.play_from.Goals as goal
 
 pub session_on-requires-clause-case : goal.session_on-requires-clause-case
@@ -14,4 +15,5 @@ returns g c =
       count = IfOk-weaker c.session_on.result _ _ (session_count _ is) c.session_on.ensures;
       ends = IfOk-weaker c.session_on.result _ _ (session_ends _ is) c.session_on.ensures;
       times = IfOk-weaker c.session_on.result _ _ (session_times _ is) c.session_on.ensures;
+      listed = λ off none. IfOk-weaker c.session_on.result _ _ (session_listed _ _ _ _ _ _ is off none) c.session_on.ensures;
     }
