@@ -9,11 +9,13 @@ mod player;
 mod quiet;
 mod rules;
 mod running;
+mod scene;
 mod script;
 mod session;
 
 pub use player::{available, play, play_from, seeks_fit};
 pub use rules::{Fixed, Listed};
+pub use scene::Scene;
 pub use session::{Event, Session};
 
 #[cfg(test)]
