@@ -6,9 +6,9 @@ use Rattle.lab_model.specs.declared.fault.Refusal.{Refusal}
 use Rattle.lab_model.specs.declared.fault.InputFault.{InputFault}
 use Rattle.lab_model.specs.Reading.{Gives}
 use Rattle.lab_io.specs.Sink.{Text}
-use Rattle.frontier_planner.specs.Parts.{CertificateParts, ChainParts, chain_parts}
+use Rattle.labels.specs.Parts.{CertificateParts, ChainParts, chain_parts}
 use Rattle.certificate_text.specs.declared.certificate.Layer.{Layer}
-use Rattle.certificate_text.specs.Form.{names_per}
+use Rattle.labels.specs.Form.{names_per}
 use Rattle.certificate_text.specs.Fields.{◌>>=◌}
 use Rattle.certificate_text.specs.Reading.{Place, Walks, certificate_of, chain_at, chains_at, end_at, head_at}
 use Rattle.certificate_text.specs.Walk.{IsBegun, Walk, accepted, begun, ended, layer_of, layer_parts, went}

@@ -5,7 +5,7 @@ use Rattle.lab_model.specs.declared.fault.InputFault.{InputFault}
 use Rattle.lab_model.specs.declared.fault.InputFault.TheVariants.{Memory, Refused}
 use Rattle.lab_model.specs.Reading.{Fails}
 use Rattle.lab_io.specs.Sink.{Text}
-use Rattle.frontier_planner.specs.Parts.{CertificateParts, ChainParts, chain_parts}
+use Rattle.labels.specs.Parts.{CertificateParts, ChainParts, chain_parts}
 use Rattle.certificate_text.specs.declared.certificate.Layer.{Layer}
 use Rattle.certificate_text.specs.declared.chains.Spot.{Spot}
 use Rattle.certificate_text.specs.Fields.{◌>>=◌}

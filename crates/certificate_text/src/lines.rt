@@ -3,8 +3,9 @@ ghost use Rattle.std.specs.Prelude.{◌≡◌, ◌+◌, ◌*◌, ◌≤◌, ◌<
 ghost use Rattle.lab_io.specs.Sink.{Text};
 ghost use Rattle.lab_model.specs.Film.{IsWithin};
 ghost use Rattle.lab_model.specs.Reading.{Gives};
-ghost use Rattle.frontier_planner.specs.Parts.{CertificateParts};
-ghost use Rattle.certificate_text.specs.Form.{IsCertificate, certificate_parts};
+ghost use Rattle.labels.specs.Parts.{CertificateParts};
+ghost use Rattle.labels.specs.Form.{IsCertificate};
+ghost use Rattle.certificate_text.specs.Form.{certificate_parts};
 ghost use Rattle.certificate_text.specs.Reading.{certificate_of};
 ghost use Rattle.certificate_text.specs.Spelling.{spelling};
 ghost use Rattle.certificate_text.specs.Walk.{IsBegun, Steps, Walk, accepted, after_fault, begun, standing};
