@@ -14,6 +14,7 @@ use Rattle.certificate_text.specs.Line.{Holds, fields_of, values_at}
 use Rattle.certificate_text.specs.Grammar.{end_line, list_line, plan_line, rungs_line, score_line, segments_line, start_line, table_line, version_line}
 use Rattle.certificate_text.specs.Form.{certificate_parts}
 use Rattle.certificate_text.specs.Reading.{Counts, Place, certificate_of, chains_at, counts_at, end_at, head_at, nothing_at, score_row, table_at, version_at}
+use Rattle.certificate_text.specs.Walk.{without_chains}
 use Rattle.certificate_text.specs.Spelling.{chains_lines, head_lines, lines_text, spelling, table_lines, version_fields, version_number}
 use Rattle.certificate_text.proofs.Loops.{ok_is}
 use Rattle.certificate_text.proofs.FieldLaws.{bind_ok, is_free}
@@ -146,10 +147,6 @@ counts_again t n r rest a b =
 
 -- ---- the head
 
--- a certificate without its chains
-abbrev pub without_chains : CertificateParts → CertificateParts
-without_chains c = record c { chains = [] }
-
 -- the parts of a head
 abbrev made_head : Counts → ℤ → List ℕ → List ℕ → CertificateParts
 made_head counts score plan starts = record { table = counts.table; segments = counts.segments; rungs = counts.rungs; score = score; plan = plan; starts = starts; chains = [] }
@@ -172,6 +169,7 @@ pub record TakesHead (bytes : Text) (x : CertificateParts × Place) : Type 0 whe
   pub text : bytes ≡ lines_text (head_lines x.0) ++ x.1.rest
   pub head : IsHead x.0
   pub left : x.1.left ≡ most_labels
+  pub none : x.0.chains ≡ []
 
 -- a head that was read is of the form and spelled so
 pub head_takes : (bytes : Text) (x : CertificateParts × Place) → head_at bytes ≡ Ok x → TakesHead bytes x
@@ -194,6 +192,7 @@ head_takes bytes x h =
           ∙ sym (head_line c s.0.1);
       head = record { segments = tk.segments.0; rungs = tk.rungs.0; score = tz.holds.0; plan = tp.holds; starts = ts.holds };
       left = refl;
+      none = refl;
     })
 
 -- a head of the form is read from its spelling

@@ -1,9 +1,8 @@
 //! The calls on labels.
 
-ghost use Rattle.std.specs.Prelude.{◌≡◌, ℕ, ◌+◌, ◌-◌, ◌*◌, ◌<◌, ◌≤◌, [], pos, ◌+ℤ◌, ◌-ℤ◌};
+ghost use Rattle.std.specs.Prelude.{◌≡◌, ℕ, ◌+◌, ◌-◌, ◌*◌, ◌<◌, ◌≤◌, pos, ◌+ℤ◌, ◌-ℤ◌};
 ghost use Rattle.lab_model.specs.Film.{rungs_of, segments_of};
 ghost use Rattle.lab_model.specs.Fit.{SetupFits};
-ghost use Rattle.lab_model.specs.Weighing.{IsWeighing};
 ghost use Rattle.player_core.specs.Available.{all_ahead};
 ghost use Rattle.labels.specs.Grid.{IsGrid, multiple_above, multiple_below, rounded};
 ghost use Rattle.labels.specs.Labels.{Dominates, dominates, next_label, next_value, request_at, start_label, value_at_end};
@@ -12,19 +11,90 @@ ghost use Rattle.labels.specs.Near.{CanFollow, IsNear};
 
 use lab_model::{Label, Manifest, Setup};
 use network_clock::Clock;
-use player_core::available;
-
-/// So many milliseconds of media ahead that every film within the limits is there at instant 0.
-const ALL_AHEAD: u32 = 120_000_000;
+use player_core::Scene;
 
 /// The value after what is gained and what is lost.
-fn weighed(v: i64, gain: u64, loss: u64) -> i64
+fn value_after(v: i64, gain: u64, loss: u64) -> i64
     requires value { IsNear 1000000000000000000 v }
     requires gain { gain ≤ 1000000000000000000 }
     requires loss { loss ≤ 1000000000000000000 }
     ensures { result ≡ (v +ℤ pos gain) -ℤ pos loss }
 {
     v + gain as i64 - loss as i64
+}
+
+/// The label of segment 0 on a rung.
+pub fn start_on(scene: &Scene<'_>, rung: u8) -> Label
+    requires { rung < rungs_of scene.now.film }
+    ensures label { result ≡ start_label scene.now rung }
+    ensures task { IsTask scene.now }
+{
+    let film = scene.film();
+    let weights = &scene.setup().weights;
+    prove!(film.segments() > 0);
+    let t = scene
+        .clock()
+        .finish(scene.available(0), film.size(0, rung))
+        .done;
+    let gain = 1000 * weights.utility(0, rung) as u64 + weights.stall() as u64 * t;
+    let loss = weights.startup() as u64 * t;
+    Label {
+        t,
+        p: t,
+        v: value_after(0, gain, loss),
+    }
+}
+
+/// The instant at which a segment is asked for after a label of the segment before.
+pub fn request_on(scene: &Scene<'_>, seg: u16, old: Label) -> u64
+    requires seg { seg < segments_of scene.now.film }
+    requires old { CanFollow old }
+    ensures value { result ≡ request_at scene.now seg old }
+    ensures limit { result ≤ 2000000000000000 }
+{
+    let film = scene.film();
+    prove!(film.segments() <= 2000);
+    let wanted = old.p + (seg as u64 + 1) * film.seg_ms() as u64;
+    let room = wanted.saturating_sub(scene.setup().buffer_ms as u64);
+    old.t.max(room).max(scene.available(seg))
+}
+
+/// The value of a successor, to segment `seg` on `rung`, of a label of the segment before on `old_rung` with the
+/// value `v`, which lies within 10^18 of 0.
+pub fn value_on(scene: &Scene<'_>, seg: u16, old_rung: u8, v: i64, rung: u8) -> i64
+    requires seg { seg < segments_of scene.now.film }
+    requires old_rung { old_rung < rungs_of scene.now.film }
+    requires rung { rung < rungs_of scene.now.film }
+    requires value { IsNear 1000000000000000000 v }
+    ensures { result ≡ next_value scene.now.setup.weights seg old_rung v rung }
+{
+    let weights = &scene.setup().weights;
+    let utility = weights.utility(seg, rung);
+    let change = utility.abs_diff(weights.utility(seg, old_rung));
+    let gain = 1000 * utility as u64;
+    let loss = weights.switch() as u64 * change as u64;
+    value_after(v, gain, loss)
+}
+
+/// The successor, to segment `seg` on `rung`, of a label of the segment before on `old_rung`. The times of the old
+/// label are at most 10^15, and its value lies within 10^18 of 0.
+pub fn next_on(scene: &Scene<'_>, seg: u16, old_rung: u8, old: Label, rung: u8) -> Label
+    requires seg { (1 ≤ seg) × (seg < segments_of scene.now.film) }
+    requires old_rung { old_rung < rungs_of scene.now.film }
+    requires rung { rung < rungs_of scene.now.film }
+    requires old { CanFollow old }
+    ensures label { result ≡ next_label scene.now seg old_rung old rung }
+    ensures task { IsTask scene.now }
+{
+    let film = scene.film();
+    let request = request_on(scene, seg, old);
+    let t = scene.clock().finish(request, film.size(seg, rung)).done;
+    let played_from = t.saturating_sub(seg as u64 * film.seg_ms() as u64);
+    Label {
+        t,
+        p: old.p.max(played_from),
+        v: value_on(scene, seg, old_rung, old.v, rung),
+    }
 }
 
 /// The label of segment 0 on a rung, where `ahead` milliseconds of media, at most 120000000, are there at
@@ -36,46 +106,7 @@ pub fn start_from(m: &Manifest, clock: &Clock, set: &Setup, ahead: u32, rung: u8
     ensures label { result ≡ start_label (task_of m.now clock.now set.now ahead) rung }
     ensures task { IsTask (task_of m.now clock.now set.now ahead) }
 {
-    prove!(m.segments() > 0);
-    let t = clock.finish(available(m, ahead, 0), m.size(0, rung)).done;
-    let gain = 1000 * set.weights.utility(0, rung) as u64 + set.weights.stall() as u64 * t;
-    let loss = set.weights.startup() as u64 * t;
-    Label {
-        t,
-        p: t,
-        v: weighed(0, gain, loss),
-    }
-}
-
-/// The instant at which a segment is asked for after a label of the segment before.
-pub fn request_after(m: &Manifest, set: &Setup, ahead: u32, seg: u16, old: Label) -> u64
-    requires seg { seg < segments_of m.now }
-    requires old { CanFollow old }
-    ensures value { result ≡ request_at (task_of m.now [] set.now ahead) seg old }
-    ensures limit { result ≤ 2000000000000000 }
-{
-    prove!(m.segments() <= 2000);
-    let wanted = old.p + (seg as u64 + 1) * m.seg_ms() as u64;
-    let room = wanted.saturating_sub(set.buffer_ms as u64);
-    old.t.max(room).max(available(m, ahead, seg))
-}
-
-/// The value of a successor, to segment `seg` on `rung`, of a label of the segment before on `old_rung` with the
-/// value `v`, which lies within 10^18 of 0.
-pub fn next_value(m: &Manifest, set: &Setup, seg: u16, old_rung: u8, v: i64, rung: u8) -> i64
-    requires setup { SetupFits set.now m.now }
-    requires seg { seg < segments_of m.now }
-    requires old_rung { old_rung < rungs_of m.now }
-    requires rung { rung < rungs_of m.now }
-    requires value { IsNear 1000000000000000000 v }
-    ensures value { result ≡ next_value set.now.weights seg old_rung v rung }
-    ensures weighing { IsWeighing set.now.weights }
-{
-    let utility = set.weights.utility(seg, rung);
-    let change = utility.abs_diff(set.weights.utility(seg, old_rung));
-    let gain = 1000 * utility as u64;
-    let loss = set.weights.switch() as u64 * change as u64;
-    weighed(v, gain, loss)
+    start_on(&Scene::new(m, clock, set, ahead), rung)
 }
 
 /// The successor, to segment `seg` on `rung`, of a label of the segment before on `old_rung`, where `ahead`
@@ -101,14 +132,7 @@ pub fn next_from(
         result ≡ next_label g seg old_rung old rung }
     ensures task { IsTask (task_of m.now clock.now set.now ahead) }
 {
-    let request = request_after(m, set, ahead, seg, old);
-    let t = clock.finish(request, m.size(seg, rung)).done;
-    let played_from = t.saturating_sub(seg as u64 * m.seg_ms() as u64);
-    Label {
-        t,
-        p: old.p.max(played_from),
-        v: next_value(m, set, seg, old_rung, old.v, rung),
-    }
+    next_on(&Scene::new(m, clock, set, ahead), seg, old_rung, old, rung)
 }
 
 /// The label of segment 0 on a rung, of a film on demand.
@@ -117,7 +141,7 @@ pub fn start_label(m: &Manifest, clock: &Clock, set: &Setup, rung: u8) -> Label
     requires rung { rung < rungs_of m.now }
     ensures { result ≡ start_label (task_of m.now clock.now set.now all_ahead) rung }
 {
-    start_from(m, clock, set, ALL_AHEAD, rung)
+    start_on(&Scene::on_demand(m, clock, set), rung)
 }
 
 /// The successor of a label, of a film on demand: see `next_from`.
@@ -138,7 +162,7 @@ pub fn next_label(
     ensures { let g = task_of m.now clock.now set.now all_ahead in
         result ≡ next_label g seg old_rung old rung }
 {
-    next_from(m, clock, set, ALL_AHEAD, seg, old_rung, old, rung)
+    next_on(&Scene::on_demand(m, clock, set), seg, old_rung, old, rung)
 }
 
 /// The value that a label of the last segment comes to, in thousandths of a point: its stalls and startup, at
