@@ -1,10 +1,10 @@
 -- The chains of a layer as the code reads them.
 use Rattle.std.proofs.Common.{◌≡◌, ◌∙◌, ℕ, ◌<◌, ◌≤◌, List, length, get_or, sym, ap, subst}
 use Rattle.std.proofs.lemmas.List.{get_or-map}
-use Rattle.frontier_planner.specs.declared.plans.Chain.{Chain}
-use Rattle.frontier_planner.specs.Parts.{chain_parts}
-use Rattle.frontier_planner.specs.Valid.{no_chain}
-use Rattle.certificate_text.specs.Form.{IsChain}
+use Rattle.labels.specs.declared.plans.Chain.{Chain}
+use Rattle.labels.specs.Parts.{chain_parts}
+use Rattle.labels.specs.Valid.{no_chain}
+use Rattle.labels.specs.Form.{IsChain}
 use Rattle.certificate_check.specs.Clauses.{count_of, layer_of}
 use Rattle.certificate_check.specs.Layers.{IsLayer}
 

@@ -2,13 +2,14 @@
 use Rattle.std.proofs.Common.{◌≡◌, ◌∙◌, ℕ, zero, suc, ◌+◌, ◌-◌, ◌<◌, List, [], length, sym, ap, ap₂, subst, arith}
 use Rattle.std.specs.Prelude.{ℤ, slice_index, nat_lt}
 use Rattle.lab_model.specs.Film.{rungs_of, segments_of}
-use Rattle.frontier_planner.specs.declared.plans.Chain.{Chain}
-use Rattle.frontier_planner.specs.Labels.{Task, dominates, next_label, start_label}
-use Rattle.frontier_planner.specs.Parts.{CertificateParts}
-use Rattle.frontier_planner.specs.Valid.{chain_in}
-use Rattle.certificate_text.specs.declared.certificate.Verdict.{Verdict}
-use Rattle.certificate_text.specs.declared.certificate.Verdict.TheVariants.{Yes}
-use Rattle.certificate_text.specs.Form.{names_per}
+use Rattle.labels.specs.declared.plans.Chain.{Chain}
+use Rattle.player_core.specs.Scene.{Task}
+use Rattle.labels.specs.Labels.{dominates, next_label, start_label}
+use Rattle.labels.specs.Parts.{CertificateParts}
+use Rattle.labels.specs.Valid.{chain_in}
+use Rattle.labels.specs.declared.verdict.Verdict.{Verdict}
+use Rattle.labels.specs.declared.verdict.Verdict.TheVariants.{Yes}
+use Rattle.labels.specs.Form.{names_per}
 use Rattle.certificate_check.specs.declared.checker.Found.{Found}
 use Rattle.certificate_check.specs.Scheme.{both, first_no, tested}
 use Rattle.certificate_check.specs.Clauses.{Layer, count_of, counts_verdict, end_verdict, ends_verdict, is_near, label_of, layer_of, name_of, name_verdict, names_verdict, plan_verdict, range_verdict, ranges_verdict, score_verdict, starts_held, starts_verdict}

@@ -3,13 +3,14 @@ use Rattle.std.specs.Prelude.{ℕ, ◌+◌, ◌*◌, ◌==◌, ◌&&◌, Bool, n
 use Rattle.std.specs.Ordering.{int_eq}
 use Rattle.lab_model.specs.declared.label.Label.{Label}
 use Rattle.lab_model.specs.Film.{rungs_of, segments_of}
-use Rattle.frontier_planner.specs.declared.plans.Chain.{Chain}
-use Rattle.frontier_planner.specs.Labels.{Task, dominates, end_value, next_label, start_label}
-use Rattle.frontier_planner.specs.Near.{farthest_ms}
-use Rattle.frontier_planner.specs.Parts.{ChainParts, chain_parts}
-use Rattle.frontier_planner.specs.Read.{has_table, list_value, no_label}
-use Rattle.frontier_planner.specs.Valid.{no_chain}
-use Rattle.certificate_text.specs.declared.certificate.Verdict.{Verdict}
+use Rattle.labels.specs.declared.plans.Chain.{Chain}
+use Rattle.player_core.specs.Scene.{Task}
+use Rattle.labels.specs.Labels.{dominates, end_value, next_label, start_label}
+use Rattle.labels.specs.Near.{farthest_ms}
+use Rattle.labels.specs.Parts.{ChainParts, chain_parts}
+use Rattle.labels.specs.Read.{has_table, list_value, no_label}
+use Rattle.labels.specs.Valid.{no_chain}
+use Rattle.labels.specs.declared.verdict.Verdict.{Verdict}
 use Rattle.certificate_check.specs.Scheme.{both, first_no, tested}
 
 -- the chains of a segment, by rung

@@ -1,11 +1,12 @@
 -- The form that the tests of a layer need, and what they need of what was found before.
 use Rattle.std.specs.Prelude.{◌≡◌, ℕ, ◌+◌, ◌<◌, ◌≤◌, List, length}
 use Rattle.lab_model.specs.Film.{rungs_of, segments_of}
-use Rattle.frontier_planner.specs.declared.plans.Chain.{Chain}
-use Rattle.frontier_planner.specs.Labels.{AreRungs, Task}
-use Rattle.frontier_planner.specs.Parts.{CertificateParts}
-use Rattle.frontier_planner.specs.Valid.{chain_in}
-use Rattle.certificate_text.specs.Form.{IsChain}
+use Rattle.labels.specs.declared.plans.Chain.{Chain}
+use Rattle.labels.specs.Labels.{AreRungs}
+use Rattle.player_core.specs.Scene.{Task}
+use Rattle.labels.specs.Parts.{CertificateParts}
+use Rattle.labels.specs.Valid.{chain_in}
+use Rattle.labels.specs.Form.{IsChain}
 use Rattle.certificate_check.specs.Clauses.{count_of, layer_of}
 
 -- the chains of a segment have the form that the grammar gives, with so many names a label

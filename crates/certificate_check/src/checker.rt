@@ -3,12 +3,13 @@
 ghost use Rattle.std.specs.Prelude.{◌≡◌, ◌+◌, ◌<◌, ◌≤◌, [], int_le, length};
 ghost use Rattle.lab_model.specs.Film.{rungs_of, segments_of};
 ghost use Rattle.lab_model.specs.Fit.{SetupFits};
-ghost use Rattle.frontier_planner.specs.Labels.{AreRungs, IsTask, Task, end_value, next_label, start_label, task_of};
-ghost use Rattle.frontier_planner.specs.Near.{CanFollow};
-ghost use Rattle.frontier_planner.specs.Parts.{chain_parts};
-ghost use Rattle.frontier_planner.specs.Read.{list_value};
-ghost use Rattle.certificate_text.specs.declared.certificate.Verdict.TheVariants.{Yes};
-ghost use Rattle.certificate_text.specs.Form.{IsChain};
+ghost use Rattle.labels.specs.Labels.{AreRungs, end_value, next_label, start_label};
+ghost use Rattle.player_core.specs.Scene.{IsTask, Task, task_of};
+ghost use Rattle.labels.specs.Near.{CanFollow};
+ghost use Rattle.labels.specs.Parts.{chain_parts};
+ghost use Rattle.labels.specs.Read.{list_value};
+ghost use Rattle.labels.specs.declared.verdict.Verdict.TheVariants.{Yes};
+ghost use Rattle.labels.specs.Form.{IsChain};
 ghost use Rattle.certificate_check.specs.Scheme.{both, first_no};
 ghost use Rattle.certificate_check.specs.Clauses.{counts_verdict, end_verdict, ends_verdict, layer_of, name_verdict, names_verdict, plan_verdict, range_verdict, ranges_verdict, score_verdict, starts_held, starts_verdict};
 ghost use Rattle.certificate_check.specs.Layers.{AreBoth, IsLayer, MayEnd};
@@ -16,9 +17,8 @@ ghost use Rattle.certificate_check.specs.Layers.{AreBoth, IsLayer, MayEnd};
 use crate::ranges::{
     both, count_of, is_no, label_of, name_of, plan_verdict, ranges_verdict, starts_verdict, tested,
 };
-use certificate_text::Verdict;
-use frontier_planner::{Chain, dominates, end_value, next_from, start_from};
 use lab_model::{Label, Manifest, Setup};
+use labels::{Chain, Verdict, dominates, end_value, next_from, start_from};
 use network_clock::Clock;
 use std::marker::Model;
 

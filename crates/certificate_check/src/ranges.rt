@@ -1,13 +1,12 @@
 //! The tests of V1 and V2: counts, and numbers in range.
 
 ghost use Rattle.std.specs.Prelude.{◌≡◌, ◌*◌, ◌<◌, ◌≤◌, length};
-ghost use Rattle.frontier_planner.specs.Parts.{chain_parts};
+ghost use Rattle.labels.specs.Parts.{chain_parts};
 ghost use Rattle.certificate_check.specs.Scheme.{both, first_no, is_no, tested};
 ghost use Rattle.certificate_check.specs.Clauses.{count_of, is_near, label_of, layer_of, name_of, name_ranges, plan_verdict, range_verdict, ranges_verdict, starts_verdict};
 ghost use Rattle.certificate_check.specs.Layers.{IsLayer};
 
-use certificate_text::Verdict;
-use frontier_planner::Chain;
+use labels::{Chain, Verdict};
 use lab_model::Label;
 
 /// The greatest time of a label, in milliseconds.

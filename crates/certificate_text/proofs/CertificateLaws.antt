@@ -9,11 +9,11 @@ use Rattle.std.proofs.Math.Nat.{div-le_self, mod-lt}
 use Rattle.lab_model.specs.declared.label.Label.{Label}
 use Rattle.lab_io.specs.Sink.{Text}
 use Rattle.lab_io.specs.Piece.{fields_line}
-use Rattle.frontier_planner.specs.Parts.{ChainParts}
-use Rattle.certificate_text.specs.Fields.{◌>>=◌, HasDigits, passed, place_digits}
+use Rattle.labels.specs.Parts.{ChainParts}
+use Rattle.certificate_text.specs.Fields.{◌>>=◌, passed}
+use Rattle.labels.specs.Form.{HasDigits, place_digits, AreChains, IsChain, IsSpelled, label_count, names_per}
 use Rattle.certificate_text.specs.Line.{Holds, Values, values_at}
 use Rattle.certificate_text.specs.Grammar.{label_line, layer_line}
-use Rattle.certificate_text.specs.Form.{AreChains, IsChain, IsSpelled, label_count, names_per}
 use Rattle.certificate_text.specs.Reading.{Place, chain_at, chains_at, joined, label_at, labels_at, layer_at}
 use Rattle.certificate_text.specs.Spelling.{chain_lines, chains_lines, label_fields, label_lines, layer_fields, lines_text}
 use Rattle.certificate_text.proofs.Loops.{given, ok_is}

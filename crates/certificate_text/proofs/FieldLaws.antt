@@ -19,7 +19,8 @@ use Rattle.lab_io.specs.Number.{numeral}
 use Rattle.lab_io.specs.Piece.{later_fields}
 use Rattle.lab_io.proofs.Numbers.{decimal-spelling, digit_at, numeral-decimal, numeral-takes}
 use Rattle.lab_model.specs.Film.{IsWithin}
-use Rattle.certificate_text.specs.Fields.{◌>>=◌, HasDigits, HasSignedDigits, field_at, known_at, negative, number_at, numbers_at, parted, passed, place_digits, signed_at, signed_of, some_at, stop_before, unsigned_of, within_at, word_at}
+use Rattle.certificate_text.specs.Fields.{◌>>=◌, field_at, known_at, negative, number_at, numbers_at, parted, passed, signed_at, signed_of, some_at, stop_before, unsigned_of, within_at, word_at}
+use Rattle.labels.specs.Form.{HasDigits, HasSignedDigits, place_digits}
 use Rattle.certificate_text.proofs.Loops.{given, ok_is}
 
 -- ---- steps

@@ -1,5 +1,5 @@
 -- The fields of a line, read one after the other: each is what the bytes say and what stands behind it, or the line is bad.
-use Rattle.std.specs.Prelude.{ℕ, zero, suc, ◌+◌, ◌^◌, ◌<◌, ◌==◌, ◌&&◌, Bool, List, [], ◌∷◌, ◌++◌, take, drop, position, Option, Some, None, Result, Ok, Err, if◌then◌else◌, ℤ, pos, ◌-ℤ◌, ◌<ℤ◌, nat_le}
+use Rattle.std.specs.Prelude.{ℕ, zero, suc, ◌+◌, ◌==◌, ◌&&◌, Bool, List, [], ◌∷◌, ◌++◌, take, drop, position, Option, Some, None, Result, Ok, Err, if◌then◌else◌, ℤ, pos, ◌-ℤ◌, nat_le}
 use Rattle.std.specs.Str.{bytes_eq}
 use Rattle.lab_model.specs.declared.fault.Kind.TheVariants as kind
 use Rattle.lab_model.specs.declared.fault.Key.TheVariants as key
@@ -7,18 +7,7 @@ use Rattle.lab_model.specs.declared.fault.Refusal.{Refusal}
 use Rattle.lab_model.specs.Reading.{refusal}
 use Rattle.lab_io.specs.Sink.{Text}
 use Rattle.lab_io.specs.Number.{numeral}
-
--- a number of at most so many digits
-abbrev pub HasDigits : ℕ → ℕ → Type 0
-HasDigits digits n = n < 10 ^ digits
-
--- the same behind a `-`, too
-abbrev pub HasSignedDigits : ℕ → ℤ → Type 0
-HasSignedDigits digits z = ((pos 0 -ℤ pos (10 ^ digits)) <ℤ z) × (z <ℤ pos (10 ^ digits))
-
--- the digits of a number that names a place, or counts
-abbrev pub place_digits : ℕ
-place_digits = 7
+use Rattle.labels.specs.Form.{place_digits}
 
 infixl 10 ◌>>=◌
 -- one step and then the next, unless the first was refused

@@ -5,7 +5,8 @@ ghost use Rattle.std.specs.Str.Parse.{digits_value};
 ghost use Rattle.lab_io.specs.Number.{is_number, numeral};
 ghost use Rattle.lab_model.specs.Reading.{Gives};
 ghost use Rattle.lab_model.specs.Film.{IsWithin};
-ghost use Rattle.certificate_text.specs.Fields.{HasDigits, HasSignedDigits, bad_line, field_at, known_at, negative, number_at, numbers_at, passed, prepended, signed_at, signed_of, some_at, stop_before, unsigned_of, within_at, word_at};
+ghost use Rattle.labels.specs.Form.{HasDigits, HasSignedDigits};
+ghost use Rattle.certificate_text.specs.Fields.{bad_line, field_at, known_at, negative, number_at, numbers_at, passed, prepended, signed_at, signed_of, some_at, stop_before, unsigned_of, within_at, word_at};
 
 use lab_model::{InputFault, Key, Kind, Refusal};
 use std::alloc::Global;

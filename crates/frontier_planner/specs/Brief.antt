@@ -3,9 +3,9 @@ use Rattle.std.specs.Prelude.{ℕ, ◌-◌, ◌<◌, List}
 use Rattle.lab_model.specs.declared.label.Label.{Label}
 use Rattle.lab_model.specs.Film.{rungs_of}
 use Rattle.frontier_planner.specs.declared.brief.Brief.{Brief}
-use Rattle.frontier_planner.specs.Labels.{Task, task_of}
-use Rattle.frontier_planner.specs.Layers.{CanPlan, grown_labels}
-use Rattle.frontier_planner.specs.Near.{CanFollow}
+use Rattle.player_core.specs.Scene.{Task, task_of}
+use Rattle.labels.specs.Grown.{CanPlan, grown_labels}
+use Rattle.labels.specs.Near.{CanFollow}
 use Rattle.frontier_planner.specs.Thinned.{AreEnough}
 
 -- the task of a brief

@@ -4,12 +4,13 @@ ghost use Rattle.std.specs.Prelude.{◌≡◌, ◌-◌, ◌<◌, ◌≤◌};
 ghost use Rattle.lab_model.specs.Film.{rungs_of, segments_of};
 ghost use Rattle.lab_model.specs.Fit.{SetupFits};
 ghost use Rattle.frontier_planner.specs.Brief.{IsBrief, task_in};
-ghost use Rattle.frontier_planner.specs.Grid.{IsGrid};
-ghost use Rattle.frontier_planner.specs.Labels.{next_label, request_at, start_label, task_of};
-ghost use Rattle.frontier_planner.specs.Near.{CanFollow};
+ghost use Rattle.labels.specs.Grid.{IsGrid};
+ghost use Rattle.labels.specs.Labels.{next_label, request_at, start_label};
+ghost use Rattle.player_core.specs.Scene.{task_of};
+ghost use Rattle.labels.specs.Near.{CanFollow};
 
-use crate::label::{Grid, next_from, next_value, request_after, start_from};
 use lab_model::{Label, Manifest, Setup};
+use labels::{Grid, next_from, next_value, request_after, start_from};
 use network_clock::Clock;
 
 /// What is planned: a film on a network, with a setup that fits, and the grid on which labels are rounded.

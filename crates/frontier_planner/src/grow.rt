@@ -5,19 +5,19 @@ ghost use Rattle.std.specs.List.Sorted.{IsSortedBy};
 ghost use Rattle.std.specs.Ordering.{is_lt};
 ghost use Rattle.lab_model.specs.Film.{rungs_of, segments_of};
 ghost use Rattle.frontier_planner.specs.Brief.{AreFollowed, IsBrief, task_in};
-ghost use Rattle.frontier_planner.specs.Frontier.{undominated};
-ghost use Rattle.frontier_planner.specs.Grid.{rounded};
-ghost use Rattle.frontier_planner.specs.Grown.{grown};
-ghost use Rattle.frontier_planner.specs.Labels.{next_label};
-ghost use Rattle.frontier_planner.specs.Layers.{LayerAnswer, FrontiersAnswer, grown_labels};
+ghost use Rattle.labels.specs.Frontier.{undominated};
+ghost use Rattle.labels.specs.Grid.{rounded};
+ghost use Rattle.labels.specs.Grown.{grown, grown_labels};
+ghost use Rattle.labels.specs.Labels.{next_label};
+ghost use Rattle.frontier_planner.specs.Layers.{LayerAnswer, FrontiersAnswer};
 ghost use Rattle.frontier_planner.specs.Sweep.{sweep_cmp};
 
 use crate::brief::Brief;
-use crate::label::round_label;
 use crate::plans::PlanErr;
 use crate::staircase::Staircase;
 use crate::thin::thinned;
 use lab_model::Label;
+use labels::round_label;
 use std::alloc::{AllocError, Global};
 use std::cmp::Ordering;
 

@@ -5,19 +5,19 @@ ghost use Rattle.std.specs.List.{Contains, flat_map};
 ghost use Rattle.lab_model.specs.Film.{rungs_of, segments_of};
 ghost use Rattle.frontier_planner.specs.Blocks.{AreOver, IsFinder};
 ghost use Rattle.frontier_planner.specs.Brief.{CanGoOn, IsBrief, task_in};
-ghost use Rattle.frontier_planner.specs.Covers.{HasAbove};
-ghost use Rattle.frontier_planner.specs.Grown.{grown};
-ghost use Rattle.frontier_planner.specs.Labels.{next_label};
-ghost use Rattle.frontier_planner.specs.Layers.{HoldPlan, chain_read, chains_read, grown_labels, names_read};
-ghost use Rattle.frontier_planner.specs.Parts.{chain_parts};
-ghost use Rattle.frontier_planner.specs.Read.{chain_list, place_above, starts_of};
+ghost use Rattle.labels.specs.Covers.{HasAbove};
+ghost use Rattle.labels.specs.Grown.{grown, grown_labels};
+ghost use Rattle.labels.specs.Labels.{next_label};
+ghost use Rattle.frontier_planner.specs.Layers.{HoldPlan, chain_read, chains_read, names_read};
+ghost use Rattle.labels.specs.Parts.{chain_parts};
+ghost use Rattle.labels.specs.Read.{chain_list, place_above, starts_of};
 
 use crate::blocks::{Finder, first_above, next_finders, place_from};
 use crate::brief::Brief;
 use crate::climb::place_of_value;
 use crate::grow::Layer;
-use crate::plans::Chain;
 use lab_model::Label;
+use labels::Chain;
 use std::alloc::{AllocError, Global};
 
 /// For each rung the first place of a label of segment 0 that dominates the start label.

@@ -1,20 +1,20 @@
 //! The planner.
 
-ghost use Rattle.std.specs.Prelude.{◌≤◌};
+ghost use Rattle.std.specs.Prelude.{◌≡◌, ◌≤◌, IfOk};
 ghost use Rattle.lab_model.specs.Fit.{SetupFits};
 ghost use Rattle.player_core.specs.Available.{all_ahead};
 ghost use Rattle.frontier_planner.specs.Brief.{IsBrief, task_in};
-ghost use Rattle.frontier_planner.specs.Grid.{IsGrid};
-ghost use Rattle.frontier_planner.specs.Labels.{task_of};
+ghost use Rattle.labels.specs.Grid.{IsGrid, exact};
+ghost use Rattle.player_core.specs.Scene.{task_of};
 ghost use Rattle.frontier_planner.specs.Planned.{CoarseAnswer, ExactAnswer, PlanAnswer};
 
 use crate::brief::Brief;
 use crate::grow::{Frontiers, grown_frontiers};
-use crate::label::{Grid, end_value};
 use crate::names::{chains, starts};
-use crate::plans::{CoarsePlan, Plan, PlanErr};
+use crate::plans::{CoarsePlan, PlanErr};
 use crate::read::{best_end, rungs_to, value_of_list};
 use lab_model::{Manifest, Setup};
+use labels::{Grid, Plan, end_value};
 use network_clock::Clock;
 use std::alloc::Global;
 
@@ -64,6 +64,7 @@ pub fn plan_from(
     requires budget { (1 ≤ budget) × (budget ≤ 1000000) }
     ensures coarse { CoarseAnswer grid (task_of m.now clock.now set.now ahead) budget result }
     ensures exact { ExactAnswer grid (task_of m.now clock.now set.now ahead) budget result }
+    ensures bound { grid ≡ exact → IfOk result (λ c. c.bound ≡ c.plan.score) }
 {
     plan_of(alloc, &Brief::new(m, clock, set, ahead, grid), budget)
 }

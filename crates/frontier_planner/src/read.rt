@@ -4,15 +4,15 @@ ghost use Rattle.std.specs.Prelude.{◌≡◌, ℕ, ◌+◌, ◌-◌, ◌*◌, �
 ghost use Rattle.std.specs.List.{Contains, find};
 ghost use Rattle.lab_model.specs.Film.{segments_of};
 ghost use Rattle.frontier_planner.specs.Brief.{IsBrief, task_in};
-ghost use Rattle.frontier_planner.specs.Grown.{grown};
-ghost use Rattle.frontier_planner.specs.Labels.{AreRungs, value_at_end};
-ghost use Rattle.frontier_planner.specs.Layers.{HoldAll, grown_labels, rungs_read};
-ghost use Rattle.frontier_planner.specs.Read.{end_of_plan, leads_to, list_value};
+ghost use Rattle.labels.specs.Grown.{grown, grown_labels};
+ghost use Rattle.labels.specs.Labels.{AreRungs, value_at_end};
+ghost use Rattle.frontier_planner.specs.Layers.{HoldAll, rungs_read};
+ghost use Rattle.labels.specs.Read.{end_of_plan, leads_to, list_value};
 
 use crate::brief::Brief;
 use crate::grow::Layer;
-use crate::label::{end_value, round_label};
 use lab_model::{Label, Setup};
+use labels::{end_value, round_label};
 use std::alloc::{AllocError, Global};
 
 /// Whether the first label ends at more than the second.

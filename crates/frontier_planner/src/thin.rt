@@ -7,8 +7,8 @@ ghost use Rattle.std.specs.List.Sorted.{IsPermutation, IsSortedBy};
 ghost use Rattle.std.specs.Ordering.{is_lt};
 ghost use Rattle.lab_model.specs.Film.{rungs_of, segments_of};
 ghost use Rattle.frontier_planner.specs.Brief.{AreFollowed, IsBrief, task_in};
-ghost use Rattle.frontier_planner.specs.Layers.{grown_labels};
-ghost use Rattle.frontier_planner.specs.Near.{CanFollow};
+ghost use Rattle.labels.specs.Grown.{grown_labels};
+ghost use Rattle.labels.specs.Near.{CanFollow};
 ghost use Rattle.frontier_planner.specs.Sweep.{sweep_cmp};
 ghost use Rattle.frontier_planner.specs.Thinned.{AreLeaders, CoversChange, raised, waiting};
 

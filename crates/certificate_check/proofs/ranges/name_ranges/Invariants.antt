@@ -1,6 +1,6 @@
 use Rattle.std.proofs.Common.{◌≡◌, length, nat_lt}
-use Rattle.frontier_planner.specs.Parts.{chain_parts}
-use Rattle.certificate_text.specs.declared.certificate.Verdict.TheVariants.{Yes}
+use Rattle.labels.specs.Parts.{chain_parts}
+use Rattle.labels.specs.declared.verdict.Verdict.TheVariants.{Yes}
 use Rattle.certificate_check.specs.Scheme.{first_no, tested}
 use Rattle.certificate_check.specs.Clauses.{count_of, layer_of, name_of}
 use Rattle.certificate_check.proofs.ranges.name_ranges.Given as goal

@@ -16,7 +16,7 @@ found_first-found-requires c =
     let parts = certificate_parts c.args.cert.now in
     let long = ap length c.deref-2.ensures.value in
     let starts = c.requires.head.starts.0 in
-    let few = c.requires.head.rungs.0.1 in
+    let few = c.requires.head.rungs.1 in
     record {
       rungs = omega (arith, long, starts, few);
       chains = c.layer.ensures.own.count ∙ sym starts ∙ sym long;
@@ -38,7 +38,7 @@ found_more-found-requires c =
     let i = c.loop-segment.segment in
     let low = c.loop-segment-test.true in
     let inside : i + 1 < parts.segments = omega (arith, low) in
-    let few = c.requires.head.rungs.0.1 in
+    let few = c.requires.head.rungs.1 in
     let next = c.layer-next.ensures.own.count in
     record {
       form = subst (λ p. IsLayer p c.layer-here.result.now) (per_inside parts.segments parts.rungs i inside ∙ sym next) c.layer-here.ensures.form;
@@ -59,7 +59,7 @@ pub verdict-requires : goal.verdict-requires
 verdict-requires c =
     let g = c.args.checker.now in
     let parts = certificate_parts c.args.cert.now in
-    let some = c.requires.head.segments.0.0 in
+    let some = c.requires.head.segments.0 in
     let past = c.loop-segment-test.false in
     let most = c.loop-segment.auto.segment-end in
     let last : c.loop-segment.segment ≡ parts.segments - 1 = omega (arith, past, most) in
@@ -75,7 +75,7 @@ pub returns : goal.returns
 returns c =
     let g = c.args.checker.now in
     let parts = certificate_parts c.args.cert.now in
-    let some = c.requires.head.segments.0.0 in
+    let some = c.requires.head.segments.0 in
     let past = c.loop-segment-test.false in
     let most = c.loop-segment.auto.segment-end in
     let last : c.loop-segment.segment ≡ parts.segments - 1 = omega (arith, past, most) in

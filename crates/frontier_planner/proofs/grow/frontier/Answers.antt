@@ -2,17 +2,17 @@ use Rattle.std.proofs.Common.{◌≡◌, ◌∙◌, ◌-◌, ℕ, zero, suc, ◌
 use Rattle.std.specs.Prelude.{IfOk}
 use Rattle.lab_model.specs.declared.label.Label.{Label}
 use Rattle.lab_model.specs.Film.{rungs_of, segments_of}
-use Rattle.frontier_planner.specs.declared.label.Grid.{Grid}
+use Rattle.labels.specs.declared.label.Grid.{Grid}
 use Rattle.frontier_planner.specs.Brief.{task_in}
-use Rattle.frontier_planner.specs.Frontier.{undominated}
-use Rattle.frontier_planner.specs.Grid.{rounded}
-use Rattle.frontier_planner.specs.Grown.{grown}
-use Rattle.frontier_planner.specs.Labels.{Task, next_label, start_label}
-use Rattle.frontier_planner.specs.Layers.{CanPlan, grown_labels}
-use Rattle.frontier_planner.specs.Near.{IsNear}
+use Rattle.labels.specs.Frontier.{undominated}
+use Rattle.labels.specs.Grid.{rounded}
+use Rattle.labels.specs.Grown.{grown, CanPlan, grown_labels}
+use Rattle.player_core.specs.Scene.{Task}
+use Rattle.labels.specs.Labels.{next_label, start_label}
+use Rattle.labels.specs.Near.{IsNear}
 use Rattle.frontier_planner.specs.Thinned.{AreEnough}
-use Rattle.frontier_planner.proofs.Follows.{start_rounds}
-use Rattle.frontier_planner.proofs.Grown.{grown_first}
+use Rattle.labels.proofs.Follows.{start_rounds}
+use Rattle.labels.proofs.Grown.{grown_first}
 use Rattle.frontier_planner.proofs.Thinned.{enough_grown}
 use Rattle.frontier_planner.proofs.grow.frontier.Goals as goal
 

@@ -1,8 +1,9 @@
 use Rattle.std.proofs.Common.{◌∙◌, [], ◌∷◌, ap, length, length-append, subst, sym, arith}
-use Rattle.frontier_planner.specs.Grown.{grown}
+use Rattle.labels.specs.Grown.{grown}
 use Rattle.frontier_planner.specs.Brief.{task_in}
 use Rattle.frontier_planner.specs.Layers.{HoldsFrontiers}
-use Rattle.frontier_planner.proofs.Layers.{before_more, before_none, hold_more, hold_none, last_held, layers_stop}
+use Rattle.labels.proofs.Counted.{before_more, before_none}
+use Rattle.frontier_planner.proofs.Layers.{hold_more, hold_none, last_held, layers_stop}
 use Rattle.frontier_planner.proofs.grow.grown_frontiers.Goals as goal
 
 pub loop-seg-init : goal.loop-seg-init

@@ -1,8 +1,8 @@
 use Rattle.std.proofs.Common.{◌≡◌, ◌+◌, length}
-use Rattle.frontier_planner.specs.Grown.{grown}
+use Rattle.labels.specs.Grown.{grown}
 use Rattle.frontier_planner.specs.Brief.{task_in}
 use Rattle.frontier_planner.specs.Layers.{HoldAll}
-use Rattle.frontier_planner.specs.Read.{labels_before}
+use Rattle.labels.specs.Read.{labels_before}
 use Rattle.frontier_planner.proofs.grow.grown_frontiers.Given as goal
 
 abbrev pub invariant-loop-seg : goal.invariant-loop-seg

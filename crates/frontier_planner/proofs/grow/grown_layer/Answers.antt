@@ -1,9 +1,10 @@
 use Rattle.std.proofs.Common.{◌≡◌, ◌∙◌, ◌+◌, ap, length, refl, arith}
 use Rattle.lab_model.specs.Film.{rungs_of}
-use Rattle.frontier_planner.specs.Frontier.{by_rung}
-use Rattle.frontier_planner.specs.Grown.{grown}
+use Rattle.labels.specs.Frontier.{by_rung}
+use Rattle.labels.specs.Grown.{grown}
 use Rattle.frontier_planner.specs.Brief.{task_in}
-use Rattle.frontier_planner.proofs.Layers.{by_rung_added, by_rung_count, by_rung_fewer, held_more}
+use Rattle.frontier_planner.proofs.Layers.{by_rung_added, held_more}
+use Rattle.labels.proofs.Counted.{by_rung_count, by_rung_fewer}
 use Rattle.frontier_planner.proofs.grow.grown_layer.Goals as goal
 
 pub returns-then-len-left : goal.returns-then-len-left

@@ -1,7 +1,7 @@
 use Rattle.std.proofs.Common.{◌≡◌, ◌≤◌, length, map}
 use Rattle.lab_model.specs.Ladder.{rungs_below}
-use Rattle.frontier_planner.specs.Frontier.{by_rung}
-use Rattle.frontier_planner.specs.Grown.{grown}
+use Rattle.labels.specs.Frontier.{by_rung}
+use Rattle.labels.specs.Grown.{grown}
 use Rattle.frontier_planner.specs.Brief.{task_in}
 use Rattle.frontier_planner.specs.Layers.{held}
 use Rattle.frontier_planner.proofs.grow.grown_layer.Given as goal

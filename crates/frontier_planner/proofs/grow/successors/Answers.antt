@@ -2,9 +2,9 @@ use Rattle.std.proofs.Common.{◌∙◌, get_or, subst, sym}
 use Rattle.std.proofs.lemmas.List.Elements.{Contains-get_or}
 use Rattle.lab_model.specs.declared.label.Label.{Label}
 use Rattle.frontier_planner.specs.Brief.{task_in}
-use Rattle.frontier_planner.specs.Near.{IsNear}
-use Rattle.frontier_planner.specs.Read.{no_label}
-use Rattle.frontier_planner.proofs.Follows.{next_rounds}
+use Rattle.labels.specs.Near.{IsNear}
+use Rattle.labels.specs.Read.{no_label}
+use Rattle.labels.proofs.Follows.{next_rounds}
 use Rattle.frontier_planner.proofs.grow.successors.Goals as goal
 
 pub next-next-requires-clause-old : goal.next-next-requires-clause-old

@@ -1,7 +1,7 @@
 use Rattle.std.proofs.Common.{◌≡◌, map, take}
-use Rattle.frontier_planner.specs.Grid.{rounded}
+use Rattle.labels.specs.Grid.{rounded}
 use Rattle.frontier_planner.specs.Brief.{task_in}
-use Rattle.frontier_planner.specs.Labels.{next_label}
+use Rattle.labels.specs.Labels.{next_label}
 use Rattle.frontier_planner.proofs.grow.successors.Given as goal
 
 abbrev pub invariant-loop-old : goal.invariant-loop-old

@@ -3,7 +3,7 @@ use Rattle.std.specs.Prelude.{IfOk}
 use Rattle.std.specs.List.Sorted.{IsSortedBy}
 use Rattle.std.specs.Ordering.{is_lt}
 use Rattle.std.proofs.lemmas.List.Sorted.{answers_always}
-use Rattle.frontier_planner.specs.Frontier.{undominated}
+use Rattle.labels.specs.Frontier.{undominated}
 use Rattle.frontier_planner.specs.Sweep.{sweep_cmp}
 use Rattle.frontier_planner.proofs.Sweep.{sweep_ranks, undominated_moved}
 use Rattle.frontier_planner.proofs.grow.undominated.Goals as goal

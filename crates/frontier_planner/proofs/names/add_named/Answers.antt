@@ -2,8 +2,8 @@ use Rattle.std.proofs.Common.{◌∙◌, ◌∷◌, [], ap, map}
 use Rattle.std.proofs.lemmas.List.{map-append}
 use Rattle.frontier_planner.specs.Brief.{task_in}
 use Rattle.frontier_planner.specs.Layers.{chain_read}
-use Rattle.frontier_planner.specs.Parts.{chain_parts}
-use Rattle.frontier_planner.proofs.Naming.{rung_pushed}
+use Rattle.labels.specs.Parts.{chain_parts}
+use Rattle.labels.proofs.Counted.{rung_pushed}
 use Rattle.frontier_planner.proofs.names.add_named.Goals as goal
 
 pub loop-rung-preserved : goal.loop-rung-preserved

@@ -2,7 +2,7 @@ use Rattle.std.proofs.Common.{◌≡◌, ◌++◌, map}
 use Rattle.lab_model.specs.Ladder.{rungs_below}
 use Rattle.frontier_planner.specs.Brief.{task_in}
 use Rattle.frontier_planner.specs.Layers.{chain_read}
-use Rattle.frontier_planner.specs.Parts.{chain_parts}
+use Rattle.labels.specs.Parts.{chain_parts}
 use Rattle.frontier_planner.proofs.names.add_named.Given as goal
 
 abbrev pub invariant-loop-rung : goal.invariant-loop-rung

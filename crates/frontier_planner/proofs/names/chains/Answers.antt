@@ -1,7 +1,7 @@
 use Rattle.std.proofs.Common.{◌∙◌, ◌++◌, ap, sym}
 use Rattle.frontier_planner.specs.Brief.{task_in}
 use Rattle.frontier_planner.specs.Layers.{chains_read}
-use Rattle.frontier_planner.proofs.Naming.{list_pushed}
+use Rattle.labels.proofs.Counted.{list_pushed}
 use Rattle.frontier_planner.proofs.names.chains.Goals as goal
 
 pub loop-seg-preserved : goal.loop-seg-preserved

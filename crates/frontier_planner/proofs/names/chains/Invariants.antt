@@ -3,7 +3,7 @@ use Rattle.std.specs.List.{flat_map}
 use Rattle.lab_model.specs.Ladder.{rungs_below}
 use Rattle.frontier_planner.specs.Brief.{task_in}
 use Rattle.frontier_planner.specs.Layers.{chains_read}
-use Rattle.frontier_planner.specs.Parts.{chain_parts}
+use Rattle.labels.specs.Parts.{chain_parts}
 use Rattle.frontier_planner.proofs.names.chains.Given as goal
 
 abbrev pub invariant-loop-seg : goal.invariant-loop-seg

@@ -2,15 +2,16 @@ use Rattle.std.proofs.Common.{◌≡◌, ◌∙◌, ◌+◌, ◌<◌, suc, lengt
 use Rattle.lab_model.specs.Film.{rungs_of}
 use Rattle.frontier_planner.specs.Blocks.{HaveFinders}
 use Rattle.frontier_planner.specs.Brief.{task_in}
-use Rattle.frontier_planner.specs.Covers.{HasAbove}
-use Rattle.frontier_planner.specs.Grown.{grown}
-use Rattle.frontier_planner.specs.Labels.{next_label}
-use Rattle.frontier_planner.specs.Read.{place_above}
-use Rattle.frontier_planner.proofs.Follows.{in_reach, label_follows}
-use Rattle.frontier_planner.proofs.Grown.{grown_covers}
-use Rattle.frontier_planner.proofs.Naming.{chain_few, chain_is, chains_count, name_one, rung_inside, rung_pushed}
+use Rattle.labels.specs.Covers.{HasAbove}
+use Rattle.labels.specs.Grown.{grown}
+use Rattle.labels.specs.Labels.{next_label}
+use Rattle.labels.specs.Read.{place_above}
+use Rattle.labels.proofs.Follows.{in_reach, label_follows}
+use Rattle.labels.proofs.Grown.{grown_covers}
+use Rattle.frontier_planner.proofs.Naming.{chain_few, chain_is, chains_count, name_one, rung_inside}
+use Rattle.labels.proofs.Counted.{rung_pushed}
 use Rattle.frontier_planner.proofs.Passed.{finder_there}
-use Rattle.frontier_planner.proofs.Walks.{from_by_rung}
+use Rattle.labels.proofs.Walks.{from_by_rung}
 use Rattle.frontier_planner.proofs.names.name_label.Goals as goal
 use Rattle.frontier_planner.proofs.names.name_label.Goals.{After-deref-in-loop-rung, After-index-chain}
 

@@ -1,9 +1,9 @@
 use Rattle.std.proofs.Common.{◌≡◌, ◌++◌, suc, map}
 use Rattle.lab_model.specs.Ladder.{rungs_below}
-use Rattle.frontier_planner.specs.Grown.{grown}
+use Rattle.labels.specs.Grown.{grown}
 use Rattle.frontier_planner.specs.Brief.{task_in}
-use Rattle.frontier_planner.specs.Labels.{next_label}
-use Rattle.frontier_planner.specs.Read.{place_above}
+use Rattle.labels.specs.Labels.{next_label}
+use Rattle.labels.specs.Read.{place_above}
 use Rattle.frontier_planner.proofs.names.name_label.Given as goal
 
 abbrev pub invariant-loop-rung : goal.invariant-loop-rung

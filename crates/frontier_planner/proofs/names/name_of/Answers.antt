@@ -2,7 +2,7 @@ use Rattle.std.proofs.Common.{rules, ◌≡◌, ◌+◌, ◌∙◌, of_z, subst,
 use Rattle.std.specs.Int.{w64}
 use Rattle.frontier_planner.specs.Brief.{task_in}
 use Rattle.frontier_planner.specs.Climbing.{Reaches}
-use Rattle.frontier_planner.specs.Labels.{next_label}
+use Rattle.labels.specs.Labels.{next_label}
 use Rattle.frontier_planner.proofs.Climbing.{reached_above}
 use Rattle.frontier_planner.proofs.names.name_of.Goals as goal
 

@@ -1,10 +1,10 @@
 use Rattle.std.proofs.Common.{◌∙◌, ap, length, arith}
 use Rattle.std.specs.List.{flat_map}
 use Rattle.std.proofs.lemmas.List.{take_all}
-use Rattle.frontier_planner.specs.Grown.{grown}
+use Rattle.labels.specs.Grown.{grown}
 use Rattle.frontier_planner.specs.Brief.{task_in}
 use Rattle.frontier_planner.specs.Layers.{names_read}
-use Rattle.frontier_planner.specs.Read.{no_label}
+use Rattle.labels.specs.Read.{no_label}
 use Rattle.frontier_planner.proofs.Naming.{chain_is, label_pushed, label_there, rung_inside}
 use Rattle.frontier_planner.proofs.names.names.Goals as goal
 

@@ -1,6 +1,6 @@
 use Rattle.std.proofs.Common.{◌≡◌, take}
 use Rattle.std.specs.List.{flat_map}
-use Rattle.frontier_planner.specs.Grown.{grown}
+use Rattle.labels.specs.Grown.{grown}
 use Rattle.frontier_planner.specs.Brief.{task_in}
 use Rattle.frontier_planner.specs.Layers.{names_read}
 use Rattle.frontier_planner.proofs.names.names.Given as goal

@@ -1,10 +1,11 @@
 use Rattle.std.proofs.Common.{◌∙◌, ◌<◌, [], length, ap, arith}
 use Rattle.lab_model.specs.Film.{rungs_of, segments_of}
-use Rattle.frontier_planner.specs.Grown.{grown}
+use Rattle.labels.specs.Grown.{grown}
 use Rattle.frontier_planner.specs.Brief.{task_in}
-use Rattle.frontier_planner.specs.Labels.{start_label}
-use Rattle.frontier_planner.specs.Read.{place_above}
-use Rattle.frontier_planner.proofs.Naming.{chain_few, chain_is, rung_inside, rung_pushed, start_one}
+use Rattle.labels.specs.Labels.{start_label}
+use Rattle.labels.specs.Read.{place_above}
+use Rattle.frontier_planner.proofs.Naming.{chain_few, chain_is, rung_inside, start_one}
+use Rattle.labels.proofs.Counted.{rung_pushed}
 use Rattle.frontier_planner.proofs.names.starts.Goals as goal
 
 pub index-requires : goal.index-requires

@@ -1,8 +1,8 @@
 use Rattle.std.proofs.Common.{subst}
-use Rattle.frontier_planner.specs.Labels.{task_of}
-use Rattle.frontier_planner.specs.Layers.{CanPlan}
+use Rattle.player_core.specs.Scene.{task_of}
+use Rattle.labels.specs.Grown.{CanPlan}
 use Rattle.frontier_planner.specs.Planned.{CoarseAnswer}
-use Rattle.frontier_planner.proofs.Planned.{exact_answer}
+use Rattle.frontier_planner.proofs.Planned.{exact_answer, exact_bound}
 use Rattle.frontier_planner.proofs.planner.plan_from.Goals as goal
 
 pub returns-clause-coarse : goal.returns-clause-coarse
@@ -15,3 +15,8 @@ returns-clause-exact c =
     let g = task_of c.args.m.now c.args.clock.now c.args.set.now c.args.ahead in
     let case = subst (λ d. CanPlan d g) c.new.ensures.grid (subst (λ g. CanPlan c.new.result.grid g) c.new.ensures.task c.new.ensures.brief) in
     exact_answer c.args.grid g case c.args.budget c.plan_of.result (returns-clause-coarse c)
+
+pub returns-clause-bound : goal.returns-clause-bound
+returns-clause-bound c =
+    let g = task_of c.args.m.now c.args.clock.now c.args.set.now c.args.ahead in
+    exact_bound c.args.grid g (subst (λ h. CanPlan c.new.result.grid h) c.new.ensures.task c.new.ensures.brief).task c.args.budget c.plan_of.result (returns-clause-coarse c)

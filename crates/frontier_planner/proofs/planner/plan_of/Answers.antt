@@ -2,12 +2,12 @@ use Rattle.std.proofs.Common.{rules, ◌≡◌, ◌∙◌, ◌-◌, ap, sym, sub
 use Rattle.std.specs.Int.{w128}
 use Rattle.lab_model.specs.Film.{segments_of}
 use Rattle.frontier_planner.specs.Brief.{task_in}
-use Rattle.frontier_planner.specs.Labels.{AreRungs, end_value}
+use Rattle.labels.specs.Labels.{AreRungs, end_value}
 use Rattle.frontier_planner.specs.Layers.{HoldPlan}
-use Rattle.frontier_planner.specs.Read.{list_value}
+use Rattle.labels.specs.Read.{list_value}
 use Rattle.frontier_planner.proofs.Planned.{coarse_is, end_there, frontiers_stop, list_is, parts_are, plan_held}
-use Rattle.frontier_planner.proofs.ReadBack.{list_fits}
-use Rattle.frontier_planner.proofs.Follows.{label_follows}
+use Rattle.labels.proofs.ReadBack.{list_fits}
+use Rattle.labels.proofs.Follows.{label_follows}
 use Rattle.frontier_planner.proofs.planner.plan_of.Goals as goal
 
 pub returns-in_err-layers : goal.returns-in_err-layers

@@ -1,8 +1,8 @@
 use Rattle.std.proofs.Common.{◌∙◌, ◌-◌, ◌++◌, ◌∷◌, [], ap, sym, arith}
-use Rattle.frontier_planner.specs.Grown.{grown}
+use Rattle.labels.specs.Grown.{grown}
 use Rattle.frontier_planner.specs.Brief.{task_in}
 use Rattle.frontier_planner.specs.Layers.{rungs_read}
-use Rattle.frontier_planner.proofs.ReadBack.{back_first}
+use Rattle.labels.proofs.ReadBack.{back_first}
 use Rattle.frontier_planner.proofs.Reading.{parent_is, parent_none}
 use Rattle.frontier_planner.proofs.read.+rungs_to.Goals as goal
 

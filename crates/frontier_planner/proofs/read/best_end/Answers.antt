@@ -5,7 +5,7 @@ use Rattle.std.proofs.lemmas.List.Elements.{Contains-get_or}
 use Rattle.std.proofs.lemmas.List.MinMax.{best_of_keeps, best_of_takes}
 use Rattle.lab_model.specs.declared.label.Label.{Label}
 use Rattle.frontier_planner.specs.Brief.{task_in}
-use Rattle.frontier_planner.specs.Read.{best_in, ends_higher, no_label}
+use Rattle.labels.specs.Read.{best_in, ends_higher, no_label}
 use Rattle.frontier_planner.proofs.Reading.{best_whole, end_fits, last_some}
 use Rattle.frontier_planner.proofs.read.best_end.Goals as goal
 use Rattle.frontier_planner.proofs.read.best_end.Goals.{then-ends_higher, else-ends_higher}

@@ -1,7 +1,7 @@
 use Rattle.std.proofs.Common.{◌≡◌, take, get_or}
 use Rattle.std.specs.List.{Contains, best_of}
 use Rattle.frontier_planner.specs.Brief.{task_in}
-use Rattle.frontier_planner.specs.Read.{ends_higher, no_label}
+use Rattle.labels.specs.Read.{ends_higher, no_label}
 use Rattle.frontier_planner.proofs.read.best_end.Given as goal
 
 abbrev pub invariant-loop-reached : goal.invariant-loop-reached

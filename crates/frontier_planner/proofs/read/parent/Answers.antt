@@ -1,12 +1,12 @@
 use Rattle.std.proofs.Common.{◌≡◌, ◌∙◌, ◌-◌, true, false, get_or, sym, subst, ap, arith}
 use Rattle.std.specs.List.{Contains}
 use Rattle.std.proofs.lemmas.List.Elements.{Contains-get_or}
-use Rattle.frontier_planner.specs.Frontier.{is_same}
-use Rattle.frontier_planner.specs.Grid.{rounded}
+use Rattle.labels.specs.Frontier.{is_same}
+use Rattle.labels.specs.Grid.{rounded}
 use Rattle.frontier_planner.specs.Brief.{task_in}
-use Rattle.frontier_planner.specs.Near.{IsNear}
-use Rattle.frontier_planner.specs.Read.{leads_to, no_label}
-use Rattle.frontier_planner.proofs.Follows.{in_reach, label_follows, next_rounds}
+use Rattle.labels.specs.Near.{IsNear}
+use Rattle.labels.specs.Read.{leads_to, no_label}
+use Rattle.labels.proofs.Follows.{in_reach, label_follows, next_rounds}
 use Rattle.frontier_planner.proofs.Reading.{find_here, find_on, same_is}
 use Rattle.frontier_planner.proofs.read.parent.Goals as goal
 

@@ -1,7 +1,7 @@
 use Rattle.std.proofs.Common.{◌≡◌, drop}
 use Rattle.std.specs.List.{find}
 use Rattle.frontier_planner.specs.Brief.{task_in}
-use Rattle.frontier_planner.specs.Read.{leads_to}
+use Rattle.labels.specs.Read.{leads_to}
 use Rattle.frontier_planner.proofs.read.parent.Given as goal
 
 abbrev pub invariant-loop-old : goal.invariant-loop-old

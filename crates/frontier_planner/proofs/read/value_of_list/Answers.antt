@@ -1,9 +1,9 @@
 use Rattle.std.proofs.Common.{◌∙◌, ◌-◌, ap, sym, subst, arith}
 use Rattle.std.specs.Prelude.{slice_index}
 use Rattle.frontier_planner.specs.Brief.{task_in}
-use Rattle.frontier_planner.specs.Labels.{label_at, next_label}
-use Rattle.frontier_planner.specs.Near.{CanFollow}
-use Rattle.frontier_planner.proofs.Path.{label_first}
+use Rattle.labels.specs.Labels.{label_at, next_label}
+use Rattle.labels.specs.Near.{CanFollow}
+use Rattle.labels.proofs.Path.{label_first}
 use Rattle.frontier_planner.proofs.Reading.{list_follows, list_next}
 use Rattle.frontier_planner.proofs.read.value_of_list.Goals as goal
 

@@ -1,7 +1,7 @@
 use Rattle.std.proofs.Common.{get_or, subst, inl}
 use Rattle.std.proofs.lemmas.List.{take_more}
 use Rattle.lab_model.specs.declared.label.Label.{Label}
-use Rattle.frontier_planner.specs.Read.{no_label}
+use Rattle.labels.specs.Read.{no_label}
 use Rattle.frontier_planner.specs.Sweep.{HasUnder}
 use Rattle.frontier_planner.proofs.Thinned.{led_dropped, led_kept, led_none, none_after_rung}
 use Rattle.frontier_planner.proofs.thin.leaders.Goals as goal

@@ -3,9 +3,9 @@ use Rattle.std.specs.List.{All, Contains}
 use Rattle.std.proofs.lemmas.List.Elements.{Contains-get_or}
 use Rattle.std.proofs.lemmas.Result.{IfOk-weaker}
 use Rattle.frontier_planner.specs.Brief.{AreFollowed, task_in}
-use Rattle.frontier_planner.specs.Near.{CanFollow}
+use Rattle.labels.specs.Near.{CanFollow}
 use Rattle.frontier_planner.specs.Thinned.{AreLeaders}
-use Rattle.frontier_planner.proofs.Follows.{label_follows}
+use Rattle.labels.proofs.Follows.{label_follows}
 use Rattle.frontier_planner.proofs.Thinned.{sorted_enough, sorted_follow}
 use Rattle.frontier_planner.proofs.thin.thinned.Goals as goal
 

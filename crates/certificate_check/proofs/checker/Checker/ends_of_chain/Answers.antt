@@ -1,11 +1,11 @@
 use Rattle.std.proofs.Common.{◌∙◌, sym, ap, ◌<◌, ◌≤◌, [], subst, to_z, of_z}
 use Rattle.lab_model.specs.declared.label.Label.{Label}
-use Rattle.frontier_planner.specs.Parts.{chain_parts}
+use Rattle.labels.specs.Parts.{chain_parts}
 use Rattle.certificate_check.specs.Clauses.{count_of, end_verdict, layer_of, range_verdict}
 use Rattle.std.proofs.lemmas.Int.{to_z-of_z}
 use Rattle.std.specs.Int.{w128}
 use Rattle.std.specs.Prelude.{int_le}
-use Rattle.frontier_planner.specs.Labels.{end_value}
+use Rattle.labels.specs.Labels.{end_value}
 use Rattle.certificate_check.specs.Scheme.{first_no, tested}
 use Rattle.certificate_check.proofs.InRange.{times_in}
 use Rattle.certificate_check.proofs.Scheme.{first_more, first_none, first_stop, yes_at}

@@ -1,9 +1,8 @@
 use Rattle.std.proofs.Common.{◌∙◌, sym, ap, ◌≡◌, subst, length, [], to_z, of_z}
 use Rattle.std.specs.Int.{w128}
-use Rattle.certificate_text.specs.declared.certificate.Verdict.TheVariants.{Yes}
+use Rattle.labels.specs.declared.verdict.Verdict.TheVariants.{Yes}
 use Rattle.certificate_check.specs.Scheme.{first_no}
-use Rattle.certificate_check.specs.Clauses.{count_of, end_verdict, layer_of, range_verdict}
-use Rattle.certificate_check.specs.Clauses.{ends_verdict}
+use Rattle.certificate_check.specs.Clauses.{count_of, end_verdict, layer_of, range_verdict, ends_verdict}
 use Rattle.std.proofs.lemmas.Int.{to_z-of_z}
 use Rattle.certificate_check.proofs.Layers.{few_read, layer_read}
 use Rattle.certificate_check.proofs.Scheme.{first_more, first_none, first_stop, yes_at}

@@ -1,7 +1,7 @@
 use Rattle.std.proofs.Common.{◌∙◌, sym, ap, ap₂, ◌+◌, ◌<◌, length, subst}
-use Rattle.frontier_planner.specs.Near.{CanFollow}
-use Rattle.frontier_planner.specs.Parts.{chain_parts}
-use Rattle.frontier_planner.specs.Labels.{dominates, next_label}
+use Rattle.labels.specs.Near.{CanFollow}
+use Rattle.labels.specs.Parts.{chain_parts}
+use Rattle.labels.specs.Labels.{dominates, next_label}
 use Rattle.certificate_check.specs.Scheme.{tested}
 use Rattle.certificate_check.specs.Clauses.{count_of, label_of, layer_of, name_of}
 use Rattle.certificate_check.proofs.Layers.{layer_read}

@@ -1,7 +1,7 @@
 use Rattle.std.proofs.Common.{◌≡◌, length, ◌+◌}
-use Rattle.frontier_planner.specs.Parts.{chain_parts}
-use Rattle.frontier_planner.specs.Labels.{dominates, next_label}
-use Rattle.certificate_text.specs.declared.certificate.Verdict.TheVariants.{Yes}
+use Rattle.labels.specs.Parts.{chain_parts}
+use Rattle.labels.specs.Labels.{dominates, next_label}
+use Rattle.labels.specs.declared.verdict.Verdict.TheVariants.{Yes}
 use Rattle.certificate_check.specs.Scheme.{first_no, tested}
 use Rattle.certificate_check.specs.Clauses.{label_of, layer_of, name_of}
 use Rattle.certificate_check.proofs.checker.Checker.name_verdict.Given as goal

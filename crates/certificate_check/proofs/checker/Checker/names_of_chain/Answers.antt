@@ -1,5 +1,5 @@
 use Rattle.std.proofs.Common.{◌∙◌, sym, ap, ◌<◌, length, subst}
-use Rattle.frontier_planner.specs.Parts.{chain_parts}
+use Rattle.labels.specs.Parts.{chain_parts}
 use Rattle.certificate_check.specs.Scheme.{first_no}
 use Rattle.certificate_check.specs.Clauses.{count_of, layer_of, range_verdict}
 use Rattle.certificate_check.proofs.Scheme.{first_more, first_none, first_stop, yes_at}

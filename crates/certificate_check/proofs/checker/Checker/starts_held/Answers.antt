@@ -1,5 +1,5 @@
 use Rattle.std.proofs.Common.{◌∙◌, sym, ap, ◌<◌, ap₂, get_or, subst, arith}
-use Rattle.frontier_planner.specs.Labels.{dominates}
+use Rattle.labels.specs.Labels.{dominates}
 use Rattle.certificate_check.specs.Scheme.{tested}
 use Rattle.certificate_check.specs.Clauses.{count_of, label_of, layer_of}
 use Rattle.certificate_check.proofs.Layers.{layer_read}

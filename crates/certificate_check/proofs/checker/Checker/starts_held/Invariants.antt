@@ -1,6 +1,6 @@
 use Rattle.std.proofs.Common.{◌≡◌, slice_index}
-use Rattle.frontier_planner.specs.Labels.{dominates, start_label}
-use Rattle.certificate_text.specs.declared.certificate.Verdict.TheVariants.{Yes}
+use Rattle.labels.specs.Labels.{dominates, start_label}
+use Rattle.labels.specs.declared.verdict.Verdict.TheVariants.{Yes}
 use Rattle.certificate_check.specs.Scheme.{first_no, tested}
 use Rattle.certificate_check.specs.Clauses.{label_of, layer_of}
 use Rattle.certificate_check.proofs.checker.Checker.starts_held.Given as goal
