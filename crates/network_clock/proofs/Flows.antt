@@ -9,23 +9,25 @@ use Rattle.network_clock.proofs.Periods.{bandwidth_at, cycle_positive, latency_a
 use Rattle.network_clock.proofs.Sums.{sum_below_grows}
 use Rattle.network_clock.proofs.Turns.{flow_turns}
 
--- so many milliseconds carry all that a download can ask for: q whole cycles
-abbrev enough : ℕ → ℕ
-enough cycle = 200000000 / cycle + 1
+-- so many whole cycles last at least so many milliseconds
+abbrev pub enough : ℕ → ℕ → ℕ
+enough least cycle = least / cycle + 1
 
-enough_ms : (cycle : ℕ) → 1 ≤ cycle → cycle ≤ 100000000 → (enough cycle * cycle ≤ 300000000) × (200000000 ≤ enough cycle * cycle)
-enough_ms cycle some few = (omega (arith, div-add-mod' 200000000 cycle, mod_below 200000000 cycle some), omega (arith, div-add-mod' 200000000 cycle, mod_below 200000000 cycle some))
+-- and at most a cycle longer
+pub enough_ms : (least cycle : ℕ) → 1 ≤ cycle → (enough least cycle * cycle ≤ least + cycle) × (least ≤ enough least cycle * cycle)
+enough_ms least cycle some = (omega (arith, div-add-mod' least cycle, mod_below least cycle some), omega (arith, div-add-mod' least cycle, mod_below least cycle some))
 
 -- in 300000000 milliseconds and more a trace carries at least the bits of the greatest download
 pub carries_enough : (ps : List Period) → IsTrace ps → (t n : ℕ) → 300000000 ≤ n → 200000000000 + flow carried_in ps t ≤ flow carried_in ps (t + n)
 carries_enough ps h t n late =
-    let q = enough (cycle_ms ps) in
-    let ms = enough_ms (cycle_ms ps) (cycle_positive ps h) h.cycle in
+    let cycle = h.cycle in
+    let q = enough 200000000 (cycle_ms ps) in
+    let ms = enough_ms 200000000 (cycle_ms ps) (cycle_positive ps h) in
     let small = ms.0 in
     let large = ms.1 in
     let turns = flow_turns carried_in ps q t in
     let carries = mul-le-mul_left q h.carries in
-    let grows = sum_below_grows (λ i. carried_in (period_at ps i)) (q * cycle_ms ps + t) (t + n) (omega arith) in
+    let grows = sum_below_grows (λ i. carried_in (period_at ps i)) (q * cycle_ms ps + t) (t + n) (omega (arith, small, cycle, late)) in
     omega (arith, turns, carries, grows, large)
 
 -- so bits come on it

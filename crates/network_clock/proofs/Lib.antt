@@ -7,6 +7,7 @@ pub mod Laws
 pub mod Downloads
 pub mod Pace
 pub mod Flows
+pub mod Shares
 pub mod Openings
 pub mod Order
 pub mod Places
