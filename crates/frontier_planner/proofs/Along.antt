@@ -6,9 +6,11 @@ use Rattle.std.proofs.lemmas.List.Elements.{All-nil}
 use Rattle.lab_model.specs.declared.context.Seek.{Seek}
 use Rattle.lab_model.specs.declared.label.Label.{Label}
 use Rattle.lab_model.specs.Film.{segments_of}
+use Rattle.lab_model.specs.Rules.{listed}
 use Rattle.player_core.specs.State.{Download, Player, playing}
 use Rattle.player_core.specs.Parts.{arrival, arrives, asks, begun, can_ask, loads, request, rung_for}
 use Rattle.player_core.specs.Sound.{IsCase, Runs, Sound}
+use Rattle.player_core.proofs.Chain.{is_case}
 use Rattle.player_core.proofs.Runs.{runs_done}
 use Rattle.player_core.proofs.Soundness.{Asks, can_ask_true}
 use Rattle.player_core.proofs.Waits.{asks_true}
@@ -21,14 +23,11 @@ use Rattle.frontier_planner.proofs.AlongSums.{arrive_waited, ask_false, ask_true
 
 -- the case of a rung list keeps the limits
 pub along_case : (g : Task) → IsTask g → (rungs : List ℕ) → AreRungs g (segments_of g.film) rungs → IsCase (case_along g rungs)
-along_case g is rungs fits = record {
-  film = is.film;
-  trace = is.trace;
-  setup = record { buffer = is.setup.buffer; utilities = record { rungs = is.setup.utilities.rungs; rows = is.setup.utilities.rows } };
-  seeks = record { count = omega arith; instants = All-nil (λ (s : Seek). s.at_ms ≤ 1000000000); rising = λ k low. absurd (omega (arith, low)); targets = All-nil (λ (s : Seek). s.to < segments_of g.film) };
-  ahead = is.ahead;
-  rule = fits;
-}
+along_case g is rungs fits =
+    is_case g.film g.periods (record g.setup { abandon = false }) [] g.ahead (listed rungs) is.film is.trace
+    (record { buffer = is.setup.buffer; utilities = record { rungs = is.setup.utilities.rungs; rows = is.setup.utilities.rows } })
+    (record { count = omega arith; instants = All-nil (λ (s : Seek). s.at_ms ≤ 1000000000); rising = λ k low. absurd (omega (arith, low)); targets = All-nil (λ (s : Seek). s.to < segments_of g.film) })
+    is.ahead fits
 
 -- the label of a segment is the one before the next
 pub before_next : (g : Task) (rungs : List ℕ) (k : ℕ) → label_at g rungs k ≡ label_before g rungs (k + 1)

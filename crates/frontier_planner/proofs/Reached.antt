@@ -7,7 +7,9 @@ use Rattle.lab_model.specs.declared.label.Label.{Label}
 use Rattle.lab_model.specs.Film.{rungs_of, segments_of, size_of}
 use Rattle.lab_model.specs.Weighing.{HasUtility, change_of, utility_of}
 use Rattle.lab_model.proofs.Rows.{utility_limit}
+use Rattle.network_clock.specs.Network.{period_at}
 use Rattle.network_clock.proofs.Downloads.{done_found}
+use Rattle.network_clock.proofs.Flows.{trace_flows}
 use Rattle.player_core.proofs.Runs.{size_within}
 use Rattle.frontier_planner.specs.declared.label.Grid.{Grid}
 use Rattle.frontier_planner.specs.Labels.{AreRungs, IsTask, Task, came_at, label_at, next_label, request_at, start_label, there_at}
@@ -74,7 +76,7 @@ change_low : (g : Task) → IsTask g → (i q r : ℕ) → i < segments_of g.fil
 change_low g is i q r low before rung = let one = utility_low g is i q low before in let two = utility_low g is i r low rung in omega (arith, one, two)
 
 came_soon : (g : Task) → IsTask g → (start i r : ℕ) → i < segments_of g.film → r < rungs_of g.film → came_at g start i r ≤ start + 300010000
-came_soon g is start i r low rung = (done_found g.periods is.trace start (size_of g.film i r) (size_within g.film i r is.film low rung).1).0
+came_soon g is start i r low rung = (done_found (period_at g.periods) (trace_flows g.periods is.trace) (omega arith) start (size_of g.film i r) (size_within g.film i r is.film low rung).1).0
 
 -- the start label of a rung lies within the limits, with room for a step
 pub start_reach : (g : Task) → IsTask g → (q : ℕ) → q < rungs_of g.film → IsWellInReach 0 (start_label g q)

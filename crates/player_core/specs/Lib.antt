@@ -1,5 +1,6 @@
 pub mod Limits
 pub mod Available
+pub mod Scene
 pub mod State
 pub mod Parts
 pub mod Session

@@ -8,11 +8,11 @@ ghost use Rattle.abandonment.specs.Test.{abandonment};
 ghost use Rattle.player_core.specs.Limits.{latest_ms, longest_film, most_bits, most_loaded, most_segments, most_sought, most_stalls, most_wasted};
 ghost use Rattle.player_core.specs.State.{Case, first_player};
 ghost use Rattle.player_core.specs.Course.{case_on};
-ghost use Rattle.player_core.specs.Parts.{abandon, arrival, asks, begins, begun, bit_ms_of, can_ask, context_of, finish, gives_up, gone_on, instant, loads, pass_ms, passes_in, plays, request, rung_for, sample_of, seek, seek_at, stalls_on, stopped, takes, takes_any, wasted_by};
+ghost use Rattle.player_core.specs.Parts.{abandon, arrival, asks, begins, begun, bit_ms_of, can_ask, context_of, finish, gives_up, gone_on, instant, loads, pass_in, pass_ms, passes_in, plays, request, rung_for, sample_of, seek, seek_at, stalls_on, stopped, takes_any_in, wasted_by};
 ghost use Rattle.player_core.specs.Session.{player_after, shown, shown_by};
 ghost use Rattle.player_core.specs.Sound.{IsCase, IsOf, Sound};
 ghost use Rattle.player_core.specs.Ready.{CanChoose, CanJudge, CanLoad, CanPass, CanRequest};
-ghost use Rattle.player_core.specs.Seen.{CanArrive, CanTake, Follows, FollowsOn, GoesOn, Hears, IsRunningOf, KnowsEnd, LeftAt, SameDownload, StandsAt, Step, Steps, download_of, seen};
+ghost use Rattle.player_core.specs.Seen.{CanArrive, Follows, FollowsOn, GoesOn, Hears, IsRunningOf, KnowsEnd, LeftAt, SameDownload, StandsAt, Step, Steps, download_of, seen};
 
 use crate::course::Course;
 use crate::mode::Mode;
@@ -20,30 +20,47 @@ use crate::player::available;
 use crate::running::Running;
 use crate::script::seek_at;
 use crate::session::{Event, Session};
-use lab_model::{Context, Manifest, NoMemory, Played, Rule};
+use lab_model::{Context, Manifest, NoMemory, Period, Played, Rule};
 use network_clock::Job;
 use std::alloc::Global;
 use std::collections::VecDeque;
 
-/// The player.
+/// The player at an instant.
 #[derive(Drop)]
 pub struct Body {
+    /// The instant, in milliseconds.
     pub t: u64,
+    /// The position, in milliseconds of the film.
     pub x: u32,
+    /// The end of what is loaded, in milliseconds of the film.
     pub y: u32,
+    /// The next segment to ask for, counted from 0.
     pub k: u16,
+    /// The running download, if there is one.
     pub download: Option<Running>,
+    /// The rung that the next request must take, after an abandonment.
     pub forced: Option<u8>,
+    /// The rung of the last segment that arrived.
     pub last: Option<u8>,
+    /// What the player does.
     pub mode: Mode,
+    /// The loaded segments that haven't begun, in order.
     pub loaded: VecDeque<Played>,
+    /// Whether the millisecond before was one of a stall.
     pub stalling: bool,
+    /// The milliseconds before the first segment.
     pub startup_ms: u64,
+    /// The milliseconds of stall.
     pub stall_ms: u64,
+    /// The milliseconds after seeks before play went on.
     pub seek_ms: u64,
+    /// The number of stalls.
     pub stalls: u32,
+    /// The bits that seeks and abandoned downloads wasted.
     pub wasted: u64,
+    /// The events so far, in order.
     pub events: Vec<Event>,
+    /// The segments that began to play, in order.
     pub played: Vec<Played>,
 }
 
@@ -93,7 +110,7 @@ impl Body {
     }
 
     /// What an instant begins with: the arrival, and then the end.
-    fn stop<T: Rule>(&mut self, course: &Course<'_>, rule: &mut T) -> Result<(), NoMemory>
+    pub fn stop<T: Rule>(&mut self, course: &Course<'_>, rule: &mut T) -> Result<(), NoMemory>
         requires ready { CanArrive course.now.film.now self.old }
         ensures stops { IfOk result (λ _. Steps course.now stopped self.old self.new) }
         ensures told { IfOk result (λ _.
@@ -283,7 +300,7 @@ impl Body {
     }
 
     /// 5. Request.
-    fn request<T: Rule>(&mut self, course: &Course<'_>, rule: &T) -> Result<(), NoMemory>
+    pub fn request<T: Rule>(&mut self, course: &Course<'_>, rule: &T) -> Result<(), NoMemory>
         requires ready { CanRequest
             (case_on course.now (T.kind rule.now)) (seen self.old []) }
         ensures requests { IfOk result (λ _. (history : List ℕ) → T.stands_for rule.now history
@@ -371,30 +388,33 @@ impl Body {
         Ok(())
     }
 
-    /// The millisecond passes.
+    /// The millisecond passes on the course's own network.
     pub fn pass(&mut self, course: &Course<'_>) -> Result<(), NoMemory>
-        requires ready { CanPass (seen self.old []) }
-        requires takes { IfSome self.old.download (CanTake course.now.clock.now self.old.t) }
-        ensures passes { IfOk result (λ _. FollowsOn course.now pass_ms self.old self.new) }
-        ensures timed { IfOk result (λ _. KnowsEnd course.now self.old
-            → KnowsEnd course.now self.new) }
+        requires { CanPass (seen self.old []) }
+        ensures { IfOk result (λ _. Steps course.now pass_ms self.old self.new) }
     {
-        self.take(course);
+        self.pass_in(course, course.clock.period_at(self.t))
+    }
+
+    /// The millisecond passes, in this period of a network.
+    pub fn pass_in(&mut self, course: &Course<'_>, period: Period) -> Result<(), NoMemory>
+        requires { CanPass (seen self.old []) }
+        ensures { IfOk result (λ _.
+            Steps course.now (λ c p. pass_in c period p) self.old self.new) }
+    {
+        self.take_in(period);
         self.pass_in_mode(course)?;
         self.t += 1;
         Ok(())
     }
 
-    /// A download, if there is one, takes its network millisecond.
-    fn take(&mut self, course: &Course<'_>)
-        requires instant { self.old.t ≤ latest_ms }
-        requires takes { IfSome self.old.download (CanTake course.now.clock.now self.old.t) }
-        ensures takes { FollowsOn course.now takes_any self.old self.new }
+    /// A download, if there is one, takes its network millisecond, which lies in this period.
+    fn take_in(&mut self, period: Period)
+        ensures takes { Step (takes_any_in period) self.old self.new }
         ensures ready { CanPass (seen self.old []) → CanPass (seen self.new []) }
-        ensures timed { KnowsEnd course.now self.old → KnowsEnd course.now self.new }
     {
         if let Some(d) = self.download {
-            self.download = Some(d.take_ms(course, self.t));
+            self.download = Some(d.take_in(period, self.t));
         }
     }
 
