@@ -135,7 +135,7 @@ returns-in_err-next_layer-clause-verdict c = λ bytes is.
     let s = c.loop-segment.invariant in
     gives_error _ c.from_residual-in_err-next_layer.result c.in_err-next_layer.field-0.0 _ c.from_residual-in_err-next_layer.ensures.1
     (fault_said _ bytes c.args.bound c.args.lines c.loop-segment.lines _ c.in_err-next_layer.field-0.0 is
-    (still_inside c.new-checker.result c.args.lines c.loop-segment.lines c.loop-segment.segment c.loop-segment.here.chains.items c.loop-segment.found (omega (arith, past, most, all, some)) s) s.rest c.in_err-next_layer.ensures.0)
+    (still_inside c.new-checker.result c.args.lines c.loop-segment.lines c.loop-segment.segment c.loop-segment.here.chains.items c.loop-segment.found (omega (arith, past, most, all, some)) s) s.rest c.in_err-next_layer.ensures.steps.0)
 
 pub returns-clause-verdict : goal.returns-clause-verdict
 returns-clause-verdict c = λ bytes is.
@@ -151,7 +151,7 @@ returns-clause-verdict c = λ bytes is.
     let bound = c.args.bound in
     let fits : SFits w128 score = search rules in
     subst (λ g. bounded_verdict g bytes bound ≡ Ok c.verdict-verdict.result) c.new-checker.ensures.value
-    (verdict_said c.new-checker.result bytes bound c.args.lines c.loop-segment.lines c.next_layer-2.new.self c.loop-segment.segment c.loop-segment.here.chains.items c.loop-segment.found c.in_ok-next_layer.field-0 c.verdict-verdict.result is (omega (arith, past, most, all, some)) s c.in_ok-next_layer.ensures
+    (verdict_said c.new-checker.result bytes bound c.args.lines c.loop-segment.lines c.next_layer-2.new.self c.loop-segment.segment c.loop-segment.here.chains.items c.loop-segment.found c.in_ok-next_layer.field-0 c.verdict-verdict.result is (omega (arith, past, most, all, some)) s c.in_ok-next_layer.ensures.steps
     (c.verdict-verdict.ensures
     ∙ ap₂ (body c.deref-2.result.now (c.segments-last.result - 1) c.plan-2.result.now) (to_z-of_z w128 score fits) (to_z-of_z w128 bound c.ranges.bound)
     ∙ ap₂ (λ x n. body x n c.plan-2.result.now score bound) c.deref-2.ensures.value here

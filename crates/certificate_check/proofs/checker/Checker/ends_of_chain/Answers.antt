@@ -8,7 +8,7 @@ use Rattle.std.specs.Prelude.{int_le}
 use Rattle.labels.specs.Labels.{end_value}
 use Rattle.certificate_check.specs.Scheme.{first_no, tested}
 use Rattle.certificate_check.proofs.InRange.{times_in}
-use Rattle.certificate_check.proofs.Scheme.{first_more, first_none, first_stop, yes_at}
+use Rattle.certificate_check.proofs.Scheme.{first_fails, first_more, first_none, yes_at}
 use Rattle.certificate_check.proofs.checker.Checker.ends_of_chain.Goals as goal
 
 pub loop-place-init : goal.loop-place-init
@@ -24,8 +24,8 @@ ends_below-low-requires c =
 
 pub loop-place-preserved : goal.loop-place-preserved
 loop-place-preserved c =
-    first_more _ _ _ c.loop-place.invariant (c.tested-verdict.ensures ∙ ap (tested 5 c.args.segment c.args.rung c.loop-place.place) (c.ends_below-low.ensures ∙ ap (λ l. int_le (end_value c.args.self.now l) (to_z w128 (of_z w128 c.args.bound))) c.label_of.ensures)) (sym c.is_no.ensures ∙ c.if-is_no.false)
+    first_more _ _ c.loop-place.invariant (c.in_ok-test.ensures ∙ ap (tested 5 c.args.segment c.args.rung c.loop-place.place) (c.ends_below-low.ensures ∙ ap (λ l. int_le (end_value c.args.self.now l) (to_z w128 (of_z w128 c.args.bound))) c.label_of.ensures))
 
-pub returns-then-is_no : goal.returns-then-is_no
-returns-then-is_no c =
-    first_stop _ _ _ _ c.loop-place-test.true c.loop-place.invariant (c.tested-verdict.ensures ∙ ap (tested 5 c.args.segment c.args.rung c.loop-place.place) (c.ends_below-low.ensures ∙ ap (λ l. int_le (end_value c.args.self.now l) (to_z w128 (of_z w128 c.args.bound))) c.label_of.ensures)) (sym c.is_no.ensures ∙ c.if-is_no.true) ∙ ap (first_no _) c.count_of-place-end.ensures ∙ ap (λ b. first_no (end_verdict c.args.self.now b c.args.segment c.args.rung (chain_parts c.args.chain.now)) (count_of (chain_parts c.args.chain.now))) (to_z-of_z w128 c.args.bound c.ranges.bound)
+pub returns-in_err-test : goal.returns-in_err-test
+returns-in_err-test c =
+    first_fails _ _ _ c.from_residual.result c.in_err-test.field-0.0 c.loop-place-test.true c.loop-place.invariant (c.in_err-test.ensures ∙ ap (tested 5 c.args.segment c.args.rung c.loop-place.place) (c.ends_below-low.ensures ∙ ap (λ l. int_le (end_value c.args.self.now l) (to_z w128 (of_z w128 c.args.bound))) c.label_of.ensures)) c.from_residual.ensures.1 ∙ ap (first_no _) c.count_of-place-end.ensures ∙ ap (λ b. first_no (end_verdict c.args.self.now b c.args.segment c.args.rung (chain_parts c.args.chain.now)) (count_of (chain_parts c.args.chain.now))) (to_z-of_z w128 c.args.bound c.ranges.bound)
