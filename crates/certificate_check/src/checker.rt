@@ -11,7 +11,7 @@ ghost use Rattle.labels.specs.Read.{list_value};
 ghost use Rattle.labels.specs.declared.verdict.Verdict.TheVariants.{Yes};
 ghost use Rattle.labels.specs.Form.{IsChain};
 ghost use Rattle.certificate_check.specs.Scheme.{both, first_no, verdict_by};
-ghost use Rattle.certificate_check.specs.Clauses.{counts_verdict, end_verdict, ends_verdict, layer_of, name_verdict, names_verdict, plan_verdict, range_verdict, ranges_verdict, score_verdict, starts_held, starts_verdict};
+ghost use Rattle.certificate_check.specs.Clauses.{counts_verdict, end_verdict, ends_verdict, chains_by_rung, name_verdict, names_verdict, plan_verdict, range_verdict, ranges_verdict, score_verdict, starts_held, starts_verdict};
 ghost use Rattle.certificate_check.specs.Layers.{AreBoth, IsLayer, MayEnd};
 
 use crate::ranges::{
@@ -115,9 +115,9 @@ impl<'a> Checker<'a> {
         requires rungs { length starts.now ≡ rungs_of self.now.film }
         requires few { length starts.now ≤ 16 }
         requires chains { length first.now ≡ length starts.now }
-        requires inside { starts_verdict (length starts.now) starts.now (layer_of first.now) ≡ Yes }
+        requires inside { starts_verdict (length starts.now) starts.now (chains_by_rung first.now) ≡ Yes }
         ensures { verdict_by result ≡
-            starts_held self.now (length starts.now) starts.now (layer_of first.now) }
+            starts_held self.now (length starts.now) starts.now (chains_by_rung first.now) }
     {
         for (rung, start) in starts.iter().enumerate() {
             let named = label_of(&first[rung], *start as usize);
@@ -144,9 +144,9 @@ impl<'a> Checker<'a> {
         requires count { length chain.now.labels.items ≤ 1000000 }
         requires form { IsChain (length next.now) (chain_parts chain.now) }
         requires range { range_verdict (length next.now) segment rung (chain_parts chain.now)
-            (layer_of next.now) place ≡ Yes }
+            (chains_by_rung next.now) place ≡ Yes }
         ensures { verdict_by result ≡ name_verdict self.now (length next.now) segment rung
-            (chain_parts chain.now) (layer_of next.now) place }
+            (chain_parts chain.now) (chains_by_rung next.now) place }
     {
         let label = label_of(chain, place);
         for (next_rung, next_chain) in next.iter().enumerate() {
@@ -167,9 +167,9 @@ impl<'a> Checker<'a> {
         requires count { length chain.now.labels.items ≤ 1000000 }
         requires form { IsChain (length next.now) (chain_parts chain.now) }
         requires ranges { first_no (range_verdict (length next.now) segment rung
-            (chain_parts chain.now) (layer_of next.now)) (length chain.now.labels.items) ≡ Yes }
+            (chain_parts chain.now) (chains_by_rung next.now)) (length chain.now.labels.items) ≡ Yes }
         ensures { verdict_by result ≡ first_no (name_verdict self.now (length next.now) segment rung
-            (chain_parts chain.now) (layer_of next.now)) (length chain.now.labels.items) }
+            (chain_parts chain.now) (chains_by_rung next.now)) (length chain.now.labels.items) }
     {
         for place in 0..count_of(chain) {
             self.name_verdict(segment, rung, chain, next, place)?;
@@ -183,9 +183,9 @@ impl<'a> Checker<'a> {
         requires few { length next.now ≤ 16 }
         requires form { IsLayer (length next.now) here.now }
         requires ranges { ranges_verdict (length next.now) (length here.now) segment
-            (layer_of here.now) (layer_of next.now) ≡ Yes }
+            (chains_by_rung here.now) (chains_by_rung next.now) ≡ Yes }
         ensures { verdict_by result ≡ names_verdict self.now (length next.now) (length here.now) segment
-            (layer_of here.now) (layer_of next.now) }
+            (chains_by_rung here.now) (chains_by_rung next.now) }
     {
         for (rung, chain) in here.iter().enumerate() {
             self.names_of_chain(segment, rung as u8, chain, next)?;
@@ -197,7 +197,7 @@ impl<'a> Checker<'a> {
     fn ends_of_chain(&self, bound: i128, segment: u16, rung: u8, chain: &Chain) -> Outcome
         requires count { length chain.now.labels.items ≤ 1000000 }
         requires ranges { first_no (range_verdict 0 segment rung (chain_parts chain.now)
-            (layer_of [])) (length chain.now.labels.items) ≡ Yes }
+            (chains_by_rung [])) (length chain.now.labels.items) ≡ Yes }
         ensures { verdict_by result ≡ first_no (end_verdict self.now bound segment rung
             (chain_parts chain.now)) (length chain.now.labels.items) }
     {
@@ -211,10 +211,10 @@ impl<'a> Checker<'a> {
     /// V5: no label of the last segment has an end value above the bound.
     fn ends_verdict(&self, bound: i128, segment: u16, last: &[Chain]) -> Outcome
         requires form { IsLayer 0 last.now }
-        requires ranges { ranges_verdict 0 (length last.now) segment (layer_of last.now)
-            (layer_of []) ≡ Yes }
+        requires ranges { ranges_verdict 0 (length last.now) segment (chains_by_rung last.now)
+            (chains_by_rung []) ≡ Yes }
         ensures { verdict_by result ≡
-            ends_verdict self.now bound (length last.now) segment (layer_of last.now) }
+            ends_verdict self.now bound (length last.now) segment (chains_by_rung last.now) }
     {
         for (rung, chain) in last.iter().enumerate() {
             self.ends_of_chain(bound, segment, rung as u8, chain)?;
@@ -244,9 +244,9 @@ impl<'a> Checker<'a> {
         requires chains { length first.now ≡ length starts.now }
         requires fits { head ≡ Yes → length starts.now ≡ rungs_of self.now.film }
         ensures ranges { result.ranges ≡
-            both head (starts_verdict (length starts.now) starts.now (layer_of first.now)) }
+            both head (starts_verdict (length starts.now) starts.now (chains_by_rung first.now)) }
         ensures claims { result.ranges ≡ Yes → result.claims ≡
-            starts_held self.now (length starts.now) starts.now (layer_of first.now) }
+            starts_held self.now (length starts.now) starts.now (chains_by_rung first.now) }
     {
         let ranges = both(head, verdict_by(starts_verdict(starts, first)));
         let claims = match ranges {
@@ -262,10 +262,10 @@ impl<'a> Checker<'a> {
         requires next { length next.now ≤ 16 }
         requires fits { found.ranges ≡ Yes → AreBoth self.now segment here.now next.now }
         ensures ranges { result.ranges ≡ both found.ranges (ranges_verdict (length next.now)
-            (length here.now) segment (layer_of here.now) (layer_of next.now)) }
+            (length here.now) segment (chains_by_rung here.now) (chains_by_rung next.now)) }
         ensures claims { result.ranges ≡ Yes → result.claims ≡ both found.claims
-            (names_verdict self.now (length next.now) (length here.now) segment (layer_of here.now)
-            (layer_of next.now)) }
+            (names_verdict self.now (length next.now) (length here.now) segment (chains_by_rung here.now)
+            (chains_by_rung next.now)) }
     {
         let ranges = both(
             found.ranges,
@@ -294,8 +294,8 @@ impl<'a> Checker<'a> {
         requires form { IsLayer 0 last.now }
         requires fits { found.ranges ≡ Yes → MayEnd self.now segment last.now plan.now }
         ensures { result ≡ both (both found.ranges (ranges_verdict 0 (length last.now) segment
-            (layer_of last.now) (layer_of []))) (both found.claims
-            (both (ends_verdict self.now bound (length last.now) segment (layer_of last.now))
+            (chains_by_rung last.now) (chains_by_rung []))) (both found.claims
+            (both (ends_verdict self.now bound (length last.now) segment (chains_by_rung last.now))
             (score_verdict self.now plan.now score))) }
     {
         let ranges = both(found.ranges, verdict_by(ranges_verdict(segment, last, &[])));

@@ -3,7 +3,7 @@
 ghost use Rattle.std.specs.Prelude.{◌≡◌, ◌*◌, ◌<◌, ◌≤◌, length};
 ghost use Rattle.labels.specs.Parts.{chain_parts};
 ghost use Rattle.certificate_check.specs.Scheme.{both, first_no, tested, verdict_by};
-ghost use Rattle.certificate_check.specs.Clauses.{count_of, is_near, label_of, layer_of, name_of, name_ranges, plan_verdict, range_verdict, ranges_verdict, starts_verdict};
+ghost use Rattle.certificate_check.specs.Clauses.{count_of, is_near, label_of, chains_by_rung, name_of, name_ranges, plan_verdict, range_verdict, ranges_verdict, starts_verdict};
 ghost use Rattle.certificate_check.specs.Layers.{IsLayer};
 
 use lab_model::Label;
@@ -119,7 +119,7 @@ pub(crate) fn plan_verdict(rungs: u8, plan: &[u8]) -> Outcome
 pub(crate) fn starts_verdict(starts: &[u32], first: &[Chain]) -> Outcome
     requires rungs { length starts.now ≤ 16 }
     requires chains { length first.now ≡ length starts.now }
-    ensures { verdict_by result ≡ starts_verdict (length starts.now) starts.now (layer_of first.now) }
+    ensures { verdict_by result ≡ starts_verdict (length starts.now) starts.now (chains_by_rung first.now) }
 {
     for (rung, start) in starts.iter().enumerate() {
         let inside = (*start as usize) < count_of(&first[rung]);
@@ -136,7 +136,7 @@ fn name_ranges(segment: u16, rung: u8, chain: &Chain, next: &[Chain], place: usi
     requires names { length chain.now.names.items
         ≡ length chain.now.labels.items * length next.now }
     ensures { verdict_by result ≡ name_ranges (length next.now) segment rung (chain_parts chain.now)
-        (layer_of next.now) place }
+        (chains_by_rung next.now) place }
 {
     for (next_rung, next_chain) in next.iter().enumerate() {
         let inside = name_of(next.len(), chain, place, next_rung) < count_of(next_chain);
@@ -153,7 +153,7 @@ fn range_verdict(segment: u16, rung: u8, chain: &Chain, next: &[Chain], place: u
     requires names { length chain.now.names.items
         ≡ length chain.now.labels.items * length next.now }
     ensures { verdict_by result ≡ range_verdict (length next.now) segment rung (chain_parts chain.now)
-        (layer_of next.now) place }
+        (chains_by_rung next.now) place }
 {
     let near = is_near(label_of(chain, place));
     test(2, segment, rung, place as u32, near)?;
@@ -167,7 +167,7 @@ fn range_of_chain(segment: u16, rung: u8, chain: &Chain, next: &[Chain]) -> Outc
     requires names { length chain.now.names.items
         ≡ length chain.now.labels.items * length next.now }
     ensures { verdict_by result ≡ first_no (range_verdict (length next.now) segment rung
-        (chain_parts chain.now) (layer_of next.now)) (length chain.now.labels.items) }
+        (chain_parts chain.now) (chains_by_rung next.now)) (length chain.now.labels.items) }
 {
     for place in 0..count_of(chain) {
         range_verdict(segment, rung, chain, next, place)?;
@@ -180,7 +180,7 @@ pub(crate) fn ranges_verdict(segment: u16, here: &[Chain], next: &[Chain]) -> Ou
     requires form { IsLayer (length next.now) here.now }
     requires next { length next.now ≤ 16 }
     ensures { verdict_by result ≡ ranges_verdict (length next.now) (length here.now) segment
-        (layer_of here.now) (layer_of next.now) }
+        (chains_by_rung here.now) (chains_by_rung next.now) }
 {
     for (rung, chain) in here.iter().enumerate() {
         range_of_chain(segment, rung as u8, chain, next)?;

@@ -6,7 +6,7 @@ use Rattle.labels.specs.declared.plans.Chain.{Chain}
 use Rattle.lab_model.proofs.Refusals.{gives_error}
 use Rattle.player_core.specs.Scene.{IsTask, task_of}
 use Rattle.certificate_check.specs.Scheme.{both}
-use Rattle.certificate_check.specs.Clauses.{counts_verdict, ends_verdict, layer_of, names_verdict, plan_verdict, ranges_verdict, score_verdict, starts_held, starts_verdict}
+use Rattle.certificate_check.specs.Clauses.{counts_verdict, ends_verdict, chains_by_rung, names_verdict, plan_verdict, ranges_verdict, score_verdict, starts_held, starts_verdict}
 use Rattle.certificate_check.specs.Verdict.{bounded_verdict}
 use Rattle.certificate_check.proofs.ByLayer.{end_fits, fault_first, fault_said, first_read, head_read, more_fits, said_valid, stands_begun, stands_on, still_inside, verdict_said, yes_said}
 use Rattle.certificate_check.proofs.Scheme.{both_first}
@@ -63,8 +63,8 @@ loop-segment-init c =
     let starts = c.starts.ensures ∙ ap (λ x. x.starts) r.head in
     stands_begun g c.args.lines c.next_layer.new.lines head c.in_ok-here.here.chains.items c.found_first-found.result c.requires.begun c.in_ok-here.ensures
     (c.head_verdict-head.ensures ∙ rw (c.table.ensures, c.segments.ensures, c.rungs.ensures, c.plan.ensures) refl)
-    (c.found_first-found.ensures.ranges ∙ ap₂ (λ s x. both head (starts_verdict (length s) s (layer_of x))) starts c.deref.ensures.value)
-    (λ passed. c.found_first-found.ensures.claims passed ∙ ap₂ (λ s x. starts_held g (length s) s (layer_of x)) starts c.deref.ensures.value)
+    (c.found_first-found.ensures.ranges ∙ ap₂ (λ s x. both head (starts_verdict (length s) s (chains_by_rung x))) starts c.deref.ensures.value)
+    (λ passed. c.found_first-found.ensures.claims passed ∙ ap₂ (λ s x. starts_held g (length s) s (chains_by_rung x)) starts c.deref.ensures.value)
 
 pub returns-in_err-next-clause-verdict : goal.returns-in_err-next-clause-verdict
 returns-in_err-next-clause-verdict c = λ bytes is.
@@ -104,8 +104,8 @@ loop-segment-preserved c =
     let all = c.segments-last.ensures in
     let f = c.loop-segment.found in
     stands_on g c.args.lines c.loop-segment.lines c.next_layer-in-loop-segment.new.lines i c.loop-segment.here.chains.items c.in_ok-next.next.chains.items f c.found_more-found.result c.requires.begun (omega (arith, low, all)) c.loop-segment.invariant c.in_ok-next.ensures
-    (c.found_more-found.ensures.ranges ∙ ap₂ (λ x y. both f.ranges (ranges_verdict (length y) (length x) i (layer_of x) (layer_of y))) c.deref-in-loop-segment.ensures.value c.deref-in-loop-segment-2.ensures.value)
-    (λ passed. c.found_more-found.ensures.claims passed ∙ ap₂ (λ x y. both f.claims (names_verdict g (length y) (length x) i (layer_of x) (layer_of y))) c.deref-in-loop-segment.ensures.value c.deref-in-loop-segment-2.ensures.value)
+    (c.found_more-found.ensures.ranges ∙ ap₂ (λ x y. both f.ranges (ranges_verdict (length y) (length x) i (chains_by_rung x) (chains_by_rung y))) c.deref-in-loop-segment.ensures.value c.deref-in-loop-segment-2.ensures.value)
+    (λ passed. c.found_more-found.ensures.claims passed ∙ ap₂ (λ x y. both f.claims (names_verdict g (length y) (length x) i (chains_by_rung x) (chains_by_rung y))) c.deref-in-loop-segment.ensures.value c.deref-in-loop-segment-2.ensures.value)
 
 pub verdict-verdict-requires-clause-form : goal.verdict-verdict-requires-clause-form
 verdict-verdict-requires-clause-form c =
@@ -146,7 +146,7 @@ returns-clause-verdict c = λ bytes is.
     let here : c.segments-last.result - 1 ≡ c.loop-segment.segment = omega (arith, past, most) in
     let s = c.loop-segment.invariant in
     let f = c.loop-segment.found in
-    let body = λ (x : List Chain) (n : ℕ) (p : List ℕ) (z b : ℤ). both (both f.ranges (ranges_verdict 0 (length x) n (layer_of x) (layer_of []))) (both f.claims (both (ends_verdict c.new-checker.result b (length x) n (layer_of x)) (score_verdict c.new-checker.result p z))) in
+    let body = λ (x : List Chain) (n : ℕ) (p : List ℕ) (z b : ℤ). both (both f.ranges (ranges_verdict 0 (length x) n (chains_by_rung x) (chains_by_rung []))) (both f.claims (both (ends_verdict c.new-checker.result b (length x) n (chains_by_rung x)) (score_verdict c.new-checker.result p z))) in
     let score = c.score-score.result in
     let bound = c.args.bound in
     let fits : SFits w128 score = search rules in

@@ -1,7 +1,7 @@
 use Rattle.std.proofs.Common.{◌∙◌, sym, ap, ◌<◌, ◌≤◌, [], subst, to_z, of_z}
 use Rattle.lab_model.specs.declared.label.Label.{Label}
 use Rattle.labels.specs.Parts.{chain_parts}
-use Rattle.certificate_check.specs.Clauses.{count_of, end_verdict, layer_of, range_verdict}
+use Rattle.certificate_check.specs.Clauses.{count_of, end_verdict, chains_by_rung, range_verdict}
 use Rattle.std.proofs.lemmas.Int.{to_z-of_z}
 use Rattle.std.specs.Int.{w128}
 use Rattle.std.specs.Prelude.{int_le}
@@ -19,8 +19,8 @@ ends_below-low-requires c =
     let k = c.loop-place.place in
     let count = c.count_of-place-end.ensures in
     let low = c.loop-place-test.true in
-    let range = yes_at (range_verdict 0 c.args.segment c.args.rung (chain_parts c.args.chain.now) (layer_of [])) (count_of (chain_parts c.args.chain.now)) k c.requires.ranges (subst (λ n. k < n) count low) in
-    subst (λ (l : Label). l.p ≤ 1000000000000000) (sym c.label_of.ensures) (times_in 0 c.args.segment c.args.rung (chain_parts c.args.chain.now) (layer_of []) k range).1
+    let range = yes_at (range_verdict 0 c.args.segment c.args.rung (chain_parts c.args.chain.now) (chains_by_rung [])) (count_of (chain_parts c.args.chain.now)) k c.requires.ranges (subst (λ n. k < n) count low) in
+    subst (λ (l : Label). l.p ≤ 1000000000000000) (sym c.label_of.ensures) (times_in 0 c.args.segment c.args.rung (chain_parts c.args.chain.now) (chains_by_rung []) k range).1
 
 pub loop-place-preserved : goal.loop-place-preserved
 loop-place-preserved c =

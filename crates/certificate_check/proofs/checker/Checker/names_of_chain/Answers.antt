@@ -1,7 +1,7 @@
 use Rattle.std.proofs.Common.{◌∙◌, sym, ap, ◌<◌, length, subst}
 use Rattle.labels.specs.Parts.{chain_parts}
 use Rattle.certificate_check.specs.Scheme.{first_no}
-use Rattle.certificate_check.specs.Clauses.{count_of, layer_of, range_verdict}
+use Rattle.certificate_check.specs.Clauses.{count_of, chains_by_rung, range_verdict}
 use Rattle.certificate_check.proofs.Scheme.{first_fails, first_more, first_none, yes_at}
 use Rattle.certificate_check.proofs.checker.Checker.names_of_chain.Goals as goal
 
@@ -13,7 +13,7 @@ name_verdict-requires-clause-range c =
     let k = c.loop-place.place in
     let count = c.count_of-place-end.ensures in
     let low = c.loop-place-test.true in
-    yes_at (range_verdict (length c.args.next.now) c.args.segment c.args.rung (chain_parts c.args.chain.now) (layer_of c.args.next.now)) (count_of (chain_parts c.args.chain.now)) k c.requires.ranges (subst (λ n. k < n) count low)
+    yes_at (range_verdict (length c.args.next.now) c.args.segment c.args.rung (chain_parts c.args.chain.now) (chains_by_rung c.args.next.now)) (count_of (chain_parts c.args.chain.now)) k c.requires.ranges (subst (λ n. k < n) count low)
 
 pub loop-place-preserved : goal.loop-place-preserved
 loop-place-preserved c =

@@ -1,7 +1,7 @@
 use Rattle.std.proofs.Common.{◌∙◌, sym, ap, ◌<◌, ap₂, get_or, subst, arith}
 use Rattle.labels.specs.Labels.{dominates}
 use Rattle.certificate_check.specs.Scheme.{tested}
-use Rattle.certificate_check.specs.Clauses.{count_of, label_of, layer_of}
+use Rattle.certificate_check.specs.Clauses.{count_of, label_of, chains_by_rung}
 use Rattle.certificate_check.proofs.Layers.{layer_read}
 use Rattle.certificate_check.proofs.InRange.{start_in_range}
 use Rattle.certificate_check.proofs.Scheme.{first_fails, first_more, first_none}
@@ -15,7 +15,7 @@ label_of-named-requires c =
     let few = c.requires.chains in
     let q = c.loop-rung.rung in
     let chain = layer_read c.args.first.now q c.index-first-rung.result (omega arith) c.index-first-rung.is in
-    subst (λ x. get_or c.args.starts.now q 0 < count_of x) (sym chain) (start_in_range _ c.args.starts.now (layer_of c.args.first.now) c.requires.inside q c.loop-rung-test.true)
+    subst (λ x. get_or c.args.starts.now q 0 < count_of x) (sym chain) (start_in_range _ c.args.starts.now (chains_by_rung c.args.first.now) c.requires.inside q c.loop-rung-test.true)
 
 pub loop-rung-preserved : goal.loop-rung-preserved
 loop-rung-preserved c =
