@@ -17,15 +17,15 @@ use Rattle.labels.specs.declared.verdict.Verdict.TheVariants.{Yes}
 use Rattle.certificate_text.specs.Fields.{◌>>=◌}
 use Rattle.labels.specs.Form.{AreChains, IsChain, IsHead, label_count, names_per}
 use Rattle.certificate_text.specs.Reading.{Place, certificate_of}
-use Rattle.certificate_text.specs.Walk.{IsBegun, Walk, begun, layer_of, layer_parts}
+use Rattle.certificate_text.specs.Walk.{IsBegun, Walk, begun, layer_of, layer_parts, prepended, rest_of}
 use Rattle.certificate_text.proofs.CertificateLaws.{chains_take}
 use Rattle.certificate_text.proofs.FieldLaws.{bind_ok}
 use Rattle.certificate_text.proofs.Loops.{ok_is}
 use Rattle.certificate_text.proofs.HeadLaws.{certificate_takes, head_takes}
-use Rattle.certificate_text.proofs.WalkLaws.{begins, begun_rest, layer_ends, layer_reads, prepended, rest_more, rest_of, rest_stopped, whole_of}
+use Rattle.certificate_text.proofs.WalkLaws.{begins, begun_rest, layer_ends, layer_reads, rest_more, rest_stopped, whole_of}
 use Rattle.certificate_check.specs.declared.checker.Found.{Found}
 use Rattle.certificate_check.specs.Scheme.{both}
-use Rattle.certificate_check.specs.Clauses.{counts_verdict, ends_verdict, layer_of as chains_by_rung, names_verdict, plan_verdict, ranges_verdict, score_verdict, starts_held, starts_verdict}
+use Rattle.certificate_check.specs.Clauses.{counts_verdict, ends_verdict, chains_by_rung, names_verdict, plan_verdict, ranges_verdict, score_verdict, starts_held, starts_verdict}
 use Rattle.certificate_check.specs.Layers.{AreBoth, IsLayer, IsLayerOf, MayEnd}
 use Rattle.certificate_check.specs.Verdict.{SaysValid, bounded_verdict, lines_verdict, verdict_of}
 use Rattle.certificate_check.proofs.Progress.{StandsFor, are_both, may_end, stands_first, stands_last, stands_more}

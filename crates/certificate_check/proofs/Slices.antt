@@ -8,7 +8,7 @@ use Rattle.labels.specs.Valid.{no_chain}
 use Rattle.certificate_text.specs.declared.certificate.Certificate.{Certificate}
 use Rattle.labels.specs.Form.{AreChains, IsCertificate, IsChain, label_count, names_per}
 use Rattle.certificate_text.specs.Form.{certificate_parts}
-use Rattle.certificate_check.specs.Clauses.{count_of, layer_of}
+use Rattle.certificate_check.specs.Clauses.{count_of, chains_by_rung}
 use Rattle.certificate_check.specs.Layers.{IsLayer, IsLayerOf}
 
 -- ---- chains in a row
@@ -28,7 +28,7 @@ count_at (c ∷ cs) (suc j) low = let rest = count_at cs j (omega (arith, low)) 
 
 -- ---- a slice of the code's chains
 
-slice_at : (chains : List Chain) (from rungs q : ℕ) → q < rungs → layer_of (take rungs (drop from chains)) q ≡ get_or (map chain_parts chains) (from + q) no_chain
+slice_at : (chains : List Chain) (from rungs q : ℕ) → q < rungs → chains_by_rung (take rungs (drop from chains)) q ≡ get_or (map chain_parts chains) (from + q) no_chain
 slice_at chains from rungs q low =
     ap (λ xs. get_or xs q no_chain) (sym (take-map chain_parts rungs (drop from chains)) ∙ ap (take rungs) (sym (drop-map chain_parts from chains)))
     ∙ get_or-take rungs (drop from (map chain_parts chains)) q no_chain low ∙ get_or-drop from (map chain_parts chains) q no_chain

@@ -18,8 +18,8 @@ abbrev pub Layer : Type 0
 Layer = ℕ → ChainParts
 
 -- the chains of a segment as the code holds them
-abbrev pub layer_of : List Chain → Layer
-layer_of chains q = slice_index_or (map chain_parts chains) q no_chain
+abbrev pub chains_by_rung : List Chain → Layer
+chains_by_rung chains q = slice_index_or (map chain_parts chains) q no_chain
 
 -- the number of labels of a chain
 abbrev pub count_of : ChainParts → ℕ

@@ -24,8 +24,8 @@ abbrev pub bad_line : ℕ → Refusal
 bad_line row = refusal kind.CertLine key.Line row 0
 
 -- the value, where the test passes
-abbrev pub passed : {X : Type 0} → ℕ → Bool → X → Result X Refusal
-passed row test x = if test then Ok x else Err (bad_line row)
+abbrev pub value_if : {X : Type 0} → ℕ → Bool → X → Result X Refusal
+value_if row test x = if test then Ok x else Err (bad_line row)
 
 -- the value, where there is one
 abbrev pub some_at : {X : Type 0} → ℕ → Option X → Result X Refusal
@@ -45,7 +45,7 @@ field_at row stop bytes = parted row bytes (position (λ b. b == stop) bytes)
 unfoldable pub word_at : ℕ → Text → ℕ → Text → Result Text Refusal
 word_at row word stop bytes = do
   field ← field_at row stop bytes
-  passed row (bytes_eq field.0 word) field.1
+  value_if row (bytes_eq field.0 word) field.1
 
 -- a number of at most so many digits
 unfoldable pub number_at : ℕ → ℕ → ℕ → Text → Read ℕ
@@ -58,19 +58,19 @@ number_at row digits stop bytes = do
 unfoldable pub known_at : ℕ → ℕ → ℕ → Text → Result Text Refusal
 known_at row known stop bytes = do
   n ← number_at row place_digits stop bytes
-  passed row (n.0 == known) n.1
+  value_if row (n.0 == known) n.1
 
 -- a number from the first to the second
 unfoldable pub within_at : ℕ → ℕ → ℕ → ℕ → Text → Read ℕ
 within_at row low high stop bytes = do
   n ← number_at row place_digits stop bytes
-  passed row (nat_le low n.0 && nat_le n.0 high) n
+  value_if row (nat_le low n.0 && nat_le n.0 high) n
 
 -- the number below 0 that a text spells behind its `-`
 abbrev pub negative : ℕ → ℕ → Text → Result ℤ Refusal
 negative row digits text = do
   n ← some_at row (numeral digits text)
-  passed row (nat_le 1 n) (pos 0 -ℤ pos n)
+  value_if row (nat_le 1 n) (pos 0 -ℤ pos n)
 
 -- the number that a text spells, with a sign
 abbrev pub unsigned_of : ℕ → ℕ → Text → Result ℤ Refusal

@@ -5,4 +5,5 @@ pub mod Planned
 pub mod Climbing
 pub mod Blocks
 pub mod Thinned
+pub mod Planning
 pub mod Brief

@@ -1,11 +1,36 @@
-use Rattle.std.proofs.Common.{◌≡◌, ◌∙◌, ℤ, sym, ap, subst, to_z, of_z, rules}
+use Rattle.std.proofs.Common.{◌≡◌, ◌∙◌, ℤ, ap, subst, to_z, of_z, rules}
 use mir.Val.{SFits}
 use Rattle.std.specs.Int.{w128}
+use Rattle.std.specs.Result.{IfOk}
 use Rattle.std.proofs.lemmas.Int.{to_z-of_z}
 use Rattle.lab_model.specs.Reading.{Gives}
-use Rattle.certificate_check.specs.Verdict.{bounded_verdict}
+use Rattle.player_core.specs.Available.{all_ahead}
+use Rattle.player_core.specs.Scene.{task_of}
+use Rattle.labels.specs.Best.{Settles}
+use Rattle.labels.specs.declared.verdict.Verdict.TheVariants.{Yes}
+use Rattle.certificate_check.specs.Verdict.{SaysValid, bounded_verdict}
 use Rattle.certificate_check.proofs.ByLayer.{own_verdict}
 use Rattle.certificate_check.proofs.by_layer.check_lines.Goals as goal
+use Rattle.certificate_check.proofs.by_layer.check_lines.Goals.{After-check_lines_from}
 
-pub returns : goal.returns
-returns c = ?
+-- the bound that is handed on is the score of the lines
+own_bound : (c : After-check_lines_from) → to_z w128 (of_z w128 c.score-score.result) ≡ c.args.lines.head.score
+own_bound c =
+    let score = c.score-score.result in
+    let fits : SFits w128 score = search rules in
+    to_z-of_z w128 score fits ∙ c.score-score.ensures
+
+pub returns-clause-verdict : goal.returns-clause-verdict
+returns-clause-verdict c = λ bytes is.
+    let g = task_of c.args.m.now c.args.clock.now c.args.set.now all_ahead in
+    subst (Gives (λ v. v) c.check_lines_from.result) (ap (bounded_verdict g bytes) (own_bound c) ∙ own_verdict g bytes c.args.lines is) (c.check_lines_from.ensures.verdict bytes is)
+
+pub returns-clause-valid : goal.returns-clause-valid
+returns-clause-valid c = λ bytes is.
+    let g = task_of c.args.m.now c.args.clock.now c.args.set.now all_ahead in
+    subst (λ b. IfOk c.check_lines_from.result (SaysValid g bytes b)) (own_bound c) (c.check_lines_from.ensures.valid bytes is)
+
+pub returns-clause-sound : goal.returns-clause-sound
+returns-clause-sound c =
+    let g = task_of c.args.m.now c.args.clock.now c.args.set.now all_ahead in
+    subst (λ b. IfOk c.check_lines_from.result (λ v. v ≡ Yes → Settles g c.args.lines.head.plan c.args.lines.head.score b)) (own_bound c) c.check_lines_from.ensures.sound

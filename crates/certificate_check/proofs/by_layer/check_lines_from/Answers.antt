@@ -6,7 +6,7 @@ use Rattle.labels.specs.declared.plans.Chain.{Chain}
 use Rattle.lab_model.proofs.Refusals.{gives_error}
 use Rattle.player_core.specs.Scene.{IsTask, task_of}
 use Rattle.certificate_check.specs.Scheme.{both}
-use Rattle.certificate_check.specs.Clauses.{counts_verdict, ends_verdict, layer_of, names_verdict, plan_verdict, ranges_verdict, score_verdict, starts_held, starts_verdict}
+use Rattle.certificate_check.specs.Clauses.{counts_verdict, ends_verdict, chains_by_rung, names_verdict, plan_verdict, ranges_verdict, score_verdict, starts_held, starts_verdict}
 use Rattle.certificate_check.specs.Verdict.{bounded_verdict}
 use Rattle.certificate_check.proofs.ByLayer.{end_fits, fault_first, fault_said, first_read, head_read, more_fits, said_valid, stands_begun, stands_on, still_inside, verdict_said, yes_said}
 use Rattle.certificate_check.proofs.Scheme.{both_first}
@@ -63,8 +63,8 @@ loop-segment-init c =
     let starts = c.starts.ensures ∙ ap (λ x. x.starts) r.head in
     stands_begun g c.args.lines c.next_layer.new.lines head c.in_ok-here.here.chains.items c.found_first-found.result c.requires.begun c.in_ok-here.ensures
     (c.head_verdict-head.ensures ∙ rw (c.table.ensures, c.segments.ensures, c.rungs.ensures, c.plan.ensures) refl)
-    (c.found_first-found.ensures.ranges ∙ ap₂ (λ s x. both head (starts_verdict (length s) s (layer_of x))) starts c.deref.ensures.value)
-    (λ passed. c.found_first-found.ensures.claims passed ∙ ap₂ (λ s x. starts_held g (length s) s (layer_of x)) starts c.deref.ensures.value)
+    (c.found_first-found.ensures.ranges ∙ ap₂ (λ s x. both head (starts_verdict (length s) s (chains_by_rung x))) starts c.deref.ensures.value)
+    (λ passed. c.found_first-found.ensures.claims passed ∙ ap₂ (λ s x. starts_held g (length s) s (chains_by_rung x)) starts c.deref.ensures.value)
 
 pub returns-in_err-next-clause-verdict : goal.returns-in_err-next-clause-verdict
 returns-in_err-next-clause-verdict c = λ bytes is.
@@ -104,8 +104,8 @@ loop-segment-preserved c =
     let all = c.segments-last.ensures in
     let f = c.loop-segment.found in
     stands_on g c.args.lines c.loop-segment.lines c.next_layer-in-loop-segment.new.lines i c.loop-segment.here.chains.items c.in_ok-next.next.chains.items f c.found_more-found.result c.requires.begun (omega (arith, low, all)) c.loop-segment.invariant c.in_ok-next.ensures
-    (c.found_more-found.ensures.ranges ∙ ap₂ (λ x y. both f.ranges (ranges_verdict (length y) (length x) i (layer_of x) (layer_of y))) c.deref-in-loop-segment.ensures.value c.deref-in-loop-segment-2.ensures.value)
-    (λ passed. c.found_more-found.ensures.claims passed ∙ ap₂ (λ x y. both f.claims (names_verdict g (length y) (length x) i (layer_of x) (layer_of y))) c.deref-in-loop-segment.ensures.value c.deref-in-loop-segment-2.ensures.value)
+    (c.found_more-found.ensures.ranges ∙ ap₂ (λ x y. both f.ranges (ranges_verdict (length y) (length x) i (chains_by_rung x) (chains_by_rung y))) c.deref-in-loop-segment.ensures.value c.deref-in-loop-segment-2.ensures.value)
+    (λ passed. c.found_more-found.ensures.claims passed ∙ ap₂ (λ x y. both f.claims (names_verdict g (length y) (length x) i (chains_by_rung x) (chains_by_rung y))) c.deref-in-loop-segment.ensures.value c.deref-in-loop-segment-2.ensures.value)
 
 pub verdict-verdict-requires-clause-form : goal.verdict-verdict-requires-clause-form
 verdict-verdict-requires-clause-form c =
@@ -135,7 +135,7 @@ returns-in_err-next_layer-clause-verdict c = λ bytes is.
     let s = c.loop-segment.invariant in
     gives_error _ c.from_residual-in_err-next_layer.result c.in_err-next_layer.field-0.0 _ c.from_residual-in_err-next_layer.ensures.1
     (fault_said _ bytes c.args.bound c.args.lines c.loop-segment.lines _ c.in_err-next_layer.field-0.0 is
-    (still_inside c.new-checker.result c.args.lines c.loop-segment.lines c.loop-segment.segment c.loop-segment.here.chains.items c.loop-segment.found (omega (arith, past, most, all, some)) s) s.rest c.in_err-next_layer.ensures.0)
+    (still_inside c.new-checker.result c.args.lines c.loop-segment.lines c.loop-segment.segment c.loop-segment.here.chains.items c.loop-segment.found (omega (arith, past, most, all, some)) s) s.rest c.in_err-next_layer.ensures.steps.0)
 
 pub returns-clause-verdict : goal.returns-clause-verdict
 returns-clause-verdict c = λ bytes is.
@@ -146,12 +146,12 @@ returns-clause-verdict c = λ bytes is.
     let here : c.segments-last.result - 1 ≡ c.loop-segment.segment = omega (arith, past, most) in
     let s = c.loop-segment.invariant in
     let f = c.loop-segment.found in
-    let body = λ (x : List Chain) (n : ℕ) (p : List ℕ) (z b : ℤ). both (both f.ranges (ranges_verdict 0 (length x) n (layer_of x) (layer_of []))) (both f.claims (both (ends_verdict c.new-checker.result b (length x) n (layer_of x)) (score_verdict c.new-checker.result p z))) in
+    let body = λ (x : List Chain) (n : ℕ) (p : List ℕ) (z b : ℤ). both (both f.ranges (ranges_verdict 0 (length x) n (chains_by_rung x) (chains_by_rung []))) (both f.claims (both (ends_verdict c.new-checker.result b (length x) n (chains_by_rung x)) (score_verdict c.new-checker.result p z))) in
     let score = c.score-score.result in
     let bound = c.args.bound in
     let fits : SFits w128 score = search rules in
     subst (λ g. bounded_verdict g bytes bound ≡ Ok c.verdict-verdict.result) c.new-checker.ensures.value
-    (verdict_said c.new-checker.result bytes bound c.args.lines c.loop-segment.lines c.next_layer-2.new.self c.loop-segment.segment c.loop-segment.here.chains.items c.loop-segment.found c.in_ok-next_layer.field-0 c.verdict-verdict.result is (omega (arith, past, most, all, some)) s c.in_ok-next_layer.ensures
+    (verdict_said c.new-checker.result bytes bound c.args.lines c.loop-segment.lines c.next_layer-2.new.self c.loop-segment.segment c.loop-segment.here.chains.items c.loop-segment.found c.in_ok-next_layer.field-0 c.verdict-verdict.result is (omega (arith, past, most, all, some)) s c.in_ok-next_layer.ensures.steps
     (c.verdict-verdict.ensures
     ∙ ap₂ (body c.deref-2.result.now (c.segments-last.result - 1) c.plan-2.result.now) (to_z-of_z w128 score fits) (to_z-of_z w128 bound c.ranges.bound)
     ∙ ap₂ (λ x n. body x n c.plan-2.result.now score bound) c.deref-2.ensures.value here

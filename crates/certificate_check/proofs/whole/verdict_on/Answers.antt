@@ -4,7 +4,7 @@ use Rattle.std.specs.Int.{w128}
 use Rattle.std.proofs.lemmas.Int.{to_z-of_z}
 use Rattle.certificate_text.specs.Form.{certificate_parts}
 use Rattle.certificate_check.specs.Scheme.{both}
-use Rattle.certificate_check.specs.Clauses.{counts_verdict, ends_verdict, layer_of, plan_verdict, ranges_verdict, score_verdict, starts_held, starts_verdict}
+use Rattle.certificate_check.specs.Clauses.{counts_verdict, ends_verdict, chains_by_rung, plan_verdict, ranges_verdict, score_verdict, starts_held, starts_verdict}
 use Rattle.certificate_check.specs.Layers.{IsLayer, MayEnd}
 use Rattle.certificate_check.proofs.Scheme.{both_first}
 use Rattle.certificate_check.proofs.Progress.{StandsFor, are_both, may_end, stands_first, stands_last, stands_more}
@@ -29,8 +29,8 @@ loop-segment-init c =
     let parts = certificate_parts c.args.cert.now in
     stands_first g parts c.head_verdict-head.result c.layer.result.now c.found_first-found.result c.requires.head.starts.0 c.layer.ensures.own
     (c.head_verdict-head.ensures ∙ ap (λ p. both (counts_verdict g parts.table parts.segments parts.rungs) (plan_verdict parts.segments parts.rungs p)) c.deref.ensures.value)
-    (c.found_first-found.ensures.ranges ∙ ap (λ s. both c.head_verdict-head.result (starts_verdict (length s) s (layer_of c.layer.result.now))) c.deref-2.ensures.value)
-    (λ passed. c.found_first-found.ensures.claims passed ∙ ap (λ s. starts_held g (length s) s (layer_of c.layer.result.now)) c.deref-2.ensures.value)
+    (c.found_first-found.ensures.ranges ∙ ap (λ s. both c.head_verdict-head.result (starts_verdict (length s) s (chains_by_rung c.layer.result.now))) c.deref-2.ensures.value)
+    (λ passed. c.found_first-found.ensures.claims passed ∙ ap (λ s. starts_held g (length s) s (chains_by_rung c.layer.result.now)) c.deref-2.ensures.value)
 
 pub found_more-found-requires : goal.found_more-found-requires
 found_more-found-requires c =
@@ -89,5 +89,5 @@ returns c =
     let n = parts.segments - 1 in
     stands_last g parts c.args.bound n last_layer found c.verdict.result end c.layer-2.ensures.own stands
     (c.verdict.ensures
-    ∙ ap (λ b. both (both found.ranges (ranges_verdict 0 (length last_layer) n (layer_of last_layer) (layer_of []))) (both found.claims (both (ends_verdict g b (length last_layer) n (layer_of last_layer)) (score_verdict g c.deref-3.result.now (to_z w128 (of_z w128 value)))))) bound
-    ∙ ap₂ (λ p z. both (both found.ranges (ranges_verdict 0 (length last_layer) n (layer_of last_layer) (layer_of []))) (both found.claims (both (ends_verdict g c.args.bound (length last_layer) n (layer_of last_layer)) (score_verdict g p z)))) c.deref-3.ensures.value (to_z-of_z w128 value fits))
+    ∙ ap (λ b. both (both found.ranges (ranges_verdict 0 (length last_layer) n (chains_by_rung last_layer) (chains_by_rung []))) (both found.claims (both (ends_verdict g b (length last_layer) n (chains_by_rung last_layer)) (score_verdict g c.deref-3.result.now (to_z w128 (of_z w128 value)))))) bound
+    ∙ ap₂ (λ p z. both (both found.ranges (ranges_verdict 0 (length last_layer) n (chains_by_rung last_layer) (chains_by_rung []))) (both found.claims (both (ends_verdict g c.args.bound (length last_layer) n (chains_by_rung last_layer)) (score_verdict g p z)))) c.deref-3.ensures.value (to_z-of_z w128 value fits))

@@ -6,7 +6,7 @@ use Rattle.std.proofs.lemmas.List.Sorted.{answers_always}
 use Rattle.labels.specs.Frontier.{undominated}
 use Rattle.frontier_planner.specs.Sweep.{sweep_cmp}
 use Rattle.frontier_planner.proofs.Sweep.{sweep_ranks, undominated_moved}
-use Rattle.frontier_planner.proofs.grow.undominated.Goals as goal
+use Rattle.frontier_planner.proofs.grow.undominated_labels.Goals as goal
 
 pub sweep-requires : goal.sweep-requires
 sweep-requires c =
