@@ -80,12 +80,12 @@ fn a_batch_that_fills(rt: HostRuntime) -> Result<(), Fail> {
     let mut out = SureSink::new(rt.alloc());
     let mut plain = SureSink::new(rt.alloc());
     let mut batch = Batch::new();
-    for n in 0..1000i64 {
-        batch.put_number(&mut out, -n)?;
+    for n in -500i64..1500 {
+        batch.put_number(&mut out, n)?;
         batch.put_text(&mut out, " ")?;
         put_pieces(
             &mut plain,
-            &[Piece::Number(-i128::from(n)), Piece::Word(" ")],
+            &[Piece::Number(i128::from(n)), Piece::Word(" ")],
         )?;
     }
     let long = "x".repeat(rt.alloc(), 5000)?;

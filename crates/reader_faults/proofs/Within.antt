@@ -6,9 +6,10 @@ use Rattle.std.proofs.lemmas.Bool.Decides.{nat_tests}
 use Rattle.std.proofs.lemmas.List.{length-take, take_all}
 use Rattle.std.proofs.lemmas.List.Sums.{take_while-cons}
 use Rattle.csv_records.specs.Table.{Fields, Table, all_records, even_rows, has_width, table_from, table_of, table_within, uneven_row}
-use Rattle.csv_records.specs.Each.{◌>>=◌, each_after}
+use Rattle.lab_model.specs.Steps.{◌>>=◌}
+use Rattle.reader_faults.specs.Each.{each_after}
 use Rattle.csv_records.proofs.Rows.{tabled}
-use Rattle.csv_records.proofs.Each.{EndsAt, FailsAlike, each_past}
+use Rattle.reader_faults.proofs.Each.{EndsAt, FailsAlike, each_past}
 
 take_while-take : (p : Fields → Bool) (n : ℕ) (rs : List Fields) → take_while p (take n rs) ≡ take n (take_while p rs)
 take_while-take p zero rs = refl
