@@ -1,4 +1,4 @@
-use Rattle.std.proofs.Common.{◌≡◌, ◌+◌, ◌-◌, ◌∙◌, ap, ap₂, length, subst, sym, arith}
+use Rattle.std.proofs.Common.{◌≡◌, ◌+◌, ◌-◌, ◌∙◌, ap₂, length, subst, sym, arith}
 use Rattle.network_clock.specs.Flow.{parted_trace}
 use Rattle.network_clock.specs.Shared.{AreLanes, shared}
 use Rattle.network_clock.proofs.Parted.{lane_paced, lanes_more, lanes_none}

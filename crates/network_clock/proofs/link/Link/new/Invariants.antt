@@ -1,4 +1,4 @@
-use Rattle.std.proofs.Common.{◌≡◌, ◌+◌, ◌-◌, ◌≤◌, length}
+use Rattle.std.proofs.Common.{◌-◌, ◌≤◌}
 use Rattle.network_clock.specs.Shared.{AreLanes}
 use Rattle.network_clock.proofs.link.Link.new.Given as goal
 
