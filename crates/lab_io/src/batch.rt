@@ -1,6 +1,6 @@
 //! Pieces of text that wait until many of them go out as one.
 ghost use Rattle.std.specs.Prelude.{◌≡◌, [], IsOk};
-ghost use Rattle.std.specs.Fmt.{signed_decimal};
+ghost use Rattle.std.specs.Fmt.{decimal, signed_decimal};
 ghost use Rattle.lab_io.specs.Batch.{Gathers};
 ghost use Rattle.lab_io.specs.Sink.{Puts};
 
@@ -72,6 +72,14 @@ impl Batch {
     pub fn put_number<O: Sink>(&mut self, out: &mut O, n: i64) -> Result<(), PutErr>
         ensures { Gathers (O.seen out.old) self.old (signed_decimal n)
             (O.seen out.new) self.new result }
+    {
+        let mut digits = Buffer::new();
+        self.put_bytes(out, digits.format(n).as_bytes())
+    }
+
+    /// Puts the decimal digits of a count.
+    pub fn put_count<O: Sink>(&mut self, out: &mut O, n: u64) -> Result<(), PutErr>
+        ensures { Gathers (O.seen out.old) self.old (decimal n) (O.seen out.new) self.new result }
     {
         let mut digits = Buffer::new();
         self.put_bytes(out, digits.format(n).as_bytes())

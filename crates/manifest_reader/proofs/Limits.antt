@@ -52,7 +52,7 @@ bitrates_of-ladder d xs h =
       bitrates = each_all (IsWithin 1 10000000) bitrate_in None 1 ds.0 xs bitrate_in-within ds.2;
     }
 
-size_in-within : (row column : ℕ) (d : Data) (n : ℕ) → size_in row column d ≡ Ok n → IsWithin 1 most_segments00000 n
+size_in-within : (row column : ℕ) (d : Data) (n : ℕ) → size_in row column d ≡ Ok n → IsWithin 1 200000000 n
 size_in-within row column d n h = number-within 1 200000000 d n (value_at-ok key.SegmentSizes row column (number_of 1 200000000 d) n h)
 
 row_of_width-len : (rungs row : ℕ) (ds found : List Data) → row_of_width rungs row ds ≡ Ok found → length found ≡ rungs
@@ -65,7 +65,7 @@ row_in-row rungs row d xs h =
     let ds = then_ok (row_members rungs row d) (λ ds. each_from (size_in row) 1 ds) xs h in
     let members = then_ok (value_at key.SegmentSizes row 0 (list_of d)) (row_of_width rungs row) ds.0 ds.1 in (
       each_count (λ (_ : Option ℕ). size_in row) None 1 ds.0 xs ds.2 ∙ row_of_width-len rungs row members.0 ds.0 members.2,
-      each_all (IsWithin 1 most_segments00000) (λ (_ : Option ℕ). size_in row) None 1 ds.0 xs (λ (_ : Option ℕ). size_in-within row) ds.2,
+      each_all (IsWithin 1 200000000) (λ (_ : Option ℕ). size_in row) None 1 ds.0 xs (λ (_ : Option ℕ). size_in-within row) ds.2,
     )
 
 -- what is known of the sizes
@@ -73,7 +73,7 @@ pub record IsTable (rungs : ℕ) (xs : List ℕ) : Type 0 where
   pub rows : ℕ
   pub count : IsWithin 1 most_segments rows
   pub whole : length xs ≡ rows * rungs
-  pub sizes : All (IsWithin 1 most_segments00000) xs
+  pub sizes : All (IsWithin 1 200000000) xs
 
 -- sizes that were read are one to 2000 whole rows, and keep their limits
 pub sizes_of-table : (rungs : ℕ) (d : Data) (xs : List ℕ) → sizes_of rungs d ≡ Ok xs → IsTable rungs xs
@@ -85,7 +85,7 @@ sizes_of-table rungs d xs h =
       rows = length rows.0;
       count = subst (IsWithin 1 most_segments) (sym (each_count (λ (_ : Option (List ℕ)). row_in rungs) None 1 ds.0 rows.0 rows.1)) (members_at-within key.SegmentSizes (codes "segment_sizes_bits") most_segments d ds.0 ds.1);
       whole = sym (ap length rows.2) ∙ length-concat rungs rows.0 are_rows;
-      sizes = subst (All (IsWithin 1 most_segments00000)) rows.2 (All-concat rungs rows.0 are_rows);
+      sizes = subst (All (IsWithin 1 200000000)) rows.2 (All-concat rungs rows.0 are_rows);
     }
 
 -- parts that were read are a film

@@ -61,16 +61,35 @@ full_reads {A = A} {B = B} {E = E} header is_header y f most finish heads past s
     both true (e, cut, all) = rw (cut, all) refl
     both false same = refl
 
+-- where the records up to the one behind a row say what all say, the first of a text say what all of them do
+said_within : {B E : Type 0} (says : Table → Result B E) (most : ℕ) → ((rows : List Fields) (a b : Option ℕ) → most + 1 ≤ length rows → says (tabled (take (most + 1) rows) a) ≡ says (tabled rows b))
+    → (bytes : List ℕ) → says (table_within (most + 1) bytes) ≡ says (table_of bytes)
+unfolding table_within table_of
+said_within says most full bytes =
+    let rs : List Fields = all_records bytes in
+    ⊎_elim
+    (λ (few : length (even_rows rs) < most + 1). ap says (same_table (most + 1) rs few))
+    (λ (many : most + 1 ≤ length (even_rows rs)).
+    ap (λ (rows : List Fields). says (tabled rows (uneven_row (take (most + 1) rs)))) (even_rows-take (most + 1) rs)
+    ∙ full (even_rows rs) (uneven_row (take (most + 1) rs)) (uneven_row rs) many)
+    (cases_lt (length (even_rows rs)) (most + 1))
+
 -- where no record behind a row is read, the records up to the one behind it are read as all are
 pub reads_within : {A B E : Type 0} (header : List Fields → Result (List Fields) E) (is_header : Fields → Bool) (y : E) (f : Option A → ℕ → Fields → Result A E) (most : ℕ) (finish : Option ℕ → List A → Result B E)
     → Heads is_header y header → EndsAt most f → 1 ≤ most → (bytes : List ℕ)
     → reads header f finish (table_within (most + 1) bytes) ≡ reads header f finish (table_of bytes)
-unfolding table_within table_of
-reads_within header is_header y f most finish heads past some bytes =
-    let rs : List Fields = all_records bytes in
-    ⊎_elim
-    (λ (few : length (even_rows rs) < most + 1). ap (reads header f finish) (same_table (most + 1) rs few))
-    (λ (many : most + 1 ≤ length (even_rows rs)).
-    ap (λ (rows : List Fields). reads header f finish (tabled rows (uneven_row (take (most + 1) rs)))) (even_rows-take (most + 1) rs)
-    ∙ full_reads header is_header y f most finish heads past some (even_rows rs) (uneven_row (take (most + 1) rs)) (uneven_row rs) many)
-    (cases_lt (length (even_rows rs)) (most + 1))
+reads_within header is_header y f most finish heads past some bytes = said_within (reads header f finish) most (full_reads header is_header y f most finish heads past some) bytes
+
+-- what a table without a header says: its records, one after the other, and then how it ends
+abbrev pub reads_plain : {A B E : Type 0} → (Option A → ℕ → Fields → Result A E) → (Option ℕ → List A → Result B E) → Table → Result B E
+reads_plain f finish t = each_after f None 1 t.rows >>= finish t.uneven
+
+full_plain : {A B E : Type 0} (f : Option A → ℕ → Fields → Result A E) (most : ℕ) (finish : Option ℕ → List A → Result B E)
+    → EndsAt most f → (rows : List Fields) (a b : Option ℕ) → most + 1 ≤ length rows
+    → reads_plain f finish (tabled (take (most + 1) rows) a) ≡ reads_plain f finish (tabled rows b)
+full_plain f most finish past rows a b le = let (e, cut, all) = each_past f most past (most + 1) None 1 rows (omega arith) (omega arith) le in rw (cut, all) refl
+
+-- the same of a table without a header
+pub plain_within : {A B E : Type 0} (f : Option A → ℕ → Fields → Result A E) (most : ℕ) (finish : Option ℕ → List A → Result B E)
+    → EndsAt most f → (bytes : List ℕ) → reads_plain f finish (table_within (most + 1) bytes) ≡ reads_plain f finish (table_of bytes)
+plain_within f most finish past bytes = said_within (reads_plain f finish) most (full_plain f most finish past) bytes
