@@ -150,7 +150,7 @@ score 28799
 ";
 
 #[rattlefmt::skip]
-static CASES: [Case; 31] = [
+static CASES: [Case; 13] = [
     Case {
         name: "steady link",
         words: STEADY,
@@ -205,6 +205,74 @@ static CASES: [Case; 31] = [
         out: Is(TINY_TEXT),
         err: "",
     },
+    Case {
+        name: "titled manifest",
+        words: STEADY,
+        file: ("m", r#"{"title": 1, "segment_duration_ms": 1000, "bitrates_kbps": [1000, 2000], "segment_sizes_bits": [[1000000, 2000000], [1000000, 2000000], [1000000, 2000000]]}"#),
+        files: &STEADY_FILES,
+        status: 0,
+        out: Is(STEADY_TEXT),
+        err: "",
+    },
+    Case {
+        name: "seek ahead",
+        words: SOUGHT,
+        file: ("s", "at_ms,to_segment\n1000,2\n"),
+        files: &STEADY_FILES,
+        status: 0,
+        out: Is(SOUGHT_TEXT),
+        err: "",
+    },
+    Case {
+        name: "seek after the end",
+        words: SOUGHT,
+        file: ("s", "at_ms,to_segment\n4000,0\n"),
+        files: &STEADY_FILES,
+        status: 0,
+        out: Is(STEADY_TEXT),
+        err: "",
+    },
+    Case {
+        name: "decimal bandwidth",
+        words: SPREAD,
+        file: ("c.csv", "duration_ms,bandwidth_kbps,latency_ms\n60000,1999.999,0\n"),
+        files: &STEADY_FILES,
+        status: 0,
+        out: Is(SPREAD_TEXT),
+        err: "",
+    },
+    Case {
+        name: "decimal bandwidth",
+        words: SPREAD,
+        file: ("c.csv", "duration_ms,bandwidth_kbps,latency_ms\n60000,2000.5,0\n"),
+        files: &STEADY_FILES,
+        status: 0,
+        out: Is(STEADY_TEXT),
+        err: "",
+    },
+    Case {
+        name: "csv trace",
+        words: SPREAD,
+        file: ("c.csv", "duration_ms,bandwidth_kbps,latency_ms\n60000,2000,0\n"),
+        files: &STEADY_FILES,
+        status: 0,
+        out: Is(STEADY_TEXT),
+        err: "",
+    },
+    Case {
+        name: "csv trace without its last line end",
+        words: SPREAD,
+        file: ("c.csv", "duration_ms,bandwidth_kbps,latency_ms\n60000,2000,0"),
+        files: &STEADY_FILES,
+        status: 0,
+        out: Is(STEADY_TEXT),
+        err: "",
+    },
+];
+
+// The manifest, the trace or a setting is refused.
+#[rattlefmt::skip]
+static REFUSED: [Case; 10] = [
     Case {
         name: "settings",
         words: "simulate --manifest m --trace t --rule fixed:1 --utilities 0,10 --buffer 999",
@@ -278,15 +346,6 @@ static CASES: [Case; 31] = [
         err: "abrlab: manifest file: order at bitrates_kbps row 0 column 2\n",
     },
     Case {
-        name: "titled manifest",
-        words: STEADY,
-        file: ("m", r#"{"title": 1, "segment_duration_ms": 1000, "bitrates_kbps": [1000, 2000], "segment_sizes_bits": [[1000000, 2000000], [1000000, 2000000], [1000000, 2000000]]}"#),
-        files: &STEADY_FILES,
-        status: 0,
-        out: Is(STEADY_TEXT),
-        err: "",
-    },
-    Case {
         name: "slow trace",
         words: STEADY,
         file: ("t", r#"[{"duration_ms": 11, "bandwidth_kbps": 0, "latency_ms": 0}, {"duration_ms": 10, "bandwidth_kbps": 2, "latency_ms": 0}]"#),
@@ -304,24 +363,11 @@ static CASES: [Case; 31] = [
         out: Is(""),
         err: "abrlab: trace file: not read\n",
     },
-    Case {
-        name: "seek ahead",
-        words: SOUGHT,
-        file: ("s", "at_ms,to_segment\n1000,2\n"),
-        files: &STEADY_FILES,
-        status: 0,
-        out: Is(SOUGHT_TEXT),
-        err: "",
-    },
-    Case {
-        name: "seek after the end",
-        words: SOUGHT,
-        file: ("s", "at_ms,to_segment\n4000,0\n"),
-        files: &STEADY_FILES,
-        status: 0,
-        out: Is(STEADY_TEXT),
-        err: "",
-    },
+];
+
+// The seek script or a CSV trace is refused.
+#[rattlefmt::skip]
+static REFUSED_CSV: [Case; 8] = [
     Case {
         name: "bad seeks",
         words: SOUGHT,
@@ -377,42 +423,6 @@ static CASES: [Case; 31] = [
         err: "abrlab: seeks file: not read\n",
     },
     Case {
-        name: "decimal bandwidth",
-        words: SPREAD,
-        file: ("c.csv", "duration_ms,bandwidth_kbps,latency_ms\n60000,1999.999,0\n"),
-        files: &STEADY_FILES,
-        status: 0,
-        out: Is(SPREAD_TEXT),
-        err: "",
-    },
-    Case {
-        name: "decimal bandwidth",
-        words: SPREAD,
-        file: ("c.csv", "duration_ms,bandwidth_kbps,latency_ms\n60000,2000.5,0\n"),
-        files: &STEADY_FILES,
-        status: 0,
-        out: Is(STEADY_TEXT),
-        err: "",
-    },
-    Case {
-        name: "csv trace",
-        words: SPREAD,
-        file: ("c.csv", "duration_ms,bandwidth_kbps,latency_ms\n60000,2000,0\n"),
-        files: &STEADY_FILES,
-        status: 0,
-        out: Is(STEADY_TEXT),
-        err: "",
-    },
-    Case {
-        name: "csv trace without its last line end",
-        words: SPREAD,
-        file: ("c.csv", "duration_ms,bandwidth_kbps,latency_ms\n60000,2000,0"),
-        files: &STEADY_FILES,
-        status: 0,
-        out: Is(STEADY_TEXT),
-        err: "",
-    },
-    Case {
         name: "bad csv trace",
         words: SPREAD,
         file: ("c.csv", "duration_ms,bandwidth_kbps,latency_ms\n60000,2000.5001,0\n"),
@@ -435,6 +445,22 @@ static CASES: [Case; 31] = [
 #[test]
 fn cases(rt: HostRuntime) -> Result<(), Fail> {
     for case in &CASES {
+        assert_answer(&rt, rt.alloc(), case)?;
+    }
+    Ok(())
+}
+
+#[test]
+fn refused_files(rt: HostRuntime) -> Result<(), Fail> {
+    for case in &REFUSED {
+        assert_answer(&rt, rt.alloc(), case)?;
+    }
+    Ok(())
+}
+
+#[test]
+fn refused_csv(rt: HostRuntime) -> Result<(), Fail> {
+    for case in &REFUSED_CSV {
         assert_answer(&rt, rt.alloc(), case)?;
     }
     Ok(())
