@@ -1,9 +1,9 @@
 use Rattle.std.proofs.Common.{◌+◌, ◌++◌, ◌∙◌, ◌∷◌, [], ap, map, string_bytes, sym}
 use Rattle.std.proofs.lemmas.List.{map-append}
-use Rattle.lab_inputs.specs.Files.{trace_files, trace_role}
+use Rattle.lab_inputs.specs.Roles.{trace_files, trace_role}
 use Rattle.lab_inputs.specs.Stages.{file_of}
 use Rattle.lab_inputs.proofs.Steps.{names_more, trace_more}
-use Rattle.lab_inputs.proofs.inputs.trace_files.Goals as goal
+use Rattle.lab_inputs.proofs.role.trace_files.Goals as goal
 
 pub loop-index-preserved : goal.loop-index-preserved
 loop-index-preserved c =

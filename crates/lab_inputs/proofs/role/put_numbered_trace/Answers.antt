@@ -1,6 +1,6 @@
 use Rattle.std.proofs.Common.{codes}
 use Rattle.lab_io.proofs.Puts.{puts_failed, puts_more}
-use Rattle.lab_inputs.proofs.note.put_numbered_trace.Goals as goal
+use Rattle.lab_inputs.proofs.role.put_numbered_trace.Goals as goal
 
 pub returns-in_err-put_text : goal.returns-in_err-put_text
 returns-in_err-put_text g c =

@@ -1,7 +1,7 @@
 use Rattle.std.proofs.Common.{◌≡◌, take, map, string_bytes}
-use Rattle.lab_inputs.specs.Files.{trace_files}
+use Rattle.lab_inputs.specs.Roles.{trace_files}
 use Rattle.lab_inputs.specs.Stages.{file_of}
-use Rattle.lab_inputs.proofs.inputs.trace_files.Given as goal
+use Rattle.lab_inputs.proofs.role.trace_files.Given as goal
 
 -- the traces so far
 abbrev pub invariant-loop-index : goal.invariant-loop-index

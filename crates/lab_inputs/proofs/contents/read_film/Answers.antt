@@ -1,9 +1,8 @@
 use Rattle.manifest_reader.specs.Manifest.{manifest_of}
-use Rattle.lab_inputs.specs.declared.stop.Role.TheVariants as role
-use Rattle.lab_inputs.specs.Files.{bytes_of}
-use Rattle.lab_inputs.specs.Inputs.{film_in, read_as}
+use Rattle.lab_inputs.specs.declared.role.Role.TheVariants as role
+use Rattle.lab_inputs.specs.Files.{bytes_of, film_in, read_as}
 use Rattle.lab_inputs.proofs.Files.{reads_failed, reads_fault, reads_ok}
-use Rattle.lab_inputs.proofs.inputs.read_film.Goals as goal
+use Rattle.lab_inputs.proofs.contents.read_film.Goals as goal
 
 pub returns-in_err-bytes : goal.returns-in_err-bytes
 unfolding film_in
