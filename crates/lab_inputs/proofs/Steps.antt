@@ -1,5 +1,7 @@
 -- One file after the other: what those before it gave, and what one more adds or refuses.
-use Rattle.std.proofs.Common.{◌≡◌, ℕ, ◌+◌, ◌≤◌, ◌++◌, List, [], ◌∷◌, map, string_bytes, String, Option, Some, None, Result, Ok, Err, IsOk, ap, sym, ◌∙◌, refl, inl, inr, arith, append_assoc, length, ◌<◌, take, drop, get_or, add-one, drop-cons, subst}
+use Rattle.std.specs.Option.{option_copied}
+use Rattle.std.specs.Prelude.{Bor}
+use Rattle.std.proofs.Common.{◌≡◌, ℕ, ◌+◌, ◌≤◌, ◌++◌, List, [], ◌∷◌, map, option_map, string_bytes, String, Option, Some, None, Result, Ok, Err, IsOk, ap, sym, ◌∙◌, refl, inl, inr, arith, append_assoc, length, ◌<◌, take, drop, get_or, add-one, drop-cons, subst}
 use Rattle.std.proofs.lemmas.List.{length-map, length-take-le, map-append, take-append-drop}
 use Rattle.std.proofs.Math.Seq.{take-suc}
 use Rattle.std.specs.Result.{IsErrAnd}
@@ -26,7 +28,7 @@ use Rattle.lab_inputs.specs.declared.stop.Halt.TheVariants as halt
 use Rattle.lab_inputs.specs.Contents.{ContentValues, film_alone}
 use Rattle.lab_inputs.specs.Files.{◌>>=◌, AreAccepted, Files, at_role, bytes_of, contents_from, film_in, read_as, request_of, with_file, with_files}
 use Rattle.lab_inputs.specs.Roles.{NamedFile, files_by, files_of, film_files, result_map, row_of, trace_files, trace_role, traces_from}
-use Rattle.lab_inputs.specs.Stages.{Asks, AsksSome, AsksUpTo, Comes, Reads, Stops, Tells, file_of, halt_of}
+use Rattle.lab_inputs.specs.Stages.{Asks, AsksFor, AsksSome, AsksUpTo, Comes, Reads, Tells, file_of, halt_of}
 use Rattle.lab_inputs.proofs.Files.{asks_all, asks_none}
 
 -- these files were asked for, and then those
@@ -54,7 +56,7 @@ pub halts : {X Y Z W : Type 0} (before after : List NamedFile) (file : NamedFile
 halts before after file seen seen2 value whole old mid new err.Memory a ok stops x =
     record { asked = before ++ x.asked; later = x.later ++ after; split = split_more before x.asked x.later after file x.split; asks = asks_more before x.asked old mid new a x.asks }
 halts before after file seen seen2 value whole old mid new (err.Stopped fault.NotRead) a ok stops x =
-    (record { before = before; name = file.1; later = after; split = refl; asks = asks_more before (file ∷ []) old mid new a x.0 }, rose_later _ _ _ (a.faults file.1) x.1, ok)
+    ((record { before = before; name = file.1; later = after; split = refl; asks = asks_more before (file ∷ []) old mid new a x.0 }, rose_later _ _ _ (a.faults file.1) x.1, ok), λ files t. tt)
 halts before after file seen seen2 value whole old mid new (err.Stopped fault.TooLong) a ok stops x =
     (record { before = before; name = file.1; later = after; split = refl; asks = asks_more before (file ∷ []) old mid new a x.0 }, λ files t. stops files fault.TooLong t (x.1 files (a.files ∙ t)))
 halts before after file seen seen2 value whole old mid new (err.Stopped (fault.Refused why)) a ok stops x =
@@ -147,7 +149,7 @@ later_halts seen seen2 manifest later before after file v old mid new r e h spli
 halt_later : {X Y Z W : Type 0} (named : List NamedFile) (seen : X → Y) (seen2 : Z → W) (meant : Files → Result Y Stop) (after : Y → Result W Stop) (old new : Shelved) (h : Halt)
     → Comes named seen meant old (Err h) new → Comes named seen2 (λ files. meant files >>= after) old (Err h) new
 halt_later named seen seen2 meant after old new halt.NoMemory x = x
-halt_later named seen seen2 meant after old new (halt.Stopped (stop.File role fault.NotRead)) x = x
+halt_later named seen seen2 meant after old new (halt.Stopped (stop.File role fault.NotRead)) x = (x.0, λ files t. tt)
 halt_later named seen seen2 meant after old new (halt.Stopped (stop.File role fault.TooLong)) x = (x.0, λ files t. rw (x.1 files t) refl)
 halt_later named seen seen2 meant after old new (halt.Stopped (stop.File role (fault.Refused why))) x = (x.0, λ files t. rw (x.1 files t) refl)
 halt_later named seen seen2 meant after old new (halt.Stopped (stop.Settings setting)) x = (x.0, λ files t. rw (x.1 files t) refl)
@@ -222,11 +224,11 @@ up_to_some : (named : List NamedFile) (role : Role) (old new : Shelved) → Asks
 up_to_some named role old new a = record { asked = a.before ++ (role, a.name) ∷ []; later = a.later; split = a.split ∙ sym (append_assoc a.before ((role, a.name) ∷ []) a.later); asks = a.asks }
 
 -- the files that were asked for before a stop are the first of those that are named
-pub stops_some : {Y : Type 0} (named : List NamedFile) (meant : Files → Result Y Stop) (old new : Shelved) (why : Stop) → Stops named meant old why new → AsksSome named old new
-stops_some named meant old new (stop.File role fault.NotRead) x = up_to_some named role old new x.0
-stops_some named meant old new (stop.File role fault.TooLong) x = up_to_some named role old new x.0
-stops_some named meant old new (stop.File role (fault.Refused why)) x = up_to_some named role old new x.0
-stops_some named meant old new (stop.Settings setting) x = asks_all named old new x.0
+pub stops_some : (named : List NamedFile) (old new : Shelved) (why : Stop) → AsksFor named why old new → AsksSome named old new
+stops_some named old new (stop.File role fault.NotRead) x = up_to_some named role old new x.0
+stops_some named old new (stop.File role fault.TooLong) x = up_to_some named role old new x
+stops_some named old new (stop.File role (fault.Refused why)) x = up_to_some named role old new x
+stops_some named old new (stop.Settings setting) x = asks_all named old new x
 
 -- what a value adds comes of a value
 pub map_ok : {A B E : Type 0} (f : A → B) (o : Result A E) (y : B) → result_map f o ≡ Ok y → (x : A) × (y ≡ f x) × (o ≡ Ok x)
@@ -252,7 +254,7 @@ role_ok role (Err why) x e = cc
 halt_mapped : {X Y Z W : Type 0} (named : List NamedFile) (seen : X → Y) (seen2 : Z → W) (f : Y → W) (meant : Files → Result Y Stop) (old new : Shelved) (h : Halt)
     → Comes named seen meant old (Err h) new → Comes named seen2 (λ files. result_map f (meant files)) old (Err h) new
 halt_mapped named seen seen2 f meant old new halt.NoMemory x = x
-halt_mapped named seen seen2 f meant old new (halt.Stopped (stop.File role fault.NotRead)) x = x
+halt_mapped named seen seen2 f meant old new (halt.Stopped (stop.File role fault.NotRead)) x = (x.0, λ files t. tt)
 halt_mapped named seen seen2 f meant old new (halt.Stopped (stop.File role fault.TooLong)) x = (x.0, λ files t. rw (x.1 files t) refl)
 halt_mapped named seen seen2 f meant old new (halt.Stopped (stop.File role (fault.Refused why))) x = (x.0, λ files t. rw (x.1 files t) refl)
 halt_mapped named seen seen2 f meant old new (halt.Stopped (stop.Settings setting)) x = (x.0, λ files t. rw (x.1 files t) refl)
@@ -271,3 +273,8 @@ pub mapped_ok : {X Y Z W : Type 0} (named : List NamedFile) (seen : X → Y) (se
 mapped_ok named seen seen2 f meant old new r x z e k h =
     let c : Comes named seen meant old (Ok x) new = rw e at h in
     (c.0, λ files t. rw (c.1 files t, k) refl)
+
+-- what a reference in an option points to, seen in another way
+pub seen_behind : {A B : Type 0} (f : A → B) (o : Option (Bor A)) → option_map (λ (x : Bor A). f x.now) o ≡ option_map f (option_copied o)
+seen_behind f None = refl
+seen_behind f (Some x) = refl

@@ -69,6 +69,13 @@ settled_fits i j h =
     let fits = all_fits i.setup i.rules i.film x.1 in
     (x.0, x.1, record { setup = fits.0; rules = fits.1 })
 
+-- there is a network for each that the words name, and the rules are those of the words
+pub inputs_counted : (c : CommandWords) (files : Files) (i : InputValues) → inputs_of c files ≡ Ok i → (length i.networks ≡ length c.traces) × (i.rules ≡ c.rules)
+inputs_counted c files i h =
+    let held = inputs_held c files i h in
+    let w = from_within c.manifest (later_files c) files held.0 held.2 in
+    (ap (λ (v : InputValues). length v.networks) held.1 ∙ w.1 ∙ networks_named c, ap (λ (v : InputValues). v.rules) held.1)
+
 -- what is ready: read and settled, within the limits, with a network for each that the words name
 pub record IsReady (c : CommandWords) (files : Files) (i : InputValues) : Type 0 where
   pub contents : ContentValues

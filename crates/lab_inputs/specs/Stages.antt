@@ -51,9 +51,13 @@ pub record AsksUpTo (named : List NamedFile) (role : Role) (old new : Shelved) :
   pub split : named ≡ before ++ (role, name) ∷ later
   pub asks : Asks (before ++ (role, name) ∷ []) old new
 
--- it was asked for the files up to the one that stops the command, or for all
+-- what it was asked for by a command that stops so: the files up to the one that is refused, or all; the count of a file that was
+-- not read rose, and over told files those before it are accepted
 abbrev pub AsksFor : List NamedFile → Stop → Shelved → Shelved → Type 0
-AsksFor named (stop.File role why) old new = AsksUpTo named role old new
+AsksFor named (stop.File role fault.NotRead) old new =
+    (at : AsksUpTo named role old new) × Rose (old.faults at.name) (new.faults at.name) × ((files : Files) → Tells old files → AreAccepted at.before files)
+AsksFor named (stop.File role fault.TooLong) old new = AsksUpTo named role old new
+AsksFor named (stop.File role (fault.Refused why)) old new = AsksUpTo named role old new
 AsksFor named (stop.Settings setting) old new = Asks named old new
 
 -- ---- what a stage comes to
@@ -70,13 +74,16 @@ Reads file seen meant old (Err (err.Stopped fault.TooLong)) new = Asks (file ∷
 Reads file seen meant old (Err (err.Stopped (fault.Refused why))) new = Asks (file ∷ []) old new × Means meant old (Err (fault.Refused why))
 Reads file seen meant old (Err err.Memory) new = AsksSome (file ∷ []) old new
 
--- why a command stopped: the count of a file rose, and those before it are accepted; else over told files it comes to this
+-- a stage comes to this stop; a file that is not read says nothing of what it comes to
+abbrev pub StopsAt : {Y E : Type 0} → (Stop → E) → Result Y E → Stop → Type 0
+StopsAt into meant (stop.File role fault.NotRead) = Unit {0}
+StopsAt into meant (stop.File role fault.TooLong) = meant ≡ Err (into (stop.File role fault.TooLong))
+StopsAt into meant (stop.File role (fault.Refused why)) = meant ≡ Err (into (stop.File role (fault.Refused why)))
+StopsAt into meant (stop.Settings setting) = meant ≡ Err (into (stop.Settings setting))
+
+-- why a stage stopped: what was asked for, and what it comes to over told files
 abbrev pub Stops : {Y : Type 0} → List NamedFile → (Files → Result Y Stop) → Shelved → Stop → Shelved → Type 0
-Stops named meant old (stop.File role fault.NotRead) new =
-    (at : AsksUpTo named role old new) × Rose (old.faults at.name) (new.faults at.name) × ((files : Files) → Tells old files → AreAccepted at.before files)
-Stops named meant old (stop.File role fault.TooLong) new = AsksUpTo named role old new × Means meant old (Err (stop.File role fault.TooLong))
-Stops named meant old (stop.File role (fault.Refused why)) new = AsksUpTo named role old new × Means meant old (Err (stop.File role (fault.Refused why)))
-Stops named meant old (stop.Settings setting) new = Asks named old new × Means meant old (Err (stop.Settings setting))
+Stops named meant old why new = AsksFor named why old new × ((files : Files) → Tells old files → StopsAt (λ s. s) (meant files) why)
 
 -- what a stage of a command that names these files gave: its value, or why the command stopped
 abbrev pub Comes : {X Y : Type 0} → List NamedFile → (X → Y) → (Files → Result Y Stop) → Shelved → Result X Halt → Shelved → Type 0

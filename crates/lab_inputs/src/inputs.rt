@@ -1,11 +1,12 @@
 //! What a command is about, as one value.
 
-ghost use Rattle.std.specs.Prelude.{◌≡◌, map};
-ghost use Rattle.std.specs.List.{All};
+ghost use Rattle.std.specs.Prelude.{◌≡◌, IfSome, map, option_map};
+ghost use Rattle.std.specs.List.{All, slice_get};
 ghost use Rattle.lab_model.specs.Film.{segments_of};
 ghost use Rattle.lab_model.specs.Seeks.{SeeksFit};
 ghost use Rattle.lab_words.specs.Command.{named, view};
 ghost use Rattle.lab_words.specs.Limits.{HasFilm, IsRuleWithin, IsWithinLimits};
+ghost use Rattle.lab_words.specs.Rules.{spoken};
 ghost use Rattle.lab_inputs.specs.Inputs.{inputs_of, inputs_on};
 ghost use Rattle.lab_inputs.specs.Roles.{film_files};
 ghost use Rattle.lab_inputs.specs.Settings.{Fits, misfit};
@@ -109,6 +110,13 @@ impl Inputs {
         &self.networks
     }
 
+    /// The first network, of which every command line names one.
+    pub fn network(&self) -> Option<&Network>
+        ensures { option_map (λ n. network_of n.now) result ≡ slice_get self.now.networks 0 }
+    {
+        self.networks.first()
+    }
+
     /// The seeks, none where there is no script.
     pub fn seeks(&self) -> &[Seek]
         ensures value { result.now ≡ self.now.seeks }
@@ -130,6 +138,14 @@ impl Inputs {
         ensures within { All (λ r. IsRuleWithin r.1) self.now.rules }
     {
         &self.rules
+    }
+
+    /// The first rule, if there is one.
+    pub fn rule(&self) -> Option<&NamedRule>
+        ensures value { option_map (λ r. named r.now) result ≡ slice_get self.now.rules 0 }
+        ensures within { IfSome result (λ r. IsRuleWithin (spoken r.now.rule)) }
+    {
+        self.rules.first()
     }
 
     /// The first setting that does not fit the film: the buffer, then the utilities, then the rules.
