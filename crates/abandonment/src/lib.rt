@@ -28,7 +28,7 @@ fn is_due(now: &Progress) -> bool
 }
 
 fn is_late(m: &Manifest, left: u32, rate: u64, elapsed_ms: u64) -> bool
-    requires elapsed { elapsed_ms ≤ 1000000000 }
+    requires elapsed { elapsed_ms ≤ 2000000000 }
     requires rate { rate ≤ 10000000000 }
     ensures { result ≡ nat_lt (9 * m.now.seg_ms * rate) (5 * (elapsed_ms * rate + 1000 * left)) }
 {
@@ -39,12 +39,12 @@ fn is_late(m: &Manifest, left: u32, rate: u64, elapsed_ms: u64) -> bool
 
 ghost use Rattle.std.specs.Prelude.{◌+◌, nat_lt};
 
-/// The rung for which the running download of a segment on a rung is given up, if it is. Segment and rung are in range, at most 10^9 ms have
+/// The rung for which the running download of a segment on a rung is given up, if it is. Segment and rung are in range, at most 2 * 10^9 ms have
 /// passed since the request, no more of them were spent on bits, and what came is at most the size and at most 10000000 bits a millisecond.
 pub fn abandon_to(m: &Manifest, seg: u16, rung: u8, now: &Progress) -> Option<u8>
     requires segment { seg < segments_of m.now }
     requires rung { rung < rungs_of m.now }
-    requires elapsed { now.now.elapsed_ms ≤ 1000000000 }
+    requires elapsed { now.now.elapsed_ms ≤ 2000000000 }
     requires bit_ms { now.now.bit_ms ≤ now.now.elapsed_ms }
     requires got { now.now.got ≤ size_of m.now seg rung }
     requires pace { now.now.got ≤ 10000000 * now.now.bit_ms }

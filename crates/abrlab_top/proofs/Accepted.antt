@@ -17,12 +17,12 @@ use Rattle.lab_inputs.specs.Roles.{later_files, optional_file, trace_files}
 use Rattle.lab_inputs.specs.Settings.{misfit, settled}
 use Rattle.lab_inputs.proofs.Steps.{inputs_one_more, ok_same}
 use Rattle.lab_inputs.proofs.Within.{inputs_counted, inputs_held, is_ready, settled_fits}
-use Rattle.frontier_planner.specs.Labels.{IsTask, Task, task_of}
-use Rattle.frontier_planner.specs.Parts.{CertificateParts}
-use Rattle.certificate_text.specs.Form.{IsCertificate}
+use Rattle.player_core.specs.Scene.{IsTask, Task, task_of}
+use Rattle.labels.specs.Parts.{CertificateParts}
+use Rattle.labels.specs.Form.{IsCertificate}
 use Rattle.certificate_text.specs.Reading as text
 use Rattle.certificate_text.specs.Spelling.{spelling}
-use Rattle.certificate_text.specs.declared.certificate.Verdict.TheVariants.{Yes}
+use Rattle.labels.specs.declared.verdict.Verdict.TheVariants.{Yes}
 use Rattle.certificate_text.proofs.HeadLaws.{certificate_again}
 use Rattle.certificate_text.proofs.Length.{spelling_fits}
 use Rattle.certificate_check.specs.Verdict.{verdict_of}

@@ -3,18 +3,18 @@ use Rattle.std.proofs.Common.{◌≡◌, ℕ, suc, ◌-◌, ◌≤◌, false, No
 use Rattle.std.specs.Prelude.{nat_lt}
 use Rattle.std.proofs.lemmas.Bool.Decides.{nat_tests}
 use Rattle.lab_model.specs.Film.{segments_of}
-use Rattle.frontier_planner.specs.Frontier.{frontier}
-use Rattle.frontier_planner.specs.Grid.{exact}
-use Rattle.frontier_planner.specs.Grown.{grown}
-use Rattle.frontier_planner.specs.Labels.{IsTask, Task}
-use Rattle.frontier_planner.specs.Read.{labels_before, labels_in}
-use Rattle.frontier_planner.proofs.Rounds.{exact_fits}
-use Rattle.frontier_planner.proofs.Same.{before_same, certificate_same}
+use Rattle.labels.specs.Frontier.{frontier}
+use Rattle.labels.specs.Grid.{exact}
+use Rattle.labels.specs.Grown.{grown}
+use Rattle.player_core.specs.Scene.{IsTask, Task}
+use Rattle.labels.specs.Read.{labels_before, labels_in}
+use Rattle.labels.proofs.Rounds.{exact_fits}
+use Rattle.labels.proofs.Same.{before_same, certificate_same}
 use Rattle.frontier_planner.proofs.Short.{certificate_short}
-use Rattle.frontier_planner.proofs.Sound.{exact_agrees, plan_accepted}
-use Rattle.frontier_planner.proofs.ReadBack.{list_fits}
-use Rattle.certificate_text.specs.Form.{IsCertificate}
-use Rattle.certificate_text.specs.declared.certificate.Verdict.TheVariants.{Yes}
+use Rattle.labels.proofs.Sound.{exact_agrees, plan_accepted}
+use Rattle.labels.proofs.ReadBack.{list_fits}
+use Rattle.labels.specs.Form.{IsCertificate}
+use Rattle.labels.specs.declared.verdict.Verdict.TheVariants.{Yes}
 use Rattle.certificate_text.proofs.PlanText.{read_has_text}
 use Rattle.certificate_check.specs.Verdict.{verdict_of}
 use Rattle.certificate_check.proofs.Verdicts.{valid_yes}

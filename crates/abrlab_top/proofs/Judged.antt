@@ -11,15 +11,16 @@ use Rattle.lab_model.specs.Reading.{Fails}
 use Rattle.lab_inputs.specs.declared.stop.Stop.{Stop}
 use Rattle.lab_inputs.specs.Inputs.{InputValues}
 use Rattle.lab_inputs.specs.Settings.{misfit, settled}
-use Rattle.frontier_planner.specs.Labels.{Task}
-use Rattle.frontier_planner.specs.Parts.{CertificateParts, ChainParts}
-use Rattle.certificate_text.specs.declared.certificate.Verdict.{Verdict}
-use Rattle.certificate_text.specs.declared.certificate.Verdict.TheVariants.{Yes, No}
+use Rattle.player_core.specs.Scene.{Task}
+use Rattle.labels.specs.Parts.{CertificateParts, ChainParts}
+use Rattle.labels.specs.declared.verdict.Verdict.{Verdict}
+use Rattle.labels.specs.declared.verdict.Verdict.TheVariants.{Yes, No}
 use Rattle.certificate_text.specs.Fields.{◌>>=◌}
 use Rattle.certificate_text.specs.Reading.{Place, Walks, certificate_of, chains_at, end_at, head_at}
 use Rattle.certificate_text.specs.Walk.{Walk, accepted, begun}
 use Rattle.certificate_text.proofs.FieldLaws.{bind_ok}
-use Rattle.certificate_text.proofs.WalkLaws.{begun_rest, rest_of, whole_of}
+use Rattle.certificate_text.specs.Walk.{rest_of}
+use Rattle.certificate_text.proofs.WalkLaws.{begun_rest, whole_of}
 use Rattle.certificate_check.specs.Verdict.{lines_verdict, verdict_of}
 use Rattle.abrlab_top.specs.declared.check.Judgement.{Judgement}
 use Rattle.abrlab_top.specs.declared.ending.Ending.{Ending}

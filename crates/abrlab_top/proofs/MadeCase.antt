@@ -17,14 +17,15 @@ use Rattle.lab_words.specs.declared.NamedRule.{NamedRule}
 use Rattle.lab_words.specs.Command.{named}
 use Rattle.lab_words.specs.Limits.{IsRuleWithin}
 use Rattle.lab_words.specs.Rules.{spoken}
-use Rattle.frontier_planner.specs.declared.plans.Plan.{Plan}
-use Rattle.frontier_planner.specs.Frontier.{frontier}
-use Rattle.frontier_planner.specs.Grid.{exact}
-use Rattle.frontier_planner.specs.Labels.{IsTask, Task}
-use Rattle.frontier_planner.specs.Parts.{CertificateParts, plan_parts}
+use Rattle.labels.specs.declared.plans.Plan.{Plan}
+use Rattle.labels.specs.Frontier.{frontier}
+use Rattle.labels.specs.Grid.{exact}
+use Rattle.player_core.specs.Scene.{IsTask, Task}
+use Rattle.labels.specs.Parts.{CertificateParts, plan_parts}
 use Rattle.frontier_planner.specs.Planned.{IsPlanOf}
 use Rattle.certificate_text.specs.declared.certificate.Certificate.{Certificate}
-use Rattle.certificate_text.specs.Form.{IsCertificate, certificate_parts}
+use Rattle.labels.specs.Form.{IsCertificate}
+use Rattle.certificate_text.specs.Form.{certificate_parts}
 use Rattle.certificate_text.proofs.PlanText.{plan_has_text}
 use Rattle.demo_case.specs.declared.case.DemoCase.{DemoCase}
 use Rattle.demo_case.specs.Case.{demo_film, demo_periods, demo_setup, demo_task}

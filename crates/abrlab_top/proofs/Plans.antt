@@ -11,18 +11,18 @@ use Rattle.lab_inputs.specs.declared.stop.Stop.{Stop}
 use Rattle.lab_inputs.specs.Inputs.{InputValues}
 use Rattle.lab_inputs.specs.Settings.{settled}
 use Rattle.player_core.specs.Available.{all_ahead}
-use Rattle.frontier_planner.specs.declared.plans.Plan.{Plan}
+use Rattle.labels.specs.declared.plans.Plan.{Plan}
 use Rattle.frontier_planner.specs.declared.plans.PlanErr.{PlanErr}
 use Rattle.frontier_planner.specs.declared.plans.PlanErr.TheVariants as planned
-use Rattle.frontier_planner.specs.Frontier.{frontier}
-use Rattle.frontier_planner.specs.Grid.{exact}
-use Rattle.frontier_planner.specs.Labels.{IsTask, Task, task_of}
-use Rattle.frontier_planner.specs.Parts.{CertificateParts, plan_parts}
+use Rattle.labels.specs.Frontier.{frontier}
+use Rattle.labels.specs.Grid.{exact}
+use Rattle.player_core.specs.Scene.{IsTask, Task, task_of}
+use Rattle.labels.specs.Parts.{CertificateParts, plan_parts}
 use Rattle.frontier_planner.specs.Planned.{IsPlanOf, PlanAnswer}
-use Rattle.frontier_planner.specs.Read.{SpentAt, labels_before, labels_in}
-use Rattle.frontier_planner.proofs.Naming.{before_beyond}
+use Rattle.labels.specs.Read.{SpentAt, labels_before, labels_in}
+use Rattle.labels.proofs.Counted.{before_beyond}
 use Rattle.certificate_text.proofs.PlanText.{plan_has_text}
-use Rattle.certificate_text.specs.Form.{IsCertificate}
+use Rattle.labels.specs.Form.{IsCertificate}
 use Rattle.abrlab_top.specs.declared.ending.Ending.TheVariants as ending
 use Rattle.abrlab_top.specs.Answer.{printed}
 use Rattle.abrlab_top.specs.Ending.{after_plan}

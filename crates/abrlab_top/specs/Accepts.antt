@@ -8,9 +8,9 @@ use Rattle.lab_words.specs.Words.{command_of}
 use Rattle.lab_inputs.specs.Files.{Files}
 use Rattle.lab_inputs.specs.Inputs.{InputValues, inputs_of}
 use Rattle.lab_inputs.specs.Stages.{Tells}
-use Rattle.frontier_planner.specs.Parts.{CertificateParts}
-use Rattle.certificate_text.specs.declared.certificate.Verdict.TheVariants.{Yes}
-use Rattle.certificate_text.specs.Form.{IsCertificate}
+use Rattle.labels.specs.Parts.{CertificateParts}
+use Rattle.labels.specs.declared.verdict.Verdict.TheVariants.{Yes}
+use Rattle.labels.specs.Form.{IsCertificate}
 use Rattle.certificate_text.specs.Spelling.{spelling}
 use Rattle.abrlab_top.specs.declared.ending.Ending.{Ending}
 use Rattle.abrlab_top.specs.Answer.{printed}

@@ -9,6 +9,8 @@ use Rattle.network_clock.specs.Flow.{Opens, carried_in, flow, used_in}
 use Rattle.network_clock.proofs.Search.{least_before, least_found}
 use Rattle.network_clock.proofs.Sums.{sum_below_grows}
 use Rattle.network_clock.proofs.Laws.{credit_after, free_spends, job_start, no_latency_spends}
+use Rattle.network_clock.proofs.Flows.{trace_flows}
+use Rattle.network_clock.proofs.Periods.{trace_paced}
 use Rattle.network_clock.proofs.Downloads.{done_found, done_from, done_is, done_not_before}
 use Rattle.network_clock.proofs.Openings.{left_from, left_until, opens_at_end, opens_before_end, spent_means, uses_enough}
 
@@ -20,7 +22,7 @@ end_reached : (ps : List Period) (from : ℕ) → IsTrace ps → flow used_in ps
 unfolding end_of
 end_reached ps from h =
     let test = λ (n : ℕ). leb (flow used_in ps from + 100000000) (flow used_in ps (from + n)) in
-    leb-true _ _ (least_found 10001 test 10000 (omega arith) (le-leb _ _ (uses_enough ps from h))).1
+    leb-true _ _ (least_found 10001 test 10000 (omega arith) (le-leb _ _ (uses_enough ps from (trace_paced ps h)))).1
 
 end_first : (ps : List Period) (from : ℕ) → flow used_in ps (end_of ps from - 1) < flow used_in ps from + 100000000
 unfolding end_of
@@ -40,8 +42,8 @@ end_first ps from =
 pub opening : (ps : List Period) → IsTrace ps → (from : ℕ) → (first : ℕ) × Opens ps from 100000000 first
 opening ps h from =
     let end = end_of ps from in
-    ⊎_elim (λ none. (end - 1, opens_before_end ps h from 100000000 end (omega arith) (omega arith) (end_first ps from) (end_reached ps from h) none))
-    (λ some. (end, opens_at_end ps h from 100000000 end (omega arith) (omega arith) (end_first ps from) (end_reached ps from h) some)) (cases_eq (period_at ps (end - 1)).latency 0)
+    ⊎_elim (λ none. (end - 1, opens_before_end ps (trace_paced ps h) from 100000000 end (omega arith) (omega arith) (end_first ps from) (end_reached ps from h) none))
+    (λ some. (end, opens_at_end ps (trace_paced ps h) from 100000000 end (omega arith) (omega arith) (end_first ps from) (end_reached ps from h) some)) (cases_eq (period_at ps (end - 1)).latency 0)
 
 -- one that is asked for later begins no earlier
 openings_ordered : (ps : List Period) (start later first next : ℕ) → start ≤ later → Opens ps start 100000000 first → Opens ps later 100000000 next → first ≤ next
@@ -51,8 +53,8 @@ openings_ordered ps start later first next before o p =
     let place : start + (next - start) ≡ next = omega arith in
     let place_later : later + (next - later) ≡ next = omega arith in
     let j = start_job 0 in
-    let credit = credit_after ps start (next - start) j (omega arith) in
-    let credit_later = credit_after ps later (next - later) j (omega arith) in
+    let credit = credit_after (period_at ps) start (next - start) j (omega arith) in
+    let credit_later = credit_after (period_at ps) later (next - later) j (omega arith) in
     let all = ap (flow used_in ps) place in
     let all_later = ap (flow used_in ps) place_later in
     let grows = sum_below_grows (λ i. used_in (period_at ps i)) start later before in
@@ -65,20 +67,20 @@ openings_ordered ps start later first next before o p =
 -- nothing is left of a download of nothing
 done_at_once : (ps : List Period) (start bits : ℕ) → bits ≡ 0 → start ≡ done_at ps start bits
 done_at_once ps start bits none =
-    let at = done_is ps start bits 0 (omega arith) (rw job_start (omega (arith, none))) (λ k inside. absurd (omega arith)) in
+    let at = done_is (period_at ps) start bits 0 (omega arith) (rw job_start (omega (arith, none))) (λ k inside. absurd (omega arith)) in
     omega (arith, at)
 
 -- of two downloads the one that is asked for no later, and is no larger, is done no later
 pub first_in_first_out : (ps : List Period) → IsTrace ps → (start later bits more : ℕ) → start ≤ later → bits ≤ more → more ≤ 200000000 → done_at ps start bits ≤ done_at ps later more
 first_in_first_out ps h start later bits more before fewer few =
     let end = done_at ps later more in
-    let from = done_from ps later more in
+    let from = done_from (period_at ps) later more in
     ⊎_elim (λ (none : bits ≡ 0). let at = done_at_once ps start bits none in omega (arith, at))
     (λ (some : bits ≡ 0 → ⊥).
     let one = opening ps h start in
     let two = opening ps h later in
     let ordered = openings_ordered ps start later one.0 two.0 before one.1 two.1 in
-    let done = (done_found ps h later more few).1 in
+    let done = (done_found (period_at ps) (trace_flows ps h) (omega arith) later more few).1 in
     ⊎_elim (λ (over : end < done_at ps start bits).
     let place : start + (end - start) ≡ end = omega arith in
     ⊎_elim (λ (early : end < two.0).
@@ -88,5 +90,5 @@ first_in_first_out ps h start later bits more before fewer few =
     let left = left_from ps later two.0 end (start_job more) two.1 late in
     let left_first = left_from ps start one.0 end (start_job bits) one.1 (omega (arith, ordered)) in
     let grows = sum_below_grows (λ i. carried_in (period_at ps i)) one.0 two.0 ordered in
-    absurd (done_not_before ps start bits (end - start) (omega arith) (omega (arith, left, left_first, grows, done)))) (cases_lt end two.0))
+    absurd (done_not_before (period_at ps) start bits (end - start) (omega arith) (omega (arith, left, left_first, grows, done)))) (cases_lt end two.0))
     (λ (inside : done_at ps start bits ≤ end). inside) (cases_lt end (done_at ps start bits))) (cases_eq bits 0)

@@ -1,5 +1,5 @@
 -- The network: what a millisecond of a trace does to a download, and when a download is done.
-use Rattle.std.specs.Prelude.{ℕ, zero, suc, ◌+◌, ◌-◌, ◌*◌, ◌%◌, ◌==◌, ◌||◌, Bool, if◌then◌else◌, List, [], ◌∷◌, nat_lt}
+use Rattle.std.specs.Prelude.{ℕ, zero, suc, ◌+◌, ◌-◌, ◌*◌, ◌%◌, ◌==◌, ◌||◌, ◌/◌, Bool, if◌then◌else◌, List, [], ◌∷◌, max, nat_lt}
 use Rattle.std.specs.Int.{div_ceil}
 use Rattle.lab_model.specs.declared.trace.Period.{Period}
 use Rattle.lab_model.specs.Cycle.{cycle_ms}
@@ -33,27 +33,51 @@ pass p j = if spends p j
 abbrev pub is_spent : List Period → ℕ → Job → Bool
 is_spent ps t j = spends (period_at ps t) j
 
--- the network millisecond
-abbrev pub network_ms : List Period → ℕ → Job → Job
-network_ms ps t j = pass (period_at ps t) j
-
--- the job after so many milliseconds from an instant on
-unfoldable pub job_after : List Period → ℕ → ℕ → Job → Job
-job_after ps from zero j = j
-job_after ps from (suc n) j = network_ms ps (from + n) (job_after ps from n j)
+-- the job after so many milliseconds from an instant on, on a network that is told by the period of each instant
+unfoldable pub job_on : (ℕ → Period) → ℕ → ℕ → Job → Job
+job_on net from zero j = j
+job_on net from (suc n) j = pass (net (from + n)) (job_on net from n j)
 
 -- the download of so many bits at its request
 abbrev pub start_job : ℕ → Job
 start_job bits = record { credit = 100000000; left = 1000 * bits }
 
--- more milliseconds than any download within the limits takes
+-- more milliseconds than any download within the limits takes, also on a part of a trace
 abbrev pub longest_ms : ℕ
-longest_ms = 410000000
+longest_ms = 2000000000
+
+-- the instant at which nothing is left of a job
+unfoldable pub lands_on : (ℕ → Period) → ℕ → Job → ℕ
+lands_on net from j = from + least_below longest_ms (λ n. (job_on net from n j).left == 0)
 
 -- the instant at which nothing is left of a download
-unfoldable pub done_at : List Period → ℕ → ℕ → ℕ
-done_at ps start bits = start + least_below longest_ms (λ n. (job_after ps start n (start_job bits)).left == 0)
+abbrev pub done_on : (ℕ → Period) → ℕ → ℕ → ℕ
+done_on net start bits = lands_on net start (start_job bits)
 
 -- the least instant from the request on whose millisecond is spent on bits
-unfoldable pub first_at : List Period → ℕ → ℕ → ℕ
-first_at ps start bits = start + least_below longest_ms (λ n. is_spent ps (start + n) (job_after ps start n (start_job bits)))
+unfoldable pub first_on : (ℕ → Period) → ℕ → ℕ → ℕ
+first_on net start bits = start + least_below longest_ms (λ n. spends (net (start + n)) (job_on net start n (start_job bits)))
+
+-- ---- the same on a trace
+
+-- the job after so many milliseconds from an instant on
+abbrev pub job_after : List Period → ℕ → ℕ → Job → Job
+job_after ps from n j = job_on (period_at ps) from n j
+
+-- the instant at which nothing is left of a download
+abbrev pub done_at : List Period → ℕ → ℕ → ℕ
+done_at ps start bits = done_on (period_at ps) start bits
+
+-- the least instant from the request on whose millisecond is spent on bits
+abbrev pub first_at : List Period → ℕ → ℕ → ℕ
+first_at ps start bits = first_on (period_at ps) start bits
+
+-- ---- a part of a network
+
+-- a period of which so many takers have equal shares, in whole thousandths of a bit; without takers it is nobody's
+abbrev pub parted : ℕ → Period → Period
+parted takers p = record p { bandwidth = p.bandwidth / max 1 takers }
+
+-- the lane of each of so many takers of a trace: the period of each instant, parted
+abbrev pub lane_at : List Period → ℕ → ℕ → Period
+lane_at ps takers t = parted takers (period_at ps t)

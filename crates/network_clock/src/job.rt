@@ -36,14 +36,14 @@ impl Job {
     }
 
     /// Whether a millisecond in this period is spent on bits.
-    pub(crate) fn spends(self, period: Period) -> bool
+    pub fn spends(self, period: Period) -> bool
         ensures { result ≡ spends period self }
     {
         self.credit == 0 || period.latency == 0
     }
 
     /// The job after a millisecond in this period.
-    pub(crate) fn pass(self, period: Period) -> Job
+    pub fn pass(self, period: Period) -> Job
         ensures { result ≡ pass period self }
     {
         if self.spends(period) {

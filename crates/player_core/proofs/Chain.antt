@@ -17,13 +17,15 @@ use Rattle.player_core.specs.State.{Case, Player, case_of, first_player}
 use Rattle.player_core.specs.Parts.{abandon, gone_on, instant, is_ended, pass_ms, request, seek, seek_at, stopped}
 use Rattle.player_core.specs.Session.{Shown, end_of, ends_at, last_player, player_after, session_of, shown, shown_by}
 use Rattle.player_core.specs.Sound.{IsCase, Sound}
+use Rattle.player_core.specs.Scene.{IsTask, Task, task_of}
 use Rattle.player_core.specs.Quiet.{IsQuiet, glides}
-use Rattle.player_core.specs.Seen.{CanGlide, CanRest, CanTake, Follows, GoesOn, IsTimed, LeftAt, StandsAt, StandsFor, Step, Waits, mode_of, seen}
+use Rattle.player_core.specs.Seen.{CanGlide, CanRest, Follows, GoesOn, IsTimed, LeftAt, StandsAt, StandsFor, Step, Waits, mode_of, seen}
 use Rattle.player_core.specs.Ready.{CanPass, CanRequest}
-use Rattle.std.specs.Option.{IfSome}
+use Rattle.network_clock.proofs.Flows.{trace_flows}
+use Rattle.player_core.proofs.Counts.{turns_first}
 use Rattle.player_core.proofs.Bounds.{last_count, last_rungs, last_times}
 use Rattle.player_core.proofs.Ends.{end_early, end_is, last_t, sessions_end}
-use Rattle.player_core.proofs.Follow.{Now, any_history, body_instant, body_sound, glide_ready, now_step, pass_ready, rest_ready, take_ready}
+use Rattle.player_core.proofs.Follow.{Now, any_history, body_instant, body_sound, glide_ready, now_step, pass_ready, rest_ready}
 use Rattle.player_core.proofs.Players.{abandon_t, gone_on_sound, gone_on_t, instant_ended, instant_goes, instant_sound, instant_t, pass_t, player_next, player_sound, seeks_t, sought_sound, stopped_sound, stopped_t}
 use Rattle.player_core.proofs.Soundness.{IsOpen, abandon_sound, pass_sound}
 use Rattle.player_core.proofs.Stretch.{next_ahead, pass_next, stretch}
@@ -33,15 +35,39 @@ use Rattle.player_core.proofs.Waits.{IsStill, instant_still}
 -- what the player is called with keeps the limits
 pub is_case : (f : Film) (ps : List Period) (set : Setup) (seeks : List Seek) (ahead : ℕ) (kind : RuleKind) → IsFilm f → IsTrace ps → SetupFits set f → SeeksFit seeks (segments_of f) → ahead ≤ longest_film → KindFits kind f
     → IsCase (case_of f ps set seeks ahead kind)
-is_case f ps set seeks ahead kind film trace setup script most rule = record { film = film; trace = trace; setup = setup; seeks = script; ahead = most; rule = rule }
+is_case f ps set seeks ahead kind film trace setup script most rule =
+    let c = case_of f ps set seeks ahead kind in
+    let turns = turns_first c film script in
+    let count = film.segments.1 in
+    record {
+      film = film;
+      longest = 300000000;
+      network = trace_flows ps trace;
+      long = omega arith;
+      short = omega arith;
+      lasts = omega (arith, turns, count);
+      setup = setup;
+      seeks = script;
+      ahead = most;
+      rule = rule;
+    }
+
+-- so does a task with a script and a rule that fit its film
+pub task_case : (g : Task) (seeks : List Seek) (kind : RuleKind) → IsTask g → SeeksFit seeks (segments_of g.film) → KindFits kind g.film → IsCase (case_of g.film g.periods g.setup seeks g.ahead kind)
+task_case g seeks kind is script rule = is_case g.film g.periods g.setup seeks g.ahead kind is.film is.trace is.setup script is.ahead rule
+
+-- and its parts
+pub parts_case : (f : Film) (ps : List Period) (set : Setup) (seeks : List Seek) (ahead : ℕ) (kind : RuleKind) (g : Task) → g ≡ task_of f ps set ahead → IsTask g → SeeksFit seeks (segments_of f) → KindFits kind f
+    → IsCase (case_of f ps set seeks ahead kind)
+parts_case f ps set seeks ahead kind g e is script rule = task_case (task_of f ps set ahead) seeks kind (subst IsTask e is) script rule
 
 -- ---- the parts of an instant that goes on
 
 -- what the parts of an instant need that goes on, and what a part has made of it
-module _ (c : Case) (is : IsCase c) (b : Body) (sound : Sound c b.t (seen b [])) (timed : IsTimed c.film c.periods b.download) (a : Body) (given : Step (abandon c) b a) where
+module _ (c : Case) (is : IsCase c) (b : Body) (sound : Sound c b.t (seen b [])) (a : Body) (given : Step (abandon c) b a) where
   now_given : (h : List ℕ) → Now c b.t b.t (abandon c (seen b h)) a
   now_given h =
-      let top : Now c b.t b.t (seen b h) b = record { sound = any_history c b.t b [] h sound; instant = refl; same = refl; timed = timed } in
+      let top : Now c b.t b.t (seen b h) b = record { sound = any_history c b.t b [] h sound; instant = refl; same = refl } in
       now_step c b.t b.t b.t (abandon c) (seen b h) b a top given (abandon_sound c is b.t (seen b h) top.sound) (abandon_t c (seen b h))
 
   -- after the abandonment the body stands for a sound player
@@ -104,7 +130,8 @@ start_stands c b e =
     let none : b.t ≡ 0 = ap (λ (p : Player). p.t) e in
     let first : player_after c b.t ≡ first_player = ap (player_after c) none ∙ player_first c in
     record {
-      stands = record { same = subst (λ (p : Player). seen b p.history ≡ p) (sym first) e; timed = none_timed c b e };
+      stands = subst (λ (p : Player). seen b p.history ≡ p) (sym first) e;
+      timed = none_timed c b e;
       going = λ k low. absurd (omega (arith, low, none));
     }
 
@@ -118,18 +145,19 @@ start_told c b e told h =
 module _ (c : Case) (is : IsCase c) (b : Body) (here : StandsAt c b) where
   -- at the top of the turn the body stands for a sound player
   pub at_top : Now c b.t b.t (player_after c b.t) b
-  at_top = let sound = player_sound c is b.t here.going in record { sound = sound.0; instant = sound.1; same = here.stands.same; timed = here.stands.timed }
+  at_top = let sound = player_sound c is b.t here.going in record { sound = sound.0; instant = sound.1; same = here.stands }
 
   -- the instant of the body is before the latest one
   pub at_early : b.t < latest_ms
   at_early = early_before c is b.t here.going
 
   -- a body that stands for what the parts leave
-  lefts_at : (q : Player) (a : Body) → (from : ℕ) → Now c b.t from q a → instant c (player_after c b.t) ≡ q → LeftAt c a × (a.t ≡ b.t)
-  lefts_at q a from now same =
+  lefts_at : (q : Player) (a : Body) → (from : ℕ) → Now c b.t from q a → IsTimed c.film c.network a.download → instant c (player_after c b.t) ≡ q → LeftAt c a × (a.t ≡ b.t)
+  lefts_at q a from now timed same =
       let at : a.t ≡ b.t = body_instant c b.t from q a now in (
         record {
-          stands = subst (λ n. StandsFor c (instant c (player_after c n)) a) (sym at) (subst (λ p. StandsFor c p a) (sym same) (record { same = now.same; timed = now.timed }));
+          stands = subst (λ n. StandsFor (instant c (player_after c n)) a) (sym at) (subst (λ p. StandsFor p a) (sym same) now.same);
+          timed = timed;
           going = λ k low. here.going k (omega (arith, low, at));
         },
         at,
@@ -149,10 +177,10 @@ module _ (c : Case) (is : IsCase c) (b : Body) (here : StandsAt c b) where
       subst (λ r. Sound (record c { rule = r }) s.t (seen s [])) (sym ruled) (subst (λ n. Sound c n (seen s [])) (sym at) (body_sound c b.t b.t (stopped c (player_after c b.t)) s stop))
 
   -- where the session has ended, that is what the parts leave
-  pub left_ended : (s : Body) → Now c b.t b.t (stopped c (player_after c b.t)) s → is_ended (mode_of s.mode) ≡ true → LeftAt c s × (s.t ≡ b.t)
-  left_ended s stop ended =
+  pub left_ended : (s : Body) → Now c b.t b.t (stopped c (player_after c b.t)) s → IsTimed c.film c.network s.download → is_ended (mode_of s.mode) ≡ true → LeftAt c s × (s.t ≡ b.t)
+  left_ended s stop timed ended =
       let over = sym (ap (λ (q : Player). is_ended q.mode) stop.same) ∙ ended in
-      lefts_at (stopped c (player_after c b.t)) s b.t stop (instant_ended c (player_after c b.t) over)
+      lefts_at (stopped c (player_after c b.t)) s b.t stop timed (instant_ended c (player_after c b.t) over)
 
   -- and where it goes on, what the other parts make of it
   module _ (s : Body) (stop : Now c b.t b.t (stopped c (player_after c b.t)) s) (on : is_ended (mode_of s.mode) ≡ false) where
@@ -160,7 +188,7 @@ module _ (c : Case) (is : IsCase c) (b : Body) (here : StandsAt c b) where
     goes = sym (ap (λ (q : Player). is_ended q.mode) stop.same) ∙ on
 
     -- a body that the other parts made of this one is what they leave, at the same instant
-    pub left_gone : (kind : RuleKind) → kind ≡ c.rule → (a : Body) → GoesOn (record c { rule = kind }) (stopped c (player_after c b.t)).history s a → IsTimed c.film c.periods a.download → LeftAt c a × (a.t ≡ b.t)
+    pub left_gone : (kind : RuleKind) → kind ≡ c.rule → (a : Body) → GoesOn (record c { rule = kind }) (stopped c (player_after c b.t)).history s a → IsTimed c.film c.network a.download → LeftAt c a × (a.t ≡ b.t)
     left_gone kind ruled a gone timed =
         let p = stopped c (player_after c b.t) in
         lefts_at (gone_on c p) a (b.t + 1)
@@ -168,13 +196,13 @@ module _ (c : Case) (is : IsCase c) (b : Body) (here : StandsAt c b) where
           sound = gone_on_sound c is b.t p stop.instant stop.sound;
           instant = gone_on_t c p ∙ stop.instant;
           same = subst (λ (q : Player). seen a (gone_on c q).history ≡ gone_on c q) stop.same (subst (λ r. GoesOn (record c { rule = r }) p.history s a) ruled gone);
-          timed = timed;
         })
+        timed
         (instant_goes c (player_after c b.t) goes)
 
 -- what the rule was told before the other parts
 pub told_stop : (c : Case) (b : Body) → StandsAt c b → (heard : List ℕ → Type 0) → heard (stopped c (seen b (player_after c b.t).history)).history → heard (stopped c (player_after c b.t)).history
-told_stop c b here heard h = subst (λ (p : Player). heard (stopped c p).history) here.stands.same h
+told_stop c b here heard h = subst (λ (p : Player). heard (stopped c p).history) here.stands h
 
 -- what the rule was told in an instant, with any history
 module _ (c : Case) (b s : Body) (step : Step (stopped c) b s) (h : List ℕ) (told : List ℕ → Type 0) where
@@ -204,12 +232,12 @@ module _ (c : Case) (is : IsCase c) (a : Body) (left : LeftAt c a) where
   pub session_is : (e : Session) → is_ended (mode_of a.mode) ≡ true → ((h : List ℕ) → shown e ≡ shown_by (seen a h)) → shown e ≡ session_of c
   session_is e ended shows =
       let q = instant c (player_after c a.t) in
-      let over = sym (ap (λ (r : Player). is_ended r.mode) left.stands.same) ∙ ended in
-      shows q.history ∙ ap shown_by left.stands.same ∙ ap shown_by (sym (last_at c a.t at_left_early left.going over))
+      let over = sym (ap (λ (r : Player). is_ended r.mode) left.stands) ∙ ended in
+      shows q.history ∙ ap shown_by left.stands ∙ ap shown_by (sym (last_at c a.t at_left_early left.going over))
 
   module _ (on : is_ended (mode_of a.mode) ≡ false) where
     left_goes : ends_at c a.t ≡ false
-    left_goes = sym (ap (λ (r : Player). is_ended r.mode) left.stands.same) ∙ on
+    left_goes = sym (ap (λ (r : Player). is_ended r.mode) left.stands) ∙ on
 
     left_both : Sound c (a.t + 1) (instant c (player_after c a.t)) × IsOpen (instant c (player_after c a.t))
     left_both = let start = player_sound c is a.t left.going in instant_sound c is a.t (player_after c a.t) start.1 start.0 left_goes
@@ -221,29 +249,28 @@ module _ (c : Case) (is : IsCase c) (a : Body) (left : LeftAt c a) where
     at_left = record {
       sound = left_both.0;
       instant = instant_t c (player_after c a.t) ∙ (player_sound c is a.t left.going).1;
-      same = left.stands.same;
-      timed = left.stands.timed;
+      same = left.stands;
     }
 
     -- the milliseconds can be counted in which nothing happens
     pub rest_left : CanRest c.film c.setup c.ahead a
-    rest_left = rest_ready c is a.t (a.t + 1) (instant c (player_after c a.t)) a at_left_early at_left left_both.1 left_still
+    rest_left = rest_ready c is a.t (a.t + 1) (instant c (player_after c a.t)) a at_left_early at_left left.timed left_both.1 left_still
 
-    -- a millisecond can pass, and a running download can take its own of the network
-    pub pass_left : CanPass (seen a []) × IfSome a.download (CanTake c.periods a.t)
-    pass_left =
-        let q = instant c (player_after c a.t) in
-        (pass_ready c is a.t (a.t + 1) q a at_left_early at_left, take_ready c is a.t (a.t + 1) q a at_left)
+    -- a millisecond can pass
+    pub pass_left : CanPass (seen a [])
+    pass_left = pass_ready c is a.t (a.t + 1) (instant c (player_after c a.t)) a at_left_early at_left
 
-    module _ (b : Body) (passes : Follows (pass_ms c) a b) (timed : IsTimed c.film c.periods a.download → IsTimed c.film c.periods b.download) where
+    module _ (b : Body) (passes : Step (pass_ms c) a b) where
+      next_timed : IsTimed c.film c.network b.download
+      next_timed = passes.timed c.film c.network left.timed
+
       at_next : Now c (a.t + 1) (a.t + 1) (pass_ms c (instant c (player_after c a.t))) b
       at_next =
           let q = instant c (player_after c a.t) in
           record {
             sound = pass_sound c is (a.t + 1) q left_both.0 left_both.1 left_goes;
             instant = pass_t c q ∙ ap (λ k. k + 1) at_left.instant;
-            same = subst (λ (p : Player). seen b (pass_ms c p).history ≡ pass_ms c p) left.stands.same (passes q.history);
-            timed = timed left.stands.timed;
+            same = subst (λ (p : Player). seen b (pass_ms c p).history ≡ pass_ms c p) left.stands (passes.follows q.history);
           }
 
       -- one millisecond alone is a wait too
@@ -255,15 +282,16 @@ module _ (c : Case) (is : IsCase c) (a : Body) (left : LeftAt c a) where
           record {
             later = omega (arith, next);
             stands = record {
-              stands = record { same = subst (λ (p : Player). seen b p.history ≡ p) (sym same) at_next.same; timed = at_next.timed };
+              stands = subst (λ (p : Player). seen b p.history ≡ p) (sym same) at_next.same;
+              timed = next_timed;
               going = λ k low. below_more (λ n. ends_at c n ≡ false) a.t left.going left_goes k (omega (arith, low, next));
             };
             told = ap (λ (p : Player). p.history) same ∙ pass_told c q;
           }
 
-      module _ (ms : ℕ) (few : ms ≤ latest_ms) (quiet : IsTimed c.film c.periods a.download → (h : List ℕ) → IsQuiet c (seen a h) ms) where
+      module _ (ms : ℕ) (few : ms ≤ latest_ms) (quiet : IsTimed c.film c.network a.download → (h : List ℕ) → IsQuiet c (seen a h) ms) where
         left_quiet : IsQuiet c (instant c (player_after c a.t)) ms
-        left_quiet = subst (λ p. IsQuiet c p ms) left.stands.same (quiet left.stands.timed (instant c (player_after c a.t)).history)
+        left_quiet = subst (λ p. IsQuiet c p ms) left.stands (quiet left.timed (instant c (player_after c a.t)).history)
 
         -- the rest of a quiet stretch can pass at once
         pub glide_left : CanGlide b (ms - 1)
@@ -274,20 +302,21 @@ module _ (c : Case) (is : IsCase c) (a : Body) (left : LeftAt c a) where
             (next_ahead c is (a.t + 1) q (pass_ms c q) ms left_both.0 left_goes left_still left_quiet (pass_next c q left_goes))
 
         -- a millisecond and then the rest of a quiet stretch at once are a wait
-        pub waits_left : (r : Body) → (IsTimed c.film c.periods b.download → Follows (glides c (ms - 1)) b r) → r.t ≡ b.t + (ms - 1)
-            → (IsTimed c.film c.periods b.download → IsTimed c.film c.periods r.download) → Waits c a r
+        pub waits_left : (r : Body) → (IsTimed c.film c.network b.download → Follows (glides c (ms - 1)) b r) → r.t ≡ b.t + (ms - 1)
+            → (IsTimed c.film c.network b.download → IsTimed c.film c.network r.download) → Waits c a r
         waits_left r glide t in_time =
             let q = instant c (player_after c a.t) in
-            let some = left_quiet.some in
+            let some = left_quiet.untouched.some in
             let next = body_instant c (a.t + 1) (a.t + 1) (pass_ms c q) b at_next in
             let there : a.t + ms ≡ r.t = omega (arith, some, next, t) in
             let law = stretch c is a.t ms left.going left_goes left_quiet in
             let same : player_after c r.t ≡ glides c (ms - 1) (pass_ms c q) = ap (player_after c) (sym there) ∙ law.1 in
-            let seen_there = subst (λ (p : Player). seen r (glides c (ms - 1) p).history ≡ glides c (ms - 1) p) at_next.same (glide at_next.timed (pass_ms c q).history) in
+            let seen_there = subst (λ (p : Player). seen r (glides c (ms - 1) p).history ≡ glides c (ms - 1) p) at_next.same (glide next_timed (pass_ms c q).history) in
             record {
               later = omega (arith, some, next, t);
               stands = record {
-                stands = record { same = subst (λ (p : Player). seen r p.history ≡ p) (sym same) seen_there; timed = in_time at_next.timed };
+                stands = subst (λ (p : Player). seen r p.history ≡ p) (sym same) seen_there;
+                timed = in_time next_timed;
                 going = λ k low. law.0 k (omega (arith, low, there));
               };
               told = ap (λ (p : Player). p.history) same ∙ pass_told c q;

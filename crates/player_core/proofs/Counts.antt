@@ -1,5 +1,5 @@
 -- The counts by which a session is bounded: segments begun, seeks to come, turns to come, stalls to spare.
-use Rattle.std.proofs.Common.{◌≡◌, ℕ, ◌+◌, ◌-◌, ◌*◌, ◌/◌, ◌%◌, ◌<◌, ◌≤◌, true, false, not, ◌&&◌, cond, eqb, ltb, leb, List, [], ◌∷◌, length, Some, IfSome, refl, sym, ◌∙◌, ap, lt-ltb, arith}
+use Rattle.std.proofs.Common.{◌≡◌, ℕ, ◌+◌, ◌-◌, ◌*◌, ◌/◌, ◌%◌, ◌<◌, ◌≤◌, true, false, not, ◌&&◌, cond, eqb, ltb, leb, List, [], ◌∷◌, length, Some, IfSome, refl, sym, ◌∙◌, ap, lt-ltb, le_trans, mul-le-mul_right, arith}
 use Rattle.std.specs.List.{All}
 use Rattle.std.proofs.lemmas.Bool.{cond-true, cond-false, cond_both, false≢true, ltb-true, and_left, and_right, and_from, ne_eqb, eq-eqb, eqb-true}
 use Rattle.std.proofs.lemmas.Bool.Decides.{nat_tests}
@@ -8,10 +8,11 @@ use Rattle.std.proofs.lemmas.List.Elements.{All-head, All-tail}
 use Rattle.std.proofs.lemmas.List.Sums.{sum_by-cons, count_by-le-length}
 use Rattle.std.proofs.lemmas.Nat.{div_below, le-div, div-add-mod', mod_below}
 use Rattle.lab_model.specs.declared.context.Seek.{Seek}
-use Rattle.lab_model.specs.Film.{Film}
-use Rattle.player_core.specs.State.{Mode, Player, starting, playing, seeking, ended}
+use Rattle.lab_model.specs.Film.{Film, IsFilm, segments_of}
+use Rattle.lab_model.specs.Seeks.{SeeksFit}
+use Rattle.player_core.specs.State.{Case, Mode, Player, first_player, starting, playing, seeking, ended}
 use Rattle.player_core.specs.Parts.{begun, is_playing, seek_at}
-use Rattle.player_core.specs.Sound.{begun_before, is_waiting, seeks_left, spare_stall}
+use Rattle.player_core.specs.Sound.{all_turns, begun_before, is_waiting, seeks_left, spare_stall, turns_left}
 
 -- ---- segments that begin before a position
 
@@ -153,6 +154,15 @@ spare_most p = cond_both (p.stalling && eqb p.x p.y && not (is_waiting p.mode)) 
 -- no more seeks are to come than the script has
 pub seeks_most : (seeks : List Seek) (t : ℕ) → seeks_left seeks t ≤ length seeks
 seeks_most seeks t = count_by-le-length (λ (s : Seek). leb t s.at_ms) seeks
+
+-- at its start a session has no more turns left than any session
+pub turns_first : (c : Case) → IsFilm c.film → SeeksFit c.seeks (segments_of c.film) → turns_left c 0 first_player ≤ all_turns c
+turns_first c film script =
+    let n = segments_of c.film in
+    let some = film.segments.0 in
+    let turns = turns_now n 0 32 (omega (arith, some)) in
+    let seeks = mul-le-mul_right (34 * n + 2) (le_trans (seeks_most c.seeks 0) script.count) in
+    omega (arith, turns, seeks)
 
 -- in play it does not wait for a segment
 pub playing_still : (m : Mode) → m ≡ playing → is_waiting m ≡ true → ⊥

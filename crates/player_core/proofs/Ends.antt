@@ -1,5 +1,5 @@
 -- Sessions end.
-use Rattle.std.proofs.Common.{◌≡◌, ℕ, zero, suc, ◌+◌, ◌*◌, ◌<◌, ◌≤◌, ◌⊎◌, inl, inr, Bool, true, false, sym, ◌∙◌, ap, length, mul-le-mul_right, add-one, ⊎_elim, arith}
+use Rattle.std.proofs.Common.{◌≡◌, ℕ, zero, suc, ◌+◌, ◌*◌, ◌<◌, ◌≤◌, ◌⊎◌, inl, inr, Bool, true, false, sym, ◌∙◌, ap, length, mul-le-mul_left, mul-le-mul_right, add-one, ⊎_elim, arith}
 use Rattle.std.proofs.lemmas.Bool.{cases_Bool, cases_eq, false_from_ne_true, true≢false}
 use Rattle.lab_model.specs.Film.{segments_of}
 use Rattle.network_clock.proofs.Search.{least_before, least_found, least_is}
@@ -15,25 +15,35 @@ use Rattle.player_core.proofs.Moves.{Moved, instant_moves}
 use Rattle.player_core.proofs.Waits.{instant_still, pass_turns, waits_few, waits_less, waits_ms}
 
 -- more milliseconds than a session still lasts
-abbrev pub stay_ms : Case → ℕ → Player → ℕ
-stay_ms c from p = 410000000 * turns_left c from p + waits_ms c p
+abbrev pub stay_ms : (c : Case) → IsCase c → ℕ → Player → ℕ
+stay_ms c is from p = (is.longest + 10001) * turns_left c from p + waits_ms c p
+
+-- one turn fewer is worth any wait
+stride_less : (stride fewer turns wait before : ℕ) → fewer + 1 ≤ turns → wait < stride → (stride * fewer + wait) + 1 ≤ stride * turns + before
+stride_less stride fewer turns wait before less low = let most = mul-le-mul_left stride less in omega (arith, most, low)
 
 -- ---- each millisecond takes one
 
 module _ (c : Case) (is : IsCase c) (n : ℕ) where
   stay_from : (p q : Player) → Moved c n p (n + 1) q → Sound c (n + 1) (pass_ms c q) → turns_left c (n + 1) (pass_ms c q) ≡ turns_left c (n + 1) q → waits_ms c (pass_ms c q) + 1 ≤ waits_ms c q
-      → stay_ms c (n + 1) (pass_ms c q) + 1 ≤ stay_ms c n p
-  stay_from p q (inl less) later same fewer = let few = waits_few c is (n + 1) (pass_ms c q) later in omega (arith, less, few, same)
-  stay_from p q (inr stays) later same fewer = let waits = ap (waits_ms c) stays.0 in let most = stays.1 in omega (arith, waits, most, same, fewer)
+      → stay_ms c is (n + 1) (pass_ms c q) + 1 ≤ stay_ms c is n p
+  stay_from p q (inl less) later same fewer =
+      let few = waits_few c is (n + 1) (pass_ms c q) later in
+      stride_less (is.longest + 10001) (turns_left c (n + 1) (pass_ms c q)) (turns_left c n p) (waits_ms c (pass_ms c q)) (waits_ms c p) (omega (arith, less, same)) (omega (arith, few))
+  stay_from p q (inr stays) later same fewer =
+      let waits = ap (waits_ms c) stays.0 in
+      let most = stays.1 in
+      let turns = mul-le-mul_left (is.longest + 10001) (let m : turns_left c (n + 1) (pass_ms c q) ≤ turns_left c n p = omega (arith, most, same) in m) in
+      omega (arith, waits, turns, fewer)
 
-  stay_less : (p : Player) → p.t ≡ n → Sound c n p → is_ended (instant c p).mode ≡ false → stay_ms c (n + 1) (pass_ms c (instant c p)) + 1 ≤ stay_ms c n p
+  stay_less : (p : Player) → p.t ≡ n → Sound c n p → is_ended (instant c p).mode ≡ false → stay_ms c is (n + 1) (pass_ms c (instant c p)) + 1 ≤ stay_ms c is n p
   stay_less p e h goes =
       let both = instant_sound c is n p e h goes in
       stay_from p (instant c p) (instant_moves c is n p e h goes) (pass_sound c is (n + 1) (instant c p) both.0 both.1 goes) (pass_turns c is (n + 1) (instant c p) both.0 (n + 1))
       (waits_less c is (n + 1) (instant c p) both.0 both.1 (instant_still c p goes) goes)
 
 -- the player is sound and stays no longer than was left
-stays : (c : Case) → IsCase c → (n : ℕ) → ((k : ℕ) → k < n → ends_at c k ≡ false) → n + stay_ms c n (player_after c n) ≤ stay_ms c 0 first_player
+stays : (c : Case) (is : IsCase c) (n : ℕ) → ((k : ℕ) → k < n → ends_at c k ≡ false) → n + stay_ms c is n (player_after c n) ≤ stay_ms c is 0 first_player
 unfolding player_after
 stays c is zero goes = omega arith
 stays c is (suc n) goes =
@@ -41,17 +51,15 @@ stays c is (suc n) goes =
     let sound = player_sound c is n (λ k low. goes k (omega arith)) in
     let on = goes n (omega arith) in
     let less = stay_less c is n (player_after c n) sound.1 sound.0 on in
-    let next = ap (λ p. stay_ms c (suc n) p) (player_next c n on) in
-    let one = ap (λ k. stay_ms c k (pass_ms c (instant c (player_after c n)))) (add-one n) in
+    let next = ap (λ p. stay_ms c is (suc n) p) (player_next c n on) in
+    let one = ap (λ k. stay_ms c is k (pass_ms c (instant c (player_after c n)))) (add-one n) in
     omega (arith, before, less, next, one)
 
-stay_few : (c : Case) → IsCase c → stay_ms c 0 first_player < latest_ms
+stay_few : (c : Case) (is : IsCase c) → stay_ms c is 0 first_player < latest_ms
 stay_few c is =
     let start = start_sound c is in
     let few = waits_few c is 0 first_player start in
-    let wasted = start.wasted in
-    let count = is.film.segments.1 in
-    omega (arith, few, wasted, count)
+    omega (arith, few, is.lasts)
 
 -- ---- a search goes through the instants
 
@@ -69,7 +77,7 @@ searched : (test : ℕ → Bool) (n : ℕ) → ((k : ℕ) × (k < n) × (test k 
 searched test zero = inr (λ k low. absurd (omega arith))
 searched test (suc n) = searched_next test n (searched test n)
 
-ends_by : (c : Case) → IsCase c → (n : ℕ) → stay_ms c 0 first_player < n → ((k : ℕ) × (k < n) × (ends_at c k ≡ true)) ⊎ ((k : ℕ) → k < n → ends_at c k ≡ false) → (k : ℕ) × (k < n) × (ends_at c k ≡ true)
+ends_by : (c : Case) (is : IsCase c) (n : ℕ) → stay_ms c is 0 first_player < n → ((k : ℕ) × (k < n) × (ends_at c k ≡ true)) ⊎ ((k : ℕ) → k < n → ends_at c k ≡ false) → (k : ℕ) × (k < n) × (ends_at c k ≡ true)
 ends_by c is n late (inl found) = found
 ends_by c is n late (inr none) = let most = stays c is n none in absurd (omega (arith, late, most))
 

@@ -5,16 +5,16 @@ use Rattle.std.specs.Result.{IfOk}
 use Rattle.std.proofs.lemmas.Bool.{cases_lt, ne_eqb, false_from_ne_true, eq-eqb, true≢false}
 use Rattle.std.proofs.lemmas.Option.{IfSome_then}
 use Rattle.lab_model.specs.declared.trace.Period.{Period}
+use Rattle.lab_model.specs.Film.{Film}
 use Rattle.network_clock.specs.declared.job.Job.{Job}
-use Rattle.network_clock.specs.Network.{first_at, is_spent, job_after, pass, period_at, start_job}
-use Rattle.network_clock.proofs.Downloads.{first_found, first_not_before}
+use Rattle.network_clock.specs.Network.{job_on, pass, start_job}
 use Rattle.network_clock.proofs.Laws.{job_next, job_start, left_falls}
-use Rattle.player_core.specs.Limits.{latest_ms, longest_download, longest_film, most_segments, most_wasted}
+use Rattle.player_core.specs.Limits.{latest_ms, longest_elapsed, longest_film, most_segments, most_wasted}
 use Rattle.player_core.specs.declared.body.Body.{Body}
 use Rattle.player_core.specs.declared.running.Running.{Running}
 use Rattle.player_core.specs.State.{Case, Download, Player}
 use Rattle.player_core.specs.Sound.{IsCase, Runs, Sound, asked_size}
-use Rattle.player_core.specs.Seen.{CanGlide, CanRest, CanTake, IsTimed, Step, download_of, seen, IsRunningOf, CanArrive}
+use Rattle.player_core.specs.Seen.{CanGlide, CanIdle, CanRest, CanTake, IsTimed, SameRequest, StandsFor, Step, download_of, seen, IsRunningOf, CanArrive}
 use Rattle.player_core.specs.Available.{available_at}
 use Rattle.player_core.specs.Parts.{is_playing}
 use Rattle.player_core.specs.Ready.{CanJudge, CanLoad, CanPass, CanRequest}
@@ -33,15 +33,18 @@ step_as f g old new same step = record { follows = λ h. subst (λ (r : Player).
 pub step_then : (f g : Player → Player) (old mid new : Body) → Step f old mid → Step g mid new → Step (λ p. g (f p)) old new
 step_then f g old mid new first next = record {
   follows = λ h. subst (λ (r : Player). seen new (g r).history ≡ g r) (first.follows h) (next.follows (f (seen old h)).history);
-  timed = λ film ps was. next.timed film ps (first.timed film ps was);
+  timed = λ film network was. next.timed film network (first.timed film network was);
 }
+
+-- a download that was asked for as another was knows its instants where that one does
+pub same_timed : (f : Film) (network : ℕ → Period) (old new : Running) → SameRequest old new → IsTimed f network (Some old) → IsTimed f network (Some new)
+same_timed f network old new same was = (cc, cc)
 
 -- at an instant the body stands for a sound player
 pub record Now (c : Case) (n from : ℕ) (p : Player) (b : Body) : Type 0 where
   pub sound : Sound c from p
   pub instant : p.t ≡ n
-  pub same : seen b p.history ≡ p
-  pub timed : IsTimed c.film c.periods b.download
+  pub same : StandsFor p b
 
 -- where the body goes through a part that leaves the player sound and in its instant, it stands for the player after it
 pub now_step : (c : Case) (n from to : ℕ) (part : Player → Player) (p : Player) (old new : Body)
@@ -50,7 +53,6 @@ now_step c n from to part p old new now step sound instant = record {
   sound = sound;
   instant = instant;
   same = subst (λ (q : Player). seen new (part q).history ≡ part q) now.same (step.follows p.history);
-  timed = step.timed c.film c.periods now.timed;
 }
 
 -- the history has no part in being sound
@@ -125,7 +127,7 @@ judge_of c is p (Some r) runs =
       segment = runs.segment;
       rung = runs.rung;
       asked = runs.asked;
-      elapsed = omega (arith, short);
+      elapsed = short;
       bits = bit_ms_short c is p.t d runs;
       pace = (runs_pace c is p.t d runs).1;
     }
@@ -157,7 +159,6 @@ request_ready c is n from p b low now =
     let s = body_sound c n from p b now in
     let here = body_instant c n from p b now in
     record {
-      setup_fits = is.setup;
       kind_fits = is.rule;
       position = s.position;
       end = end_most c is from (seen b []) s;
@@ -181,88 +182,73 @@ pass_ready c is n from p b low now =
 
 -- ---- a network millisecond of the download
 
-credit_falls : (ps : List Period) (from n : ℕ) (j : Job) → (job_after ps from n j).credit ≤ j.credit
-credit_falls ps from zero j = let e = ap (λ (x : Job). x.credit) (job_start ps from j) in omega (arith, e)
-credit_falls ps from (suc n) j =
-    let e = ap (λ (x : Job). x.credit) (job_next ps from n j) in
-    let before = credit_falls ps from n j in
-    let fell = pass_falls (period_at ps (from + n)) (job_after ps from n j) in
+credit_falls : (net : ℕ → Period) (from n : ℕ) (j : Job) → (job_on net from n j).credit ≤ j.credit
+credit_falls net from zero j = let e = ap (λ (x : Job). x.credit) (job_start net from j) in omega (arith, e)
+credit_falls net from (suc n) j =
+    let e = ap (λ (x : Job). x.credit) (job_next net from n j) in
+    let before = credit_falls net from n j in
+    let fell = pass_falls (net (from + n)) (job_on net from n j) in
     omega (arith, e, before, fell)
   where
     pass_falls : (p : Period) (k : Job) → (pass p k).credit ≤ k.credit
     pass_falls p k = grind arith
 
--- the millisecond of an instant is spent on bits for the first time exactly where they begin
-spent_when : (c : Case) → IsCase c → (t : ℕ) (d : Download) → Runs c t d → d.first ≡ None → is_spent c.periods t d.job ≡ eqb t (first_at c.periods d.asked (asked_size c d))
-spent_when c is t d h none =
-    let ps = c.periods in
-    let bits = asked_size c d in
-    let first = first_at ps d.asked bits in
-    let asked = h.asked in
-    let here : d.asked + (t - d.asked) ≡ t = omega (arith, asked) in
-    let ahead : t ≤ first = ⊎_elim (λ (past : (first < t) × (d.first ≡ Some first)). absurd (some_none first (sym past.1 ∙ none))) (λ (later : (t ≤ first) × (d.first ≡ None)). later.0) (first_cases c is t d h) in
-    ⊎_elim
-    (λ (later : t < first).
-    false_from_ne_true (is_spent ps t d.job) (λ e. first_not_before ps d.asked bits (t - d.asked) (omega (arith, here, later))
-    (ap (λ m. is_spent ps m (job_after ps d.asked (t - d.asked) (start_job bits))) here ∙ ap (λ j. is_spent ps t j) (sym h.job) ∙ e))
-    ∙ sym (ne_eqb t first (λ e. absurd (omega (arith, e, later)))))
-    (λ (now : first ≤ t).
-    let same : first ≡ t = omega (arith, now, ahead) in
-    let spent = subst (λ m. is_spent ps m (job_after ps d.asked (m - d.asked) (start_job bits)) ≡ true) same (first_found ps is.trace d.asked bits).1 in
-    ap (λ j. is_spent ps t j) h.job ∙ spent ∙ sym (eq-eqb t first (sym same)))
-    (cases_lt t first)
-  where
-    some_none : (x : ℕ) → Some x ≡ None → ⊥
-    some_none x e = cc
-
-take_of : (c : Case) → IsCase c → (t : ℕ) (o : Option Running) → IfSome (option_map download_of o) (Runs c t) → IsTimed c.film c.periods o → IfSome o (CanTake c.periods t)
-take_of c is t None runs timed = tt
-take_of c is t (Some r) runs timed =
+take_of : (c : Case) → IsCase c → (t : ℕ) (o : Option Running) → IfSome (option_map download_of o) (Runs c t) → IfSome o CanTake
+take_of c is t None runs = tt
+take_of c is t (Some r) runs =
     let d = download_of r in
     let size = (asked_within c is t d runs).1 in
     let job = runs.job in
-    let credit = credit_falls c.periods d.asked (t - d.asked) (start_job (asked_size c d)) in
-    let left = left_falls c.periods d.asked (t - d.asked) (start_job (asked_size c d)) in
+    let credit = credit_falls c.network d.asked (t - d.asked) (start_job (asked_size c d)) in
+    let left = left_falls c.network d.asked (t - d.asked) (start_job (asked_size c d)) in
     let credit_is = ap (λ (j : Job). j.credit) job in
     let left_is = ap (λ (j : Job). j.left) job in
     record {
       credit = omega (arith, credit, credit_is);
       left = omega (arith, left, left_is, size);
-      begins = λ none. spent_when c is t d runs none ∙ ap (λ (m : ℕ). eqb t m) (sym timed.0);
     }
 
--- its running download can take its network millisecond
-pub take_ready : (c : Case) → IsCase c → (n from : ℕ) (p : Player) (b : Body) → Now c n from p b → IfSome b.download (CanTake c.periods b.t)
-take_ready c is n from p b now = take_of c is b.t b.download (body_sound c n from p b now).running now.timed
+-- its running download can take its network milliseconds
+pub take_ready : (c : Case) → IsCase c → (n from : ℕ) (p : Player) (b : Body) → Now c n from p b → IfSome b.download CanTake
+take_ready c is n from p b now = take_of c is b.t b.download (body_sound c n from p b now).running
 
 -- ---- a stretch in which nothing happens
 
 rest_of : (c : Case) → IsCase c → (t : ℕ) (o : Option Running) → IfSome (option_map download_of o) (Runs c t) → IfSome (option_map download_of o) (λ d. eqb d.job.left 0 ≡ false)
-    → IsTimed c.film c.periods o → IfSome o (λ r. (r.asked ≤ t) × (t < r.done) × (r.done ≤ r.asked + longest_download))
+    → IsTimed c.film c.network o → IfSome o (λ r. (r.asked ≤ t) × (t < r.done) × (r.done ≤ r.asked + longest_elapsed))
 rest_of c is t None runs some timed = tt
 rest_of c is t (Some r) runs some timed =
     let d = download_of r in
     let done = timed.1 in
     let early = runs_on c is t d runs some in
     let soon = done_soon c is t d runs in
-    (runs.asked, omega (arith, done, early), omega (arith, done, soon))
+    (runs.asked, omega (arith, done, early), omega (arith, done, soon, is.short))
 
--- where nothing has arrived and it has no cause to ask, the milliseconds can be counted in which nothing happens to it
-pub rest_ready : (c : Case) → IsCase c → (n from : ℕ) (p : Player) (b : Body) → n < latest_ms → Now c n from p b → IsOpen p → IsStill c p → CanRest c.film c.setup c.ahead b
-rest_ready c is n from p b low now some still =
+-- where it has no cause to ask, the milliseconds can be counted in which it asks for nothing and nothing begins
+pub idle_ready : (c : Case) → IsCase c → (n from : ℕ) (p : Player) (b : Body) → Now c n from p b → IsStill c p → CanIdle c.film c.setup c.ahead b
+idle_ready c is n from p b now still =
     let s = body_sound c n from p b now in
-    let here = body_instant c n from p b now in
     let waits = (subst (IsStill c) (sym now.same) still).waits in
     record {
       position = s.position;
       end = end_most c is from (seen b []) s;
-      instant = omega (arith, here, low);
-      runs = rest_of c is b.t b.download s.running (subst IsOpen (sym now.same) some) now.timed;
       waits = λ none next.
           ⊎_elim (λ full. inl full)
           (λ fits. ⊎_elim (λ early. inr early)
           (λ there. absurd (true≢false (sym (asks_true c (seen b p.history) (ap (option_map download_of) none) next fits there) ∙ waits (ap (option_map download_of) none)))) (cases_lt b.t (available_at c.film c.ahead b.k)))
           (cases_lt c.setup.buffer_ms (b.y - b.x + c.film.seg_ms));
+    }
+
+-- and where nothing has arrived, those in which nothing happens to it
+pub rest_ready : (c : Case) → IsCase c → (n from : ℕ) (p : Player) (b : Body) → n < latest_ms → Now c n from p b → IsTimed c.film c.network b.download → IsOpen p → IsStill c p
+    → CanRest c.film c.setup c.ahead b
+rest_ready c is n from p b low now timed some still =
+    let s = body_sound c n from p b now in
+    let here = body_instant c n from p b now in
+    record {
+      idles = idle_ready c is n from p b now still;
+      instant = omega (arith, here, low);
+      runs = rest_of c is b.t b.download s.running (subst IsOpen (sym now.same) some) timed;
     }
 
 -- so many milliseconds can pass at once for it that do not take play past the end of what is loaded
@@ -277,5 +263,5 @@ glide_ready c is n from ms p b low few now ahead =
         times = s.times;
         moves = subst (λ (q : Player). is_playing q.mode ≡ true → q.x < q.y → q.x + ms ≤ q.y) (sym now.same) ahead;
       };
-      jobs = IfSome_then b.download (take_ready c is n from p b now) (λ r can. (can.credit, can.left));
+      jobs = take_ready c is n from p b now;
     }

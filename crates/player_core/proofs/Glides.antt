@@ -1,7 +1,7 @@
 -- Milliseconds in which nothing begins, one after another and at once.
 use Rattle.std.proofs.Common.{◌≡◌, ◌∙◌, ℕ, ◌+◌, ◌-◌, ◌%◌, ◌<◌, ◌≤◌, ◌&&◌, ⊎_elim, Bool, true, false, cond, eqb, ltb, not, ◌++◌, ◌∷◌, [], Option, Some, None, IfSome, option_map, refl, sym, ap, lt-ltb, le-ltb, arith}
 use Rattle.std.proofs.lemmas.Bool.{cases_lt, cond_both, cond-true, cond-false, true≢false, ne_eqb}
-use Rattle.network_clock.specs.Network.{done_at, first_at, job_after, start_job}
+use Rattle.network_clock.specs.Network.{done_on, first_on, job_on, start_job}
 use Rattle.network_clock.proofs.Laws.{job_apart, job_more, job_start}
 use Rattle.player_core.specs.declared.session.Event.TheVariants as event
 use Rattle.player_core.specs.State.{Case, Download, Mode, Player, starting, playing, seeking, ended}
@@ -15,18 +15,18 @@ use Rattle.player_core.proofs.Soundness.{ticked}
 
 module _ (c : Case) (is : IsCase c) where
   -- something is left of a download that isn't done
-  pub runs_open : (t : ℕ) (d : Download) → Runs c t d → t < done_at c.periods d.asked (asked_size c d) → eqb d.job.left 0 ≡ false
+  pub runs_open : (t : ℕ) (d : Download) → Runs c t d → t < done_on c.network d.asked (asked_size c d) → eqb d.job.left 0 ≡ false
   runs_open t d h early = ne_eqb d.job.left 0 (λ none. let done = runs_done c is t d h none in absurd (omega (arith, done, early)))
 
   taken_none : (t : ℕ) (d : Download) → Runs c t d → taken_ms c t 0 d ≡ d
   taken_none t d h =
-      let first = first_at c.periods d.asked (asked_size c d) in
+      let first = first_on c.network d.asked (asked_size c d) in
       let here : t + 0 ≡ t = omega arith in
-      ap (λ j. record d { job = j; first = cond (ltb first (t + 0)) (Some first) None }) (job_start c.periods t d.job)
+      ap (λ j. record d { job = j; first = cond (ltb first (t + 0)) (Some first) None }) (job_start c.network t d.job)
       ∙ ap (λ n. record d { first = cond (ltb first n) (Some first) None }) here
       ∙ ap (λ o. record d { first = o }) (sym h.first)
 
-  taken_runs : (t m : ℕ) (d : Download) → Runs c t d → t + m ≤ done_at c.periods d.asked (asked_size c d) → Runs c (t + m) (taken_ms c t m d)
+  taken_runs : (t m : ℕ) (d : Download) → Runs c t d → t + m ≤ done_on c.network d.asked (asked_size c d) → Runs c (t + m) (taken_ms c t m d)
   taken_runs t m d h early =
       let bits = asked_size c d in
       let asked = h.asked in
@@ -36,28 +36,28 @@ module _ (c : Case) (is : IsCase c) where
         segment = h.segment;
         rung = h.rung;
         asked = omega (arith, asked);
-        job = ap (job_after c.periods t m) h.job
-            ∙ ap (λ n. job_after c.periods n m (job_after c.periods d.asked (t - d.asked) (start_job bits))) (sym here)
-            ∙ sym (job_apart c.periods d.asked (t - d.asked) m (start_job bits))
-            ∙ ap (λ n. job_after c.periods d.asked n (start_job bits)) parts;
+        job = ap (job_on c.network t m) h.job
+            ∙ ap (λ n. job_on c.network n m (job_on c.network d.asked (t - d.asked) (start_job bits))) (sym here)
+            ∙ sym (job_apart c.network d.asked (t - d.asked) m (start_job bits))
+            ∙ ap (λ n. job_on c.network d.asked n (start_job bits)) parts;
         first = refl;
         done = early;
       }
 
-  taken_next : (t m : ℕ) (d : Download) → Runs c t d → t + m < done_at c.periods d.asked (asked_size c d) → takes c (t + m) (taken_ms c t m d) ≡ taken_ms c t (m + 1) d
+  taken_next : (t m : ℕ) (d : Download) → Runs c t d → t + m < done_on c.network d.asked (asked_size c d) → takes c (t + m) (taken_ms c t m d) ≡ taken_ms c t (m + 1) d
   taken_next t m d h early =
-      let first = first_at c.periods d.asked (asked_size c d) in
+      let first = first_on c.network d.asked (asked_size c d) in
       let one : (t + m) + 1 ≡ t + (m + 1) = omega arith in
-      ap (λ j. record (takes c (t + m) (taken_ms c t m d)) { job = j }) (sym (job_more c.periods t m d.job))
-      ∙ ap (λ o. record d { job = job_after c.periods t (m + 1) d.job; first = o }) (first_next c is (t + m) (taken_ms c t m d) (taken_runs t m d h (omega (arith, early))))
-      ∙ ap (λ n. record d { job = job_after c.periods t (m + 1) d.job; first = cond (ltb first n) (Some first) None }) one
+      ap (λ j. record (takes c (t + m) (taken_ms c t m d)) { job = j }) (sym (job_more c.network t m d.job))
+      ∙ ap (λ o. record d { job = job_on c.network t (m + 1) d.job; first = o }) (first_next c is (t + m) (taken_ms c t m d) (taken_runs t m d h (omega (arith, early))))
+      ∙ ap (λ n. record d { job = job_on c.network t (m + 1) d.job; first = cond (ltb first n) (Some first) None }) one
 
   -- the same where there may be none
   any_taken_none : (t : ℕ) (o : Option Download) → IfSome o (Runs c t) → option_map (taken_ms c t 0) o ≡ o
   any_taken_none t None h = refl
   any_taken_none t (Some d) h = ap Some (taken_none t d h)
 
-  any_taken_next : (t m : ℕ) (o : Option Download) → IfSome o (Runs c t) → IfSome o (λ d. t + m < done_at c.periods d.asked (asked_size c d))
+  any_taken_next : (t m : ℕ) (o : Option Download) → IfSome o (Runs c t) → IfSome o (λ d. t + m < done_on c.network d.asked (asked_size c d))
       → option_map (takes c (t + m)) (option_map (taken_ms c t m) o) ≡ option_map (taken_ms c t (m + 1)) o
   any_taken_next t m None h early = refl
   any_taken_next t m (Some d) h early = ap Some (taken_next t m d h early)
@@ -101,7 +101,7 @@ module _ (c : Case) (is : IsCase c) where
       none_more b n = cond_both b (n + 0) n (λ k. k ≡ n) (λ e. omega arith) (λ e. refl)
 
   -- and one more
-  next_in : (p : Player) (m : ℕ) (mode : Mode) → is_ended mode ≡ false → IsSmooth c p mode m → IfSome p.download (Runs c p.t) → IfSome p.download (λ d. p.t + m < done_at c.periods d.asked (asked_size c d))
+  next_in : (p : Player) (m : ℕ) (mode : Mode) → is_ended mode ≡ false → IsSmooth c p mode m → IfSome p.download (Runs c p.t) → IfSome p.download (λ d. p.t + m < done_on c.network d.asked (asked_size c d))
       → ticked (passes_in c (takes_any c (glides_in c m p mode)) mode) ≡ glides_in c (m + 1) p mode
   next_in p m starting goes smooth runs early =
       moved_same p ((p.t + m) + 1) (p.t + (m + 1)) p.x p.x _ _ ((p.startup_ms + m) + 1) (p.startup_ms + (m + 1)) p.stall_ms p.stall_ms p.seek_ms p.seek_ms false p.stalling
@@ -137,6 +137,6 @@ module _ (c : Case) (is : IsCase c) where
       (cases_lt p.x p.y)
 
   -- milliseconds that pass at once and one more, in which nothing begins, are so many and one at once
-  pub glides_next : (p : Player) (m : ℕ) → is_ended p.mode ≡ false → IsSmooth c p p.mode m → IfSome p.download (Runs c p.t) → IfSome p.download (λ d. p.t + m < done_at c.periods d.asked (asked_size c d))
+  pub glides_next : (p : Player) (m : ℕ) → is_ended p.mode ≡ false → IsSmooth c p p.mode m → IfSome p.download (Runs c p.t) → IfSome p.download (λ d. p.t + m < done_on c.network d.asked (asked_size c d))
       → pass_ms c (glides c m p) ≡ glides c (m + 1) p
   glides_next p m goes smooth runs early = next_in p m p.mode goes smooth runs early

@@ -11,7 +11,7 @@ use Rattle.player_core.specs.State.{Case, Download, Mode, Player, first_player, 
 use Rattle.player_core.specs.Parts.{abandon, arrival, arrives, asks, begins, can_ask, finish, gives_up, gives_up_any, instant, is_ended, is_playing, loads, pass_ms, passes_in, plays, progress_of, request, rung_for, seek, seek_at, seeks_to, stalls_on, takes}
 use Rattle.player_core.specs.Session.{ends_at, player_after}
 use Rattle.player_core.specs.Sound.{IsCase, IsOf, Sound}
-use Rattle.player_core.proofs.Counts.{seeks_most, turns_now}
+use Rattle.player_core.proofs.Counts.{seeks_most, turns_first}
 use Rattle.player_core.proofs.Soundness.{IsOpen, abandon_open, abandon_sound, arrival_open, arrival_sound, finish_open, finish_sound, pass_sound, request_open, request_sound, seek_open, seek_sound}
 pub use Rattle.player_core.specs.Parts.{gone_on, stopped}
 
@@ -24,8 +24,7 @@ start_sound c is =
     let some = is.film.segments.0 in
     let count = is.seeks.count in
     let most = seeks_most c.seeks 0 in
-    let turns = turns_now n 0 32 (omega (arith, some)) in
-    let seeks = mul-le-mul_right (34 * n + 2) (le_trans most count) in
+    let turns = turns_first c is.film is.seeks in
     let rows = mul-le-mul_right n (le_trans most count) in
     record {
       position = omega arith;
@@ -43,8 +42,8 @@ start_sound c is =
       played = All-nil (IsOf c.film);
       times = omega arith;
       begun = omega (arith, rows);
-      wasted = omega (arith, turns, seeks);
-      stalls = omega (arith, turns, seeks);
+      wasted = omega (arith, turns);
+      stalls = omega (arith, turns);
     }
 
 -- ---- the instant stays the same in its parts

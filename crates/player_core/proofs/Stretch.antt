@@ -4,7 +4,7 @@ use Rattle.std.proofs.lemmas.Bool.{and_from, and_left, and_right, cases_Bool, ca
 use Rattle.std.proofs.lemmas.Option.{cond_some}
 use Rattle.std.proofs.lemmas.Nat.{div-add-mod'}
 use Rattle.lab_model.specs.Film.{segments_of}
-use Rattle.network_clock.specs.Network.{done_at}
+use Rattle.network_clock.specs.Network.{done_on}
 use Rattle.abandonment.specs.Test.{abandonment, is_better, is_due, is_late, target_of}
 use Rattle.player_core.specs.declared.session.Event.TheVariants as event
 use Rattle.player_core.specs.Available.{available_at}
@@ -12,11 +12,30 @@ use Rattle.player_core.specs.State.{Case, Download, Mode, Player, starting, play
 use Rattle.player_core.specs.Parts.{abandon, arrives, asks, can_ask, finish, gives_up, gives_up_any, goes_on, instant, is_ended, is_playing, loads, pass_ms, passes_in, plays, progress_of, request, rung_for, seek, seek_at, seeks_to, stalls_on, takes, takes_any}
 use Rattle.player_core.specs.Session.{ends_at, player_after}
 use Rattle.player_core.specs.Sound.{IsCase, Runs, Sound, asked_size}
-use Rattle.player_core.specs.Quiet.{IsQuiet, glides, is_due_ms, taken_ms}
+use Rattle.player_core.specs.Quiet.{IsQuiet, IsUntouched, glides, is_due_ms, taken_ms}
 use Rattle.player_core.proofs.Soundness.{abandonment_lower, can_ask_true}
 use Rattle.player_core.proofs.Players.{instant_sound, pass_t, passed_sound, player_next, player_sound}
 use Rattle.player_core.proofs.Waits.{IsInside, IsStill, instant_still, passes_passed, plays_x}
 use Rattle.player_core.proofs.Glides.{IsSmooth, glides_next, glides_none, runs_open}
+
+-- ---- shorter stretches, and those of a player without seeks and abandonment
+
+-- what holds for so many milliseconds holds for fewer
+pub untouched_less : (c : Case) (q : Player) (n m : ℕ) → IsUntouched c q n → 1 ≤ m → m ≤ n → IsUntouched c q m
+untouched_less c q n m long some low = record {
+  some = some;
+  asks = λ none next. ⊎_elim (λ full. inl (omega (arith, full, low))) (λ early. inr (omega (arith, early, low))) (long.asks none next);
+  plays = λ on ahead. let within = long.plays on ahead in omega (arith, within, low);
+}
+
+-- without seeks and abandonment nothing happens until the arrival as long as nothing of the player's own does
+pub quiet_alone : (c : Case) (q : Player) (ms : ℕ) → c.setup.abandon ≡ false → c.seeks ≡ [] → IsUntouched c q ms → IfSome q.download (λ d. q.t + ms ≤ done_on c.network d.asked (asked_size c d)) → IsQuiet c q ms
+quiet_alone c q ms off none untouched arrives = record {
+  untouched = untouched;
+  arrives = arrives;
+  judges = λ on. absurd (true≢false (sym on ∙ off));
+  seeks = λ m after low. ap (λ ss. seek_at ss m) none;
+}
 
 -- ---- an instant at which nothing happens
 
@@ -24,13 +43,13 @@ use Rattle.player_core.proofs.Glides.{IsSmooth, glides_next, glides_none, runs_o
 record IsIdle (c : Case) (p : Player) : Type 0 where
   goes : is_ended p.mode ≡ false
   inside : IsInside c p
-  runs : IfSome p.download (λ d. p.t < done_at c.periods d.asked (asked_size c d))
+  runs : IfSome p.download (λ d. p.t < done_on c.network d.asked (asked_size c d))
   judges : c.setup.abandon ≡ true → IfSome p.download (λ d. (d.rung ≡ 0) ⊎ (is_due_ms (p.t - d.asked) ≡ false))
   seeks : seek_at c.seeks p.t ≡ None
   asks : p.download ≡ None → p.k < segments_of c.film → (c.setup.buffer_ms < p.y - p.x + c.film.seg_ms) ⊎ (p.t < available_at c.film c.ahead p.k)
 
 module _ (c : Case) (is : IsCase c) (p : Player) where
-  idle_arrives : (o : Option Download) → IfSome o (Runs c p.t) → IfSome o (λ d. p.t < done_at c.periods d.asked (asked_size c d)) → arrives c p o ≡ p
+  idle_arrives : (o : Option Download) → IfSome o (Runs c p.t) → IfSome o (λ d. p.t < done_on c.network d.asked (asked_size c d)) → arrives c p o ≡ p
   idle_arrives None runs early = refl
   idle_arrives (Some d) runs early = cond-false (eqb d.job.left 0) (loads c p d) p (runs_open c is p.t d runs early)
 
@@ -156,13 +175,13 @@ module _ (x s n : ℕ) (within : x % s + n ≤ s) where
 -- ---- the instants of a stretch
 
 module _ (c : Case) (t ms until : ℕ) where
-  any_runs : (later : ℕ) (o : Option Download) → later < until → IfSome o (λ d. until ≤ done_at c.periods d.asked (asked_size c d))
-      → IfSome (option_map (takes c t) o) (λ d. later < done_at c.periods d.asked (asked_size c d))
+  any_runs : (later : ℕ) (o : Option Download) → later < until → IfSome o (λ d. until ≤ done_on c.network d.asked (asked_size c d))
+      → IfSome (option_map (takes c t) o) (λ d. later < done_on c.network d.asked (asked_size c d))
   any_runs later None low h = tt
   any_runs later (Some d) low h = omega (arith, low, h)
 
-  glide_runs : (later : ℕ) (o : Option Download) → IfSome o (λ d. later < done_at c.periods d.asked (asked_size c d))
-      → IfSome (option_map (taken_ms c t ms) o) (λ d. later < done_at c.periods d.asked (asked_size c d))
+  glide_runs : (later : ℕ) (o : Option Download) → IfSome o (λ d. later < done_on c.network d.asked (asked_size c d))
+      → IfSome (option_map (taken_ms c t ms) o) (λ d. later < done_on c.network d.asked (asked_size c d))
   glide_runs later None h = tt
   glide_runs later (Some d) h = h
 
@@ -190,7 +209,7 @@ module _ (c : Case) (is : IsCase c) (from : ℕ) (q p : Player) (n : ℕ) (sound
   ahead_ms : is_playing q.mode ≡ true → q.x < q.y → q.x + n ≤ q.y
   ahead_ms on low =
       let end = sound.loaded_end in
-      let most = end_ahead q.x c.film.seg_ms n (quiet.plays on low) q.k (omega (arith, end, low)) in
+      let most = end_ahead q.x c.film.seg_ms n (quiet.untouched.plays on low) q.k (omega (arith, end, low)) in
       omega (arith, most, end)
 
   -- and after the first of them as many fewer
@@ -198,7 +217,7 @@ module _ (c : Case) (is : IsCase c) (from : ℕ) (q p : Player) (n : ℕ) (sound
   next_ahead on low =
       let plays : is_playing q.mode ≡ true = sym (ap is_playing next.mode) ∙ on in
       let y = next.y in
-      ⊎_elim (λ (ahead : q.x < q.y). let x = (next.goes plays ahead).0 in let whole = ahead_ms plays ahead in let some = quiet.some in omega (arith, x, y, whole, some))
+      ⊎_elim (λ (ahead : q.x < q.y). let x = (next.goes plays ahead).0 in let whole = ahead_ms plays ahead in let some = quiet.untouched.some in omega (arith, x, y, whole, some))
       (λ (full : q.y ≤ q.x). let x = (next.stalls plays full).0 in absurd (omega (arith, x, y, low, full))) (cases_lt q.x q.y)
 
   rests_smooth : (j : ℕ) → suc j < n → IsSmooth c p p.mode j
@@ -212,7 +231,7 @@ module _ (c : Case) (is : IsCase c) (from : ℕ) (q p : Player) (n : ℕ) (sound
         let x = moved.0 in
         let whole = ahead_ms plays ahead in
         let here : p.x + j ≡ q.x + suc j = omega (arith, x) in
-        (moved.1, (λ none. none_begins q.x c.film.seg_ms n (quiet.plays plays ahead) (suc j) (omega arith) inside (ap (λ i. i % c.film.seg_ms) (sym here) ∙ none)), omega (arith, x, y, whole, inside)))
+        (moved.1, (λ none. none_begins q.x c.film.seg_ms n (quiet.untouched.plays plays ahead) (suc j) (omega arith) inside (ap (λ i. i % c.film.seg_ms) (sym here) ∙ none)), omega (arith, x, y, whole, inside)))
         (λ (full : q.y ≤ q.x). let stood = (next.stalls plays full).0 in absurd (omega (arith, stood, y, low, full))) (cases_lt q.x q.y);
     stalls = λ on full.
         let plays : is_playing q.mode ≡ true = sym (ap is_playing next.mode) ∙ on in
@@ -263,7 +282,7 @@ module _ (c : Case) (is : IsCase c) (from : ℕ) (q p : Player) (n : ℕ) (sound
   rests_asks : (j : ℕ) → suc j < n → q.download ≡ None → q.k < segments_of c.film → (c.setup.buffer_ms < q.y - (glides c j p).x + c.film.seg_ms) ⊎ (q.t + n ≤ available_at c.film c.ahead q.k)
   rests_asks j inside none low =
       let buffer = is.setup.buffer.0 in
-      let asks = quiet.asks none low in
+      let asks = quiet.untouched.asks none low in
       ⊎_elim
       (λ (full : c.setup.buffer_ms + n ≤ q.y - q.x + c.film.seg_ms).
       ⊎_elim (λ (moves : (is_playing q.mode ≡ true) × (q.x < q.y) × ((glides c j p).x ≡ q.x + suc j)). let x = moves.2 in inl (omega (arith, full, x, inside, buffer)))
@@ -272,10 +291,10 @@ module _ (c : Case) (is : IsCase c) (from : ℕ) (q p : Player) (n : ℕ) (sound
       (λ (early : q.t + n ≤ available_at c.film c.ahead q.k). inr early)
       asks
 
-  rests_runs : (j : ℕ) → suc j < n → IfSome p.download (λ d. p.t + j < done_at c.periods d.asked (asked_size c d))
+  rests_runs : (j : ℕ) → suc j < n → IfSome p.download (λ d. p.t + j < done_on c.network d.asked (asked_size c d))
   rests_runs j inside =
       let t = next.t in
-      subst (λ o. IfSome o (λ d. p.t + j < done_at c.periods d.asked (asked_size c d))) (sym next.download) (any_runs c q.t 0 (q.t + n) (p.t + j) q.download (omega (arith, t, inside)) quiet.arrives)
+      subst (λ o. IfSome o (λ d. p.t + j < done_on c.network d.asked (asked_size c d))) (sym next.download) (any_runs c q.t 0 (q.t + n) (p.t + j) q.download (omega (arith, t, inside)) quiet.arrives)
 
   rests_idle : (j : ℕ) → suc j < n → IsIdle c (glides c j p)
   rests_idle j inside =
@@ -304,6 +323,17 @@ module _ (c : Case) (is : IsCase c) (t n : ℕ) (before : (k : ℕ) → k < t �
       let start = player_sound c is t before in
       (passed_sound c is t (player_after c t) start.1 start.0 goes).running
 
+  -- the instants after the first leave the player as it is
+  stays : (j : ℕ) → suc j < n → ((k : ℕ) → k < t + suc j → ends_at c k ≡ false) × (player_after c (t + suc j) ≡ glides c j (pass_ms c (instant c (player_after c t))))
+      → instant c (glides c j (pass_ms c (instant c (player_after c t)))) ≡ glides c j (pass_ms c (instant c (player_after c t)))
+  stays j low here =
+      let q = instant c (player_after c t) in
+      let start = player_sound c is t before in
+      let both = instant_sound c is t (player_after c t) start.1 start.0 goes in
+      let sound = player_sound c is (t + suc j) here.0 in
+      idle_instant c is (glides c j (pass_ms c q)) (t + suc j) (subst (Sound c (t + suc j)) here.1 sound.0)
+      (rests_idle c is (t + 1) q (pass_ms c q) n both.0 goes (instant_still c (player_after c t) goes) quiet (pass_next c q goes) j low)
+
   stretch_to : (j : ℕ) → j < n → ((k : ℕ) → k < t + suc j → ends_at c k ≡ false) × (player_after c (t + suc j) ≡ glides c j (pass_ms c (instant c (player_after c t))))
   stretch_to zero low =
       let q = instant c (player_after c t) in
@@ -318,11 +348,7 @@ module _ (c : Case) (is : IsCase c) (t n : ℕ) (before : (k : ℕ) → k < t �
       let both = instant_sound c is t (player_after c t) start.1 start.0 goes in
       let next = pass_next c q goes in
       let here = stretch_to j (omega (arith, low)) in
-      let sound = player_sound c is (t + suc j) here.0 in
-      let p = glides c j (pass_ms c q) in
-      let stays : instant c p ≡ p = idle_instant c is p (t + suc j) (subst (Sound c (t + suc j)) here.1 sound.0)
-      (rests_idle c is (t + 1) q (pass_ms c q) n both.0 goes (instant_still c (player_after c t) goes) quiet next j low) in
-      let same = ap (instant c) here.1 ∙ stays in
+      let same = ap (instant c) here.1 ∙ stays j low here in
       let on : ends_at c (t + suc j) ≡ false = ap (λ (r : Player). is_ended r.mode) same ∙ ap is_ended next.mode ∙ goes in
       let one : t + suc (suc j) ≡ suc (t + suc j) = omega arith in
       let more = below_more (λ k. ends_at c k ≡ false) (t + suc j) here.0 on in (
@@ -336,7 +362,15 @@ module _ (c : Case) (is : IsCase c) (t n : ℕ) (before : (k : ℕ) → k < t �
 pub stretch : (c : Case) → IsCase c → (t n : ℕ) → ((k : ℕ) → k < t → ends_at c k ≡ false) → ends_at c t ≡ false → IsQuiet c (instant c (player_after c t)) n
     → ((k : ℕ) → k < t + n → ends_at c k ≡ false) × (player_after c (t + n) ≡ glides c (n - 1) (pass_ms c (instant c (player_after c t))))
 stretch c is t n before goes quiet =
-    let some = quiet.some in
+    let some = quiet.untouched.some in
     let last : t + suc (n - 1) ≡ t + n = omega (arith, some) in
     let there = stretch_to c is t n before goes quiet (n - 1) (omega (arith, some)) in
     ((λ k low. there.0 k (omega (arith, low, last))), ap (player_after c) (sym last) ∙ there.1)
+
+-- within the stretch each instant after the first leaves the player as it is
+pub stretch_idle : (c : Case) → IsCase c → (t n : ℕ) → ((k : ℕ) → k < t → ends_at c k ≡ false) → ends_at c t ≡ false → IsQuiet c (instant c (player_after c t)) n
+    → (i : ℕ) → 1 ≤ i → i < n → instant c (player_after c (t + i)) ≡ player_after c (t + i)
+stretch_idle c is t n before goes quiet zero some low = absurd (omega arith)
+stretch_idle c is t n before goes quiet (suc j) some low =
+    let here = stretch_to c is t n before goes quiet j (omega arith) in
+    ap (instant c) here.1 ∙ stays c is t n before goes quiet j low here ∙ sym here.1

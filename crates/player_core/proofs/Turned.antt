@@ -113,9 +113,9 @@ unfolding player_after
 player_first c = refl
 
 -- at the start there is no download that has to know its instants
-pub none_timed : (c : Case) (b : Body) → seen b [] ≡ first_player → IsTimed c.film c.periods b.download
+pub none_timed : (c : Case) (b : Body) → seen b [] ≡ first_player → IsTimed c.film c.network b.download
 none_timed c b e = none_of b.download (ap (λ (p : Player). p.download) e)
   where
-    none_of : (o : Option Running) → option_map download_of o ≡ None → IsTimed c.film c.periods o
+    none_of : (o : Option Running) → option_map download_of o ≡ None → IsTimed c.film c.network o
     none_of None h = tt
     none_of (Some r) h = cc

@@ -59,7 +59,7 @@ module _ {R : Type 0} (kind : R → RuleKind) (stands_for : R → List ℕ → T
         let c = case_on o (kind first) in
         let later = top.later in
         let past = waits.later in
-        let told = subst (λ (p : Player). stands_for heard (instant (case_on o (kind rule)) p).history) top.stands.stands.same (hears.told (player_after c b.t).history top.told) in
+        let told = subst (λ (p : Player). stands_for heard (instant (case_on o (kind rule)) p).history) top.stands.stands (hears.told (player_after c b.t).history top.told) in
         record {
           same = hears.same ∙ top.same;
           told = subst (stands_for heard) (sym (waits.told ∙ ap (λ n. (instant c (player_after c n)).history) at))

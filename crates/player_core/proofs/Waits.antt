@@ -4,7 +4,7 @@ use Rattle.std.proofs.lemmas.Bool.{and_from, cases_lt, cond_both, cond-true, con
 use Rattle.lab_model.specs.declared.context.Seek.{Seek}
 use Rattle.lab_model.specs.declared.context.Played.{Played}
 use Rattle.lab_model.specs.Film.{segments_of}
-use Rattle.network_clock.specs.Network.{done_at}
+use Rattle.network_clock.specs.Network.{done_on}
 use Rattle.abandonment.specs.Test.{abandonment}
 use Rattle.player_core.specs.Limits.{longest_film}
 use Rattle.player_core.specs.declared.session.Event.TheVariants as event
@@ -18,7 +18,7 @@ use Rattle.player_core.proofs.Players.{gone_on, pass_t, stopped}
 
 -- the milliseconds that a player can wait: for its download, or for room and for the next segment to be there
 abbrev pub waits_for : Case → Player → Option Download → ℕ
-waits_for c p (Some d) = done_at c.periods d.asked (asked_size c d) - p.t
+waits_for c p (Some d) = done_on c.network d.asked (asked_size c d) - p.t
 waits_for c p None = (p.y - p.x) + cond (ltb p.k (segments_of c.film)) (available_at c.film c.ahead p.k - p.t) 0
 
 abbrev pub waits_ms : Case → Player → ℕ
@@ -33,20 +33,20 @@ module _ (c : Case) (is : IsCase c) (from : ℕ) (p : Player) (h : Sound c from 
       let count = is.film.segments.1 in
       omega (arith, most, count)
 
-  waits_few_for : (o : Option Download) → p.download ≡ o → waits_for c p o ≤ 300010000
+  waits_few_for : (o : Option Download) → p.download ≡ o → waits_for c p o ≤ is.longest + 10000
   waits_few_for None e =
       let whole = end_most p.k h.next in
       let end = h.loaded_end in
-      cond_both (ltb p.k (segments_of c.film)) (available_at c.film c.ahead p.k - p.t) 0 (λ n. (p.y - p.x) + n ≤ 300010000)
-      (λ low. let next = end_most (p.k + 1) (let l = ltb-true p.k (segments_of c.film) low in omega (arith, l)) in omega (arith, whole, end, next)) (λ e. omega (arith, whole, end))
+      cond_both (ltb p.k (segments_of c.film)) (available_at c.film c.ahead p.k - p.t) 0 (λ n. (p.y - p.x) + n ≤ is.longest + 10000)
+      (λ low. let next = end_most (p.k + 1) (let l = ltb-true p.k (segments_of c.film) low in omega (arith, l)) in omega (arith, whole, end, next, is.long)) (λ e. omega (arith, whole, end, is.long))
   waits_few_for (Some d) e =
       let runs : Runs c p.t d = subst (λ o. IfSome o (Runs c p.t)) e h.running in
       let soon = done_soon c is p.t d runs in
       let asked = runs.asked in
       omega (arith, soon, asked)
 
-  -- a player can wait at most 300010000 milliseconds
-  pub waits_few : waits_ms c p ≤ 300010000
+  -- a player can wait at most as long as the longest download runs
+  pub waits_few : waits_ms c p ≤ is.longest + 10000
   waits_few = waits_few_for p.download refl
 
 -- ---- what holds of a player whose instant did not end the session

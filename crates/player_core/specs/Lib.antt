@@ -1,5 +1,6 @@
 pub mod Limits
 pub mod Available
+pub mod Scene
 pub mod State
 pub mod Parts
 pub mod Session
@@ -9,3 +10,4 @@ pub mod Sound
 pub mod Seen
 pub mod Ready
 pub mod Quiet
+pub mod Lists

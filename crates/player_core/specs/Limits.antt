@@ -25,13 +25,9 @@ whole_credit = 100000000
 abbrev pub most_bits_in_ms : ℕ
 most_bits_in_ms = 10000000
 
--- the most milliseconds that a download takes
-abbrev pub longest_download : ℕ
-longest_download = 300010000
-
 -- more milliseconds than any download takes, up to which one can be judged for abandonment
 abbrev pub longest_elapsed : ℕ
-longest_elapsed = 1000000000
+longest_elapsed = 2000000000
 
 -- an instant before which every session within the limits ends
 abbrev pub latest_ms : ℕ

@@ -3,13 +3,14 @@ use Rattle.std.specs.Prelude.{ℕ, ◌+◌, ◌-◌, ◌*◌, ◌%◌, ◌==◌,
 use Rattle.std.specs.Int.{div_ceil}
 use Rattle.std.specs.List.{sum_by}
 use Rattle.std.specs.Option.{option_map_or}
+use Rattle.lab_model.specs.declared.trace.Period.{Period}
 use Rattle.lab_model.specs.declared.context.Seek.{Seek}
 use Rattle.lab_model.specs.declared.context.Played.{Played}
 use Rattle.lab_model.specs.declared.context.Context.{Context}
 use Rattle.lab_model.specs.Film.{Film, segments_of, size_of}
 use Rattle.lab_model.specs.Rates.{rate_of}
 use Rattle.lab_model.specs.Choice.{choice}
-use Rattle.network_clock.specs.Network.{is_spent, network_ms, start_job}
+use Rattle.network_clock.specs.Network.{pass, spends, start_job}
 use Rattle.abandonment.specs.declared.Progress.{Progress}
 use Rattle.abandonment.specs.Test.{abandonment}
 use Rattle.player_core.specs.declared.session.Event.{Event}
@@ -173,16 +174,24 @@ goes_on c p = if is_ended p.mode then p else request c (seek c (abandon c p))
 abbrev pub instant : Case → Player → Player
 instant c p = goes_on c (finish c (arrival c p))
 
--- a download takes its network millisecond
-abbrev pub takes : Case → ℕ → Download → Download
-takes c t d = record d {
-  job = network_ms c.periods t d.job;
-  first = if is_some d.first then d.first else (if is_spent c.periods t d.job then Some t else None);
+-- a download takes its network millisecond, which lies in this period
+abbrev pub takes_in : Period → ℕ → Download → Download
+takes_in period t d = record d {
+  job = pass period d.job;
+  first = if is_some d.first then d.first else (if spends period d.job then Some t else None);
 }
+
+-- a download takes the network millisecond of an instant
+abbrev pub takes : Case → ℕ → Download → Download
+takes c t d = takes_in (c.network t) t d
+
+-- a download, if there is one, takes its network millisecond, which lies in this period
+abbrev pub takes_any_in : Period → Player → Player
+takes_any_in period p = record p { download = option_map (takes_in period p.t) p.download }
 
 -- a download, if there is one, takes its network millisecond
 abbrev pub takes_any : Case → Player → Player
-takes_any c p = record p { download = option_map (takes c p.t) p.download }
+takes_any c p = takes_any_in (c.network p.t) p
 
 -- the segment at whose beginning the position stands begins to play
 abbrev pub begins : Player → List Played → Player
@@ -206,9 +215,13 @@ passes_in c p playing = if nat_lt p.x p.y then plays c p else stalls_on p
 passes_in c p seeking = record p { seek_ms = p.seek_ms + 1; stalling = false }
 passes_in c p ended = p
 
+-- the millisecond passes, in this period of the network
+abbrev pub pass_in : Case → Period → Player → Player
+pass_in c period p = let r = passes_in c (takes_any_in period p) p.mode in record r { t = r.t + 1 }
+
 -- the millisecond passes
 abbrev pub pass_ms : Case → Player → Player
-pass_ms c p = let r = passes_in c (takes_any c p) p.mode in record r { t = r.t + 1 }
+pass_ms c p = pass_in c (c.network p.t) p
 
 -- the player millisecond: the parts, and then, unless the session has ended, the millisecond passes
 abbrev pub player_ms : Case → Player → Player

@@ -2,7 +2,7 @@
 -- Quiet stretches: milliseconds in which nothing begins and nothing happens, and what so many of them make of the player at once.
 use Rattle.std.specs.Prelude.{◌≡◌, ℕ, ◌+◌, ◌-◌, ◌%◌, ◌≤◌, ◌<◌, ◌==◌, ◌&&◌, ◌⊎◌, Bool, true, false, not, nat_le, nat_lt, Some, None, IfSome, option_map, if◌then◌else◌}
 use Rattle.lab_model.specs.Film.{segments_of}
-use Rattle.network_clock.specs.Network.{done_at, first_at, job_after}
+use Rattle.network_clock.specs.Network.{done_on, first_on, job_on}
 use Rattle.player_core.specs.Limits.{judged_each, judged_from}
 use Rattle.player_core.specs.Available.{available_at}
 use Rattle.player_core.specs.State.{Case, Download, Mode, Player, starting, playing, seeking, ended}
@@ -30,8 +30,8 @@ is_due_ms elapsed = elapsed % judged_each == 0 && nat_le judged_from elapsed
 -- a download takes so many network milliseconds at once
 abbrev pub taken_ms : Case → ℕ → ℕ → Download → Download
 taken_ms c t ms d = record d {
-  job = job_after c.periods t ms d.job;
-  first = if nat_lt (first_at c.periods d.asked (asked_size c d)) (t + ms) then Some (first_at c.periods d.asked (asked_size c d)) else None;
+  job = job_on c.network t ms d.job;
+  first = if nat_lt (first_on c.network d.asked (asked_size c d)) (t + ms) then Some (first_on c.network d.asked (asked_size c d)) else None;
 }
 
 -- a download, if there is one, takes so many network milliseconds at once
@@ -55,11 +55,15 @@ glides_in c ms p mode = let q = moves_in ms (takes_all c ms p) mode in record q 
 abbrev pub glides : Case → ℕ → Player → Player
 glides c ms p = glides_in c ms p p.mode
 
--- after the instant of a player nothing happens for so many milliseconds
-pub record IsQuiet (c : Case) (q : Player) (ms : ℕ) : Type 0 where
+-- for so many milliseconds after its instant a player has no cause to ask for a segment, and after the first none begins and no stall does
+pub record IsUntouched (c : Case) (q : Player) (ms : ℕ) : Type 0 where
   pub some : 1 ≤ ms
-  pub arrives : IfSome q.download (λ d. q.t + ms ≤ done_at c.periods d.asked (asked_size c d))
-  pub judges : c.setup.abandon ≡ true → IfSome q.download (λ d. (d.rung ≡ 0) ⊎ ((m : ℕ) → q.t < m → m < q.t + ms → is_due_ms (m - d.asked) ≡ false))
-  pub seeks : (m : ℕ) → q.t < m → m < q.t + ms → seek_at c.seeks m ≡ None
   pub asks : q.download ≡ None → q.k < segments_of c.film → (c.setup.buffer_ms + ms ≤ q.y - q.x + c.film.seg_ms) ⊎ (q.t + ms ≤ available_at c.film c.ahead q.k)
   pub plays : is_playing q.mode ≡ true → q.x < q.y → q.x % c.film.seg_ms + ms ≤ c.film.seg_ms
+
+-- after the instant of a player nothing happens for so many milliseconds
+pub record IsQuiet (c : Case) (q : Player) (ms : ℕ) : Type 0 where
+  pub untouched : IsUntouched c q ms
+  pub arrives : IfSome q.download (λ d. q.t + ms ≤ done_on c.network d.asked (asked_size c d))
+  pub judges : c.setup.abandon ≡ true → IfSome q.download (λ d. (d.rung ≡ 0) ⊎ ((m : ℕ) → q.t < m → m < q.t + ms → is_due_ms (m - d.asked) ≡ false))
+  pub seeks : (m : ℕ) → q.t < m → m < q.t + ms → seek_at c.seeks m ≡ None

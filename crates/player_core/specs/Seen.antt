@@ -1,17 +1,17 @@
 -- Not part of the model: what the proofs keep.
 -- What the values of the player's code stand for.
-use Rattle.std.specs.Prelude.{◌≡◌, ℕ, ◌+◌, ◌-◌, ◌<◌, ◌≤◌, ◌==◌, ◌⊎◌, List, [], true, false, Option, None, IfSome, option_map}
+use Rattle.std.specs.Prelude.{◌≡◌, ℕ, ◌+◌, ◌-◌, ◌<◌, ◌≤◌, ◌⊎◌, List, [], true, false, Option, None, IfSome, option_map}
 use Rattle.lab_model.specs.declared.trace.Period.{Period}
 use Rattle.lab_model.specs.declared.setup.Setup.{Setup}
 use Rattle.lab_model.specs.Rules.{RuleKind}
 use Rattle.lab_model.specs.Film.{Film, rungs_of, segments_of, size_of}
-use Rattle.network_clock.specs.Network.{done_at, first_at, is_spent}
+use Rattle.network_clock.specs.Network.{done_on, first_on, period_at}
 use Rattle.player_core.specs.declared.course.Course.{Course}
 use Rattle.player_core.specs.declared.running.Running.{Running}
 use Rattle.player_core.specs.declared.body.Body.{Body}
 use Rattle.player_core.specs.declared.mode.Mode.{Mode as BodyMode}
 use Rattle.player_core.specs.declared.mode.Mode.TheVariants as mode
-use Rattle.player_core.specs.Limits.{latest_answer, latest_ms, longest_download, longest_film, most_left, whole_credit}
+use Rattle.player_core.specs.Limits.{latest_answer, latest_ms, longest_elapsed, longest_film, most_left, whole_credit}
 use Rattle.player_core.specs.Course.{case_on}
 use Rattle.player_core.specs.State.{Case, Download, Mode, Player, starting, playing, seeking, ended}
 use Rattle.player_core.specs.Available.{available_at}
@@ -63,9 +63,9 @@ abbrev pub GoesOn : Case → List ℕ → Body → Body → Type 0
 GoesOn c history old new = seen new (gone_on c (seen old history)).history ≡ gone_on c (seen old history)
 
 -- a running download of some film and network knows when its bits begin and when it is done
-abbrev pub IsTimed : Film → List Period → Option Running → Type 0
-IsTimed f periods download = IfSome download (λ r.
-    (r.begins ≡ first_at periods r.asked (size_of f r.segment r.rung)) × (r.done ≡ done_at periods r.asked (size_of f r.segment r.rung)))
+abbrev pub IsTimed : Film → (ℕ → Period) → Option Running → Type 0
+IsTimed f network download = IfSome download (λ r.
+    (r.begins ≡ first_on network r.asked (size_of f r.segment r.rung)) × (r.done ≡ done_on network r.asked (size_of f r.segment r.rung)))
 
 -- a download that was asked for as another was
 abbrev pub SameRequest : Running → Running → Type 0
@@ -77,7 +77,7 @@ SameDownload old new = (new.t ≡ old.t) × (new.download ≡ old.download)
 
 -- the running download of a body, if there is one, knows when its bits begin and when it is done
 abbrev pub KnowsEnd : Course → Body → Type 0
-KnowsEnd o b = IsTimed o.film.now o.clock.now b.download
+KnowsEnd o b = IsTimed o.scene.now.film (period_at o.scene.now.periods) b.download
 
 -- a running download is of a segment of the film and a rung of its ladder
 abbrev pub IsRunningOf : Film → Running → Type 0
@@ -87,16 +87,16 @@ IsRunningOf f r = (r.segment < segments_of f) × (r.rung < rungs_of f)
 abbrev pub CanArrive : Film → Body → Type 0
 CanArrive f b = IfSome b.download (λ r. r.job.left ≡ 0 → CanLoad f (seen b []) (download_of r))
 
--- the body went through this part of an instant, and a running download still knows its instants
+-- the body went through this part, and a running download still knows its instants, whatever the network
 pub record Step (part : Player → Player) (old new : Body) : Type 0 where
   pub follows : Follows part old new
-  pub timed : (f : Film) (ps : List Period) → IsTimed f ps old.download → IsTimed f ps new.download
+  pub timed : (f : Film) (network : ℕ → Period) → IsTimed f network old.download → IsTimed f network new.download
 
 -- on a course, with a rule of any kind, the body went through this part of a millisecond
 abbrev pub FollowsOn : Course → (Case → Player → Player) → Body → Body → Type 0
 FollowsOn o part old new = (kind : RuleKind) → Follows (part (case_on o kind)) old new
 
--- the same of a part of an instant, after which a running download still knows its instants
+-- the same of a part after which a running download still knows its instants
 abbrev pub Steps : Course → (Case → Player → Player) → Body → Body → Type 0
 Steps o part old new = (kind : RuleKind) → Step (part (case_on o kind)) old new
 
@@ -105,19 +105,20 @@ pub record Hears {R : Type 0} (kind : R → RuleKind) (stands_for : R → List �
   pub same : kind new ≡ kind old
   pub told : (history : List ℕ) → stands_for old history → stands_for new (part (case_on o (kind old)) (seen b history)).history
 
--- the body stands for this player, and a running download knows its instants
-pub record StandsFor (c : Case) (p : Player) (b : Body) : Type 0 where
-  pub same : seen b p.history ≡ p
-  pub timed : IsTimed c.film c.periods b.download
+-- the body stands for this player
+abbrev pub StandsFor : Player → Body → Type 0
+StandsFor p b = seen b p.history ≡ p
 
 -- the body stands for the player of a session before its instant, and no instant before it was the end
 pub record StandsAt (c : Case) (b : Body) : Type 0 where
-  pub stands : StandsFor c (player_after c b.t) b
+  pub stands : StandsFor (player_after c b.t) b
+  pub timed : IsTimed c.film c.network b.download
   pub going : (k : ℕ) → k < b.t → ends_at c k ≡ false
 
 -- the same after the parts of the instant
 pub record LeftAt (c : Case) (b : Body) : Type 0 where
-  pub stands : StandsFor c (instant c (player_after c b.t)) b
+  pub stands : StandsFor (instant c (player_after c b.t)) b
+  pub timed : IsTimed c.film c.network b.download
   pub going : (k : ℕ) → k < b.t → ends_at c k ≡ false
 
 -- with some rule it does, and the session goes on
@@ -137,11 +138,10 @@ pub record Waits (c : Case) (old new : Body) : Type 0 where
 abbrev pub WaitsOn : Course → Body → Body → Type 0
 WaitsOn o old new = (kind : RuleKind) → IsCase (case_on o kind) → LeftAt (case_on o kind) old → Waits (case_on o kind) old new
 
--- a running download can take its network millisecond
-pub record CanTake (periods : List Period) (t : ℕ) (r : Running) : Type 0 where
+-- a running download can take its network milliseconds
+pub record CanTake (r : Running) : Type 0 where
   pub credit : r.job.credit ≤ whole_credit
   pub left : r.job.left ≤ most_left
-  pub begins : r.first ≡ None → is_spent periods t r.job ≡ (t == r.begins)
 
 -- a body may not ask for its next segment: it does not fit the buffer, or it is not there
 abbrev pub MustWait : Film → Setup → ℕ → Body → Type 0
@@ -151,13 +151,17 @@ MustWait f set ahead b = (set.buffer_ms < b.y - b.x + f.seg_ms) ⊎ (b.t < avail
 abbrev pub MustWaitFor : Film → Setup → ℕ → Body → ℕ → Type 0
 MustWaitFor f set ahead b ms = (set.buffer_ms + ms ≤ b.y - b.x + f.seg_ms) ⊎ (b.t + ms ≤ available_at f ahead b.k)
 
--- the milliseconds can be counted in which nothing happens to a body
-pub record CanRest (f : Film) (set : Setup) (ahead : ℕ) (b : Body) : Type 0 where
+-- the milliseconds can be counted in which a body asks for nothing and nothing begins
+pub record CanIdle (f : Film) (set : Setup) (ahead : ℕ) (b : Body) : Type 0 where
   pub position : b.x ≤ b.y
   pub end : b.y ≤ longest_film
-  pub instant : b.t < latest_ms
-  pub runs : IfSome b.download (λ r. (r.asked ≤ b.t) × (b.t < r.done) × (r.done ≤ r.asked + longest_download))
   pub waits : b.download ≡ None → b.k < segments_of f → MustWait f set ahead b
+
+-- the milliseconds can be counted in which nothing happens to a body
+pub record CanRest (f : Film) (set : Setup) (ahead : ℕ) (b : Body) : Type 0 where
+  pub idles : CanIdle f set ahead b
+  pub instant : b.t < latest_ms
+  pub runs : IfSome b.download (λ r. (r.asked ≤ b.t) × (b.t < r.done) × (r.done ≤ r.asked + longest_elapsed))
 
 -- so many milliseconds of the mode can pass at once
 pub record CanMove (b : Body) (ms : ℕ) : Type 0 where
@@ -169,4 +173,4 @@ pub record CanMove (b : Body) (ms : ℕ) : Type 0 where
 -- and those of a download
 pub record CanGlide (b : Body) (ms : ℕ) : Type 0 where
   pub moves : CanMove b ms
-  pub jobs : IfSome b.download (λ r. (r.job.credit ≤ whole_credit) × (r.job.left ≤ most_left))
+  pub jobs : IfSome b.download CanTake

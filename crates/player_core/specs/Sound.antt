@@ -5,22 +5,13 @@ use Rattle.std.specs.List.{All, count_by}
 use Rattle.lab_model.specs.declared.context.Seek.{Seek}
 use Rattle.lab_model.specs.declared.context.Played.{Played}
 use Rattle.lab_model.specs.Film.{Film, IsFilm, rungs_of, segments_of, size_of}
-use Rattle.lab_model.specs.Cycle.{IsTrace}
 use Rattle.lab_model.specs.Fit.{SetupFits}
 use Rattle.lab_model.specs.Rules.{KindFits}
 use Rattle.lab_model.specs.Seeks.{SeeksFit}
-use Rattle.network_clock.specs.Network.{done_at, first_at, job_after, start_job}
-use Rattle.player_core.specs.Limits.{longest_film, most_bits}
-use Rattle.player_core.specs.State.{Case, Download, Mode, Player, starting, playing, seeking, ended}
-
--- the case keeps the limits
-pub record IsCase (c : Case) : Type 0 where
-  pub film : IsFilm c.film
-  pub trace : IsTrace c.periods
-  pub setup : SetupFits c.setup c.film
-  pub seeks : SeeksFit c.seeks (segments_of c.film)
-  pub ahead : c.ahead ≤ longest_film
-  pub rule : KindFits c.rule c.film
+use Rattle.network_clock.specs.Network.{done_on, first_on, job_on, longest_ms, start_job}
+use Rattle.network_clock.specs.Flow.{IsFlowing}
+use Rattle.player_core.specs.Limits.{latest_ms, longest_film, most_bits}
+use Rattle.player_core.specs.State.{Case, Download, Mode, Player, first_player, starting, playing, seeking, ended}
 
 -- the size of the segment that a download asked for
 abbrev pub asked_size : Case → Download → ℕ
@@ -31,9 +22,9 @@ pub record Runs (c : Case) (t : ℕ) (d : Download) : Type 0 where
   pub segment : d.segment < segments_of c.film
   pub rung : d.rung < rungs_of c.film
   pub asked : d.asked ≤ t
-  pub job : d.job ≡ job_after c.periods d.asked (t - d.asked) (start_job (asked_size c d))
-  pub first : d.first ≡ (if nat_lt (first_at c.periods d.asked (asked_size c d)) t then Some (first_at c.periods d.asked (asked_size c d)) else None)
-  pub done : t ≤ done_at c.periods d.asked (asked_size c d)
+  pub job : d.job ≡ job_on c.network d.asked (t - d.asked) (start_job (asked_size c d))
+  pub first : d.first ≡ (if nat_lt (first_on c.network d.asked (asked_size c d)) t then Some (first_on c.network d.asked (asked_size c d)) else None)
+  pub done : t ≤ done_on c.network d.asked (asked_size c d)
 
 -- the mode in which play waits for a segment with nothing loaded
 abbrev pub is_waiting : Mode → Bool
@@ -64,6 +55,19 @@ turns_to_end segments p = if nat_lt p.k segments then 32 * (segments - p.k - 1) 
 -- how many turns are left to a player, the seeks from an instant on among them
 abbrev pub turns_left : Case → ℕ → Player → ℕ
 turns_left c from p = seeks_left c.seeks from * (34 * segments_of c.film + 2) + turns_to_end (segments_of c.film) p
+
+-- the case keeps the limits: bits come on its network, and so soon that no download and no session runs too long
+pub record IsCase (c : Case) : Type 0 where
+  pub film : IsFilm c.film
+  pub longest : ℕ
+  pub network : IsFlowing longest c.network
+  pub long : 2 * longest_film ≤ longest
+  pub short : longest + 10000 < longest_ms
+  pub lasts : (longest + 10001) * (turns_left c 0 first_player + 1) < latest_ms
+  pub setup : SetupFits c.setup c.film
+  pub seeks : SeeksFit c.seeks (segments_of c.film)
+  pub ahead : c.ahead ≤ longest_film
+  pub rule : KindFits c.rule c.film
 
 -- how many turns a session has at most
 abbrev pub all_turns : Case → ℕ

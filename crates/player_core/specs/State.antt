@@ -7,20 +7,21 @@ use Rattle.lab_model.specs.declared.context.Played.{Played}
 use Rattle.lab_model.specs.Film.{Film}
 use Rattle.lab_model.specs.Rules.{RuleKind}
 use Rattle.network_clock.specs.declared.job.Job.{Job}
+use Rattle.network_clock.specs.Network.{period_at}
 use Rattle.player_core.specs.declared.session.Event.{Event}
 
--- all that a session depends on: film, network, setup, seek script, media ahead, and rule
+-- all that a session depends on: film, network by the period of each instant, setup, seek script, media ahead, and rule
 pub record Case : Type 0 where
   pub film : Film
-  pub periods : List Period
+  pub network : ℕ → Period
   pub setup : Setup
   pub seeks : List Seek
   pub ahead : ℕ
   pub rule : RuleKind
 
--- the case of these parts
+-- the case of these parts, where the network is a trace
 abbrev pub case_of : Film → List Period → Setup → List Seek → ℕ → RuleKind → Case
-case_of f periods set seeks ahead kind = record { film = f; periods = periods; setup = set; seeks = seeks; ahead = ahead; rule = kind }
+case_of f periods set seeks ahead kind = record { film = f; network = period_at periods; setup = set; seeks = seeks; ahead = ahead; rule = kind }
 
 -- before the first segment, playing, after a seek, and at the end
 pub data Mode : Type 0 where

@@ -3,17 +3,22 @@
 
 mod body;
 mod course;
+mod laws;
 mod limits;
 mod mode;
+pub mod parts;
 mod player;
 mod quiet;
 mod rules;
 mod running;
+mod scene;
 mod script;
 mod session;
 
+pub use laws::rules_are_lists;
 pub use player::{available, play, play_from, seeks_fit};
 pub use rules::{Fixed, Listed};
+pub use scene::Scene;
 pub use session::{Event, Session};
 
 #[cfg(test)]

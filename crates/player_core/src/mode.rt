@@ -7,9 +7,13 @@ ghost use Rattle.player_core.specs.Seen.{mode_of};
 /// Before the first segment, playing, after a seek, and at the end.
 #[derive(Clone, Copy)]
 pub enum Mode {
+    /// It waits for its first segment.
     Starting,
+    /// It plays, or stalls.
     Playing,
+    /// It waits for the segment that was sought.
     Seeking,
+    /// All is played.
     Ended,
 }
 

@@ -1,6 +1,6 @@
 //! The player.
 
-ghost use Rattle.std.specs.Prelude.{◌≡◌, ℕ, ◌+◌, ◌*◌, ◌<◌, ◌≤◌, ◌↔◌, [], length, IfOk, IsTrue};
+ghost use Rattle.std.specs.Prelude.{◌≡◌, ℕ, ◌+◌, ◌*◌, ◌<◌, ◌≤◌, ◌↔◌, [], false, length, IfOk, IsTrue};
 ghost use Rattle.std.specs.List.{All};
 ghost use Rattle.lab_model.specs.Film.{rungs_of, segments_of};
 ghost use Rattle.lab_model.specs.Fit.{SetupFits};
@@ -11,10 +11,12 @@ ghost use Rattle.player_core.specs.State.{case_of};
 ghost use Rattle.player_core.specs.Course.{case_on};
 ghost use Rattle.player_core.specs.Sound.{IsCase};
 ghost use Rattle.player_core.specs.Session.{session_of, shown};
+ghost use Rattle.player_core.specs.Lists.{IsListed};
 
 use crate::body::Body;
 use crate::course::Course;
 use crate::limits::{ALL_AHEAD_MS, LATEST_MS, LATEST_SEEK_MS, MOST_SEEKS};
+use crate::scene::Scene;
 use crate::session::Session;
 use lab_model::{Manifest, NoMemory, Rule, Seek, Setup};
 use network_clock::Clock;
@@ -95,15 +97,13 @@ pub fn play_from<T: Rule + Drop>(
     ensures count { IfOk result (λ s. length s.played.items ≤ 34000) }
     ensures ends { IfOk result (λ s. s.end < 1000000000000000) }
     ensures times { IfOk result (λ s. s.startup_ms + s.stall_ms + s.seek_ms ≤ s.end) }
+    ensures listed { set.now.abandon ≡ false → seeks.now ≡ []
+        → IfOk result (λ s. IsListed m.now clock.now set.now ahead s) }
 {
-    prove!(m.segments() > 0);
-    prove!(!clock.periods().is_empty());
+    let scene = Scene::new(m, clock, set, ahead);
     let course = Course {
-        film: m,
-        clock,
-        setup: set,
+        scene: &scene,
         seeks,
-        ahead,
     };
     session_on(alloc, &course, rule)
 }
@@ -128,6 +128,8 @@ pub fn play<T: Rule + Drop>(
     ensures count { IfOk result (λ s. length s.played.items ≤ 34000) }
     ensures ends { IfOk result (λ s. s.end < 1000000000000000) }
     ensures times { IfOk result (λ s. s.startup_ms + s.stall_ms + s.seek_ms ≤ s.end) }
+    ensures listed { set.now.abandon ≡ false → seeks.now ≡ []
+        → IfOk result (λ s. IsListed m.now clock.now set.now all_ahead s) }
 {
     play_from(alloc, m, clock, set, seeks, ALL_AHEAD_MS, rule)
 }

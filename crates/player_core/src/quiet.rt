@@ -6,8 +6,8 @@ ghost use Rattle.lab_model.specs.Rules.{RuleKind};
 ghost use Rattle.player_core.specs.Limits.{latest_ms, longest_film};
 ghost use Rattle.player_core.specs.Available.{available_at};
 ghost use Rattle.player_core.specs.Parts.{is_playing};
-ghost use Rattle.player_core.specs.Quiet.{IsQuiet, glides, moves_in, takes_all};
-ghost use Rattle.player_core.specs.Seen.{CanGlide, CanMove, CanRest, CanWait, Follows, FollowsOn, IsTimed, KnowsEnd, MustWait, MustWaitFor, SameDownload, WaitsOn, mode_of, seen};
+ghost use Rattle.player_core.specs.Quiet.{IsQuiet, IsUntouched, glides, moves_in, takes_all};
+ghost use Rattle.player_core.specs.Seen.{CanGlide, CanIdle, CanMove, CanRest, CanWait, Follows, FollowsOn, IsTimed, KnowsEnd, MustWait, MustWaitFor, SameDownload, WaitsOn, mode_of, seen};
 ghost use Rattle.player_core.specs.State.{Case};
 ghost use Rattle.player_core.specs.Course.{case_on};
 
@@ -24,27 +24,28 @@ impl Body {
     fn request_in(&self, course: &Course<'_>) -> u64
         requires position { self.now.x ≤ self.now.y }
         requires end { self.now.y ≤ longest_film }
-        requires waits { self.now.k < segments_of course.now.film.now
-            → MustWait course.now.film.now course.now.setup.now course.now.ahead self.now }
+        requires waits { self.now.k < segments_of course.now.scene.now.film
+            → MustWait course.now.scene.now.film course.now.scene.now.setup course.now.scene.now.ahead self.now }
         ensures some { 1 ≤ result }
-        ensures asks { self.now.k < segments_of course.now.film.now
-            → MustWaitFor course.now.film.now course.now.setup.now course.now.ahead
+        ensures asks { self.now.k < segments_of course.now.scene.now.film
+            → MustWaitFor course.now.scene.now.film course.now.scene.now.setup course.now.scene.now.ahead
             self.now result }
     {
-        if self.k >= course.film.segments() {
+        if self.k >= course.scene.film().segments() {
             return LATEST_MS;
         }
-        let level = self.y - self.x + course.film.seg_ms();
-        if level > course.setup.buffer_ms {
-            (level - course.setup.buffer_ms) as u64
+        let level = self.y - self.x + course.scene.film().seg_ms();
+        if level > course.scene.setup().buffer_ms {
+            (level - course.scene.setup().buffer_ms) as u64
         } else {
-            available(course.film, course.ahead, self.k) - self.t
+            course.scene.available(self.k) - self.t
         }
     }
 
     /// The milliseconds until a segment begins or play stalls.
     fn begin_in(&self, m: &Manifest) -> u64
         ensures some { 1 ≤ result }
+        ensures limit { result ≤ latest_ms }
         ensures plays { is_playing (mode_of self.now.mode) ≡ true → self.now.x < self.now.y
             → self.now.x % m.now.seg_ms + result ≤ m.now.seg_ms }
     {
@@ -55,21 +56,36 @@ impl Body {
         }
     }
 
+    /// The milliseconds, at least 1, for which a player has no cause to ask for a segment after an instant, and after the first of which
+    /// no segment begins and no stall.
+    pub fn untouched_ms(&self, course: &Course<'_>) -> u64
+        requires { CanIdle course.now.scene.now.film course.now.scene.now.setup course.now.scene.now.ahead self.now }
+        ensures some { 1 ≤ result }
+        ensures limit { result ≤ latest_ms }
+        ensures untouched { (kind : RuleKind) (history : List ℕ)
+            → IsUntouched (case_on course.now kind) (seen self.now history) result }
+    {
+        let begin = self.begin_in(course.scene.film());
+        if self.download.is_some() {
+            return begin;
+        }
+        begin.min(self.request_in(course))
+    }
+
     /// The milliseconds, at least 1, for which nothing happens after an instant: no arrival, test for abandonment, seek or request, and
     /// no beginning of a segment or of a stall after the first of them.
     fn quiet_ms(&self, course: &Course<'_>) -> u64
-        requires { CanRest course.now.film.now course.now.setup.now course.now.ahead self.now }
+        requires { CanRest course.now.scene.now.film course.now.scene.now.setup course.now.scene.now.ahead self.now }
         ensures some { 1 ≤ result }
         ensures limit { result ≤ latest_ms }
         ensures quiet { KnowsEnd course.now self.now → (kind : RuleKind) (history : List ℕ)
             → IsQuiet (case_on course.now kind) (seen self.now history) result }
     {
-        let wait = match self.download {
-            Some(d) => d.quiet_ms(self.t, course.setup),
-            None => self.request_in(course),
-        };
-        wait.min(self.begin_in(course.film))
-            .min(seek_in(course.seeks, self.t))
+        let own = self.untouched_ms(course).min(seek_in(course.seeks, self.t));
+        match self.download {
+            Some(d) => own.min(d.quiet_ms(self.t, course.scene.setup())),
+            None => own,
+        }
     }
 
     /// A download, if there is one, takes so many network milliseconds at once.
@@ -87,7 +103,7 @@ impl Body {
     }
 
     /// So many milliseconds of the mode pass at once, in which nothing begins.
-    fn move_on(&mut self, ms: u64)
+    pub fn move_on(&mut self, ms: u64)
         requires { CanMove self.old ms }
         ensures moves { Follows (λ p. moves_in ms p p.mode) self.old self.new }
         ensures same { SameDownload self.old self.new }

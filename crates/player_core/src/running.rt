@@ -3,32 +3,39 @@
 ghost use Rattle.std.specs.Prelude.{◌≡◌, ℕ, ◌+◌, ◌-◌, ◌*◌, ◌<◌, ◌≤◌, ◌==◌, ◌⊎◌, true, false, Option, Some, None, IfSome, is_some, nat_lt, if◌then◌else◌};
 ghost use Rattle.lab_model.specs.Film.{rungs_of, segments_of, size_of};
 ghost use Rattle.lab_model.specs.Rules.{RuleKind};
-ghost use Rattle.network_clock.specs.Network.{first_at, is_spent, job_after};
+ghost use Rattle.network_clock.specs.Network.{first_at, spends};
 ghost use Rattle.abandonment.specs.Test.{abandonment};
-ghost use Rattle.player_core.specs.Limits.{latest_answer, latest_ms, longest_download, longest_elapsed, most_bits, most_bits_in_ms, most_left, whole_credit};
+ghost use Rattle.player_core.specs.Limits.{latest_answer, longest_elapsed, most_bits, most_bits_in_ms};
 ghost use Rattle.player_core.specs.State.{Case};
 ghost use Rattle.player_core.specs.Course.{case_on};
-ghost use Rattle.player_core.specs.Parts.{bit_ms_of, got_of, progress_of, sample_of, takes};
+ghost use Rattle.player_core.specs.Parts.{bit_ms_of, got_of, progress_of, sample_of, takes_in};
 ghost use Rattle.player_core.specs.Quiet.{is_due_ms, taken_ms};
 ghost use Rattle.player_core.specs.Ready.{CanJudge};
-ghost use Rattle.player_core.specs.Seen.{SameRequest, download_of};
+ghost use Rattle.player_core.specs.Seen.{CanTake, SameRequest, download_of};
 
 use crate::course::Course;
 use crate::limits::{JUDGED_EACH_MS, JUDGED_FROM_MS};
 use abandonment::{Progress, abandon_to};
-use lab_model::{Manifest, Sample, Setup};
+use lab_model::{Manifest, Period, Sample, Setup};
 use network_clock::Job;
 
 /// A running download: what was asked for and when, when its bits begin and when it is done, what is left of it, and the first instant
 /// spent on bits, if any.
 #[derive(Clone, Copy)]
 pub struct Running {
+    /// The segment, counted from 0.
     pub segment: u16,
+    /// The rung, counted from 0.
     pub rung: u8,
+    /// The instant of its request.
     pub asked: u64,
+    /// The first instant that is spent on bits.
     pub begins: u64,
+    /// The instant at which nothing is left, if it has the course's network for itself.
     pub done: u64,
+    /// What is left of it.
     pub job: Job,
+    /// The first instant spent on bits, if it is past.
     pub first: Option<u64>,
 }
 
@@ -97,7 +104,7 @@ impl Running {
     pub fn quiet_ms(&self, t: u64, set: &Setup) -> u64
         requires asked { self.now.asked ≤ t }
         requires running { t < self.now.done }
-        requires short { self.now.done ≤ self.now.asked + longest_download }
+        requires short { self.now.done ≤ self.now.asked + longest_elapsed }
         ensures some { 1 ≤ result }
         ensures arrives { t + result ≤ self.now.done }
         ensures judges { set.now.abandon ≡ true → (self.now.rung ≡ 0)
@@ -111,32 +118,26 @@ impl Running {
         }
     }
 
-    /// The first instant spent on bits, once a millisecond has passed.
-    fn first_after(&self, t: u64) -> Option<u64>
+    /// The first instant spent on bits, once the millisecond of this instant has passed.
+    fn first_after(&self, period: Period, t: u64) -> Option<u64>
         ensures { result ≡ (if is_some self.now.first then self.now.first
-            else (if t == self.now.begins then Some t else None)) }
+            else (if spends period self.now.job then Some t else None)) }
     {
         match self.first {
             Some(first) => Some(first),
-            None if t == self.begins => Some(t),
+            None if self.job.spends(period) => Some(t),
             None => None,
         }
     }
 
-    /// The download once its network millisecond has passed.
-    pub fn take_ms(&self, course: &Course<'_>, t: u64) -> Running
-        requires instant { t ≤ latest_ms }
-        requires credit { self.now.job.credit ≤ whole_credit }
-        requires left { self.now.job.left ≤ most_left }
-        requires begins { self.now.first ≡ None
-            → is_spent course.now.clock.now t self.now.job ≡ (t == self.now.begins) }
-        ensures takes { (kind : RuleKind)
-            → download_of result ≡ takes (case_on course.now kind) t (download_of self.now) }
+    /// The download once its network millisecond has passed, which lies in this period.
+    pub fn take_in(&self, period: Period, t: u64) -> Running
+        ensures takes { download_of result ≡ takes_in period t (download_of self.now) }
         ensures same { SameRequest self.now result }
     {
         Running {
-            job: course.clock.advance(self.job, t, t + 1),
-            first: self.first_after(t),
+            job: self.job.pass(period),
+            first: self.first_after(period, t),
             ..*self
         }
     }
@@ -144,18 +145,17 @@ impl Running {
     /// The download after so many milliseconds from an instant on.
     pub fn after(&self, course: &Course<'_>, t: u64, ms: u64) -> Running
         requires instant { t + ms ≤ latest_answer }
-        requires credit { self.now.job.credit ≤ whole_credit }
-        requires left { self.now.job.left ≤ most_left }
+        requires job { CanTake self.now }
         ensures takes { (kind : RuleKind)
-            → self.now.begins ≡ first_at course.now.clock.now self.now.asked
-            (size_of course.now.film.now self.now.segment self.now.rung)
+            → self.now.begins ≡ first_at course.now.scene.now.periods self.now.asked
+            (size_of course.now.scene.now.film self.now.segment self.now.rung)
             → download_of result
             ≡ taken_ms (case_on course.now kind) t ms (download_of self.now) }
         ensures same { SameRequest self.now result }
     {
         let to = t + ms;
         Running {
-            job: course.clock.advance(self.job, t, to),
+            job: course.scene.clock().advance(self.job, t, to),
             first: if self.begins < to {
                 Some(self.begins)
             } else {

@@ -14,15 +14,14 @@ returns-then-is_ended g c =
 pub pass-requires : goal.pass-requires
 pass-requires g c =
     let left = top_left _ _ _ _ c.requires.case _ _ _ c.loop-turn.invariant c.instant.new.self c.in_ok-instant.ensures.left in
-    let ready = pass_left _ c.requires.case c.instant.new.self left (sym c.is_ended.ensures ∙ c.if-is_ended.false) in
-    record { ready = ready.0; takes = ready.1 }
+    pass_left _ c.requires.case c.instant.new.self left (sym c.is_ended.ensures ∙ c.if-is_ended.false)
 
 pub loop-turn-preserved : goal.loop-turn-preserved
 loop-turn-preserved g c =
     let left = top_left _ _ _ _ c.requires.case _ _ _ c.loop-turn.invariant c.instant.new.self c.in_ok-instant.ensures.left in
     top_next _ _ _ _ c.requires.case _ _ _ c.loop-turn.invariant c.instant.new.rule c.instant.new.self c.pass.new.self _ (omega arith)
     c.in_ok-instant.ensures.instant c.in_ok-instant.ensures.told
-    (passes_left _ c.requires.case c.instant.new.self left (sym c.is_ended.ensures ∙ c.if-is_ended.false) c.pass.new.self (c.in_ok-pass.ensures.passes (g.T.Rule.kind c.args.rule)) c.in_ok-pass.ensures.timed)
+    (passes_left _ c.requires.case c.instant.new.self left (sym c.is_ended.ensures ∙ c.if-is_ended.false) c.pass.new.self (c.in_ok-pass.ensures (g.T.Rule.kind c.args.rule)))
 
 pub loop-turn-init : goal.loop-turn-init
 loop-turn-init g c = top_first _ _ _ _ c.new-body.result c.new-body.ensures c.requires.told

@@ -10,23 +10,25 @@ stop-requires g c = record { ready = load_ready _ c.requires.case _ c.args.self.
 
 pub go_on-requires : goal.go_on-requires
 go_on-requires g c =
-    let stop = at_stop _ c.requires.case c.args.self.now c.requires.stands c.stop.new.self (c.in_ok-stop.ensures.stops (g.T.Rule.kind c.args.rule.now)) in
+    let k = case_on c.args.course.now (g.T.Rule.kind c.args.rule.now) in
+    let stop = at_stop _ c.requires.case c.args.self.now c.requires.stands c.stop.new.self (c.in_ok-stop.ensures.stops k.rule) in
     let early = at_early _ c.requires.case c.args.self.now c.requires.stands in
     let at = body_instant _ _ _ _ c.stop.new.self stop in
     record {
       case = ruled_case _ c.requires.case _ c.in_ok-stop.ensures.told.same;
       sound = ruled_sound _ c.requires.case c.args.self.now c.requires.stands c.stop.new.self stop _ c.in_ok-stop.ensures.told.same;
       instant = omega (arith, early, at);
-      timed = stop.timed;
+      timed = (c.in_ok-stop.ensures.stops k.rule).timed k.film k.network c.requires.stands.timed;
     }
 
 pub returns-then-is_ended : goal.returns-then-is_ended
 returns-then-is_ended g c =
-    let step = c.in_ok-stop.ensures.stops (g.T.Rule.kind c.args.rule.now) in
+    let k = case_on c.args.course.now (g.T.Rule.kind c.args.rule.now) in
+    let step = c.in_ok-stop.ensures.stops k.rule in
     let hears = c.in_ok-stop.ensures.told in
     let stop = at_stop _ c.requires.case c.args.self.now c.requires.stands c.stop.new.self step in
     let ended = sym c.is_ended.ensures ∙ c.if-is_ended.true in
-    let left = left_ended _ c.requires.case c.args.self.now c.requires.stands c.stop.new.self stop ended in
+    let left = left_ended _ c.requires.case c.args.self.now c.requires.stands c.stop.new.self stop (step.timed k.film k.network c.requires.stands.timed) ended in
     record {
       instant = left.1;
       left = left.0;

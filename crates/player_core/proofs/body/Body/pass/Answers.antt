@@ -1,13 +1,17 @@
-use Rattle.std.proofs.Common.{◌≡◌, ◌+◌, subst, ap}
-use Rattle.player_core.specs.State.{Player}
+use Rattle.std.proofs.Common.{◌∙◌, ap}
+use Rattle.std.proofs.lemmas.Result.{IfOk-weaker}
+use Rattle.network_clock.specs.Network.{period_at}
 use Rattle.player_core.specs.Course.{case_on}
-use Rattle.player_core.specs.Parts.{passes_in}
+use Rattle.player_core.specs.Parts.{pass_in, pass_ms}
 use Rattle.player_core.specs.Seen.{seen}
+use Rattle.player_core.proofs.Follow.{step_as}
 use Rattle.player_core.proofs.body.Body.pass.Goals as goal
 
-pub returns-clause-passes : goal.returns-clause-passes
-returns-clause-passes c = λ kind history.
+pub returns : goal.returns
+returns c =
+    IfOk-weaker c.pass_in.result _ _
+    (λ x passed kind.
     let k = case_on c.args.course.now kind in
-    let taken = c.take.ensures.takes kind history in
-    let passed = subst (λ (v : Player). seen c.pass_in_mode.new.self (passes_in k v v.mode).history ≡ passes_in k v v.mode) taken (c.in_ok-pass_in_mode.ensures.passes kind history) in
-    ap (λ (r : Player). record r { t = r.t + 1 }) passed
+    step_as _ (pass_ms k) c.args.self.now c.pass_in.new.self
+    (λ h. ap (λ q. pass_in k q (seen c.args.self.now h)) (c.period_at.ensures.value ∙ ap (λ ps. period_at ps c.args.self.now.t) c.clock.ensures.value)) (passed kind))
+    c.pass_in.ensures

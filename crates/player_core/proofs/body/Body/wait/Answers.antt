@@ -5,15 +5,15 @@ pub quiet_ms-quiet-requires : goal.quiet_ms-quiet-requires
 quiet_ms-quiet-requires c = rest_left _ c.requires.case c.args.self.now c.requires.left c.requires.goes
 
 pub pass-requires : goal.pass-requires
-pass-requires c = let ready = pass_left _ c.requires.case c.args.self.now c.requires.left c.requires.goes in record { ready = ready.0; takes = ready.1 }
+pass-requires c = pass_left _ c.requires.case c.args.self.now c.requires.left c.requires.goes
 
 pub glide-requires : goal.glide-requires
 glide-requires c =
-    glide_left _ c.requires.case c.args.self.now c.requires.left c.requires.goes c.pass.new.self (c.in_ok-pass.ensures.passes c.requires.rule) c.in_ok-pass.ensures.timed
+    glide_left _ c.requires.case c.args.self.now c.requires.left c.requires.goes c.pass.new.self (c.in_ok-pass.ensures c.requires.rule)
     c.quiet_ms-quiet.result c.quiet_ms-quiet.ensures.limit (λ knows. c.quiet_ms-quiet.ensures.quiet knows c.requires.rule)
 
 pub returns : goal.returns
 returns c = λ kind is left.
-    waits_left _ is c.args.self.now left c.requires.goes c.pass.new.self (c.in_ok-pass.ensures.passes kind) c.in_ok-pass.ensures.timed
+    waits_left _ is c.args.self.now left c.requires.goes c.pass.new.self (c.in_ok-pass.ensures kind)
     c.quiet_ms-quiet.result c.quiet_ms-quiet.ensures.limit (λ knows. c.quiet_ms-quiet.ensures.quiet knows kind)
     c.glide.new.self (λ knows. c.glide.ensures.glides knows kind) c.glide.ensures.instant c.glide.ensures.timed

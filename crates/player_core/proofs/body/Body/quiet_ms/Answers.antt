@@ -1,0 +1,48 @@
+use Rattle.std.proofs.Common.{◌≡◌, ◌∙◌, ℕ, ◌+◌, ◌-◌, ◌≤◌, ◌<◌, ◌⊎◌, true, false, None, Some, IfSome, inl, inr, option_map, ⊎_elim, sym, ap, subst, arith}
+use Rattle.lab_model.specs.declared.setup.Setup.{Setup}
+use Rattle.network_clock.specs.Network.{done_on}
+use Rattle.player_core.specs.Course.{case_on}
+use Rattle.player_core.specs.State.{Case, Download, Player}
+use Rattle.player_core.specs.Parts.{seek_at}
+use Rattle.player_core.specs.Sound.{asked_size}
+use Rattle.player_core.specs.Quiet.{IsQuiet, is_due_ms}
+use Rattle.player_core.specs.Seen.{IsTimed, download_of, seen}
+use Rattle.player_core.proofs.Stretch.{untouched_less}
+use Rattle.player_core.proofs.body.Body.quiet_ms.Goals as goal
+
+pub returns-in-Some-clause-some : goal.returns-in-Some-clause-some
+returns-in-Some-clause-some c = omega (arith, c.untouched_ms.ensures.some, c.seek_in.ensures.some, c.quiet_ms.ensures.some, c.min-own.ensures, c.min.ensures)
+
+pub returns-in-Some-clause-quiet : goal.returns-in-Some-clause-quiet
+returns-in-Some-clause-quiet c = λ knows kind history.
+    let k = case_on c.args.course.now kind in
+    let q = seen c.args.self.now history in
+    let ms = c.min.result in
+    let d = download_of c.in-Some.d in
+    let some : 1 ≤ ms = returns-in-Some-clause-some c in
+    let runs : Some d ≡ q.download = sym (ap (option_map download_of) c.in-Some.is) in
+    let done = (subst (IsTimed k.film k.network) c.in-Some.is knows).1 in
+    let arrives : q.t + ms ≤ done_on k.network d.asked (asked_size k d) = omega (arith, done, c.quiet_ms.ensures.arrives, c.min.ensures) in
+    record {
+      untouched = untouched_less k q c.untouched_ms.result ms (c.untouched_ms.ensures.untouched kind history) some (omega (arith, c.min-own.ensures, c.min.ensures));
+      arrives = subst (λ o. IfSome o (λ e. q.t + ms ≤ done_on k.network e.asked (asked_size k e))) runs arrives;
+      judges = λ on. subst (λ o. IfSome o (λ e. (e.rung ≡ 0) ⊎ ((m : ℕ) → q.t < m → m < q.t + ms → is_due_ms (m - e.asked) ≡ false))) runs
+          (⊎_elim (λ lowest. inl lowest) (λ none. inr (λ m after low. none m after (omega (arith, low, c.min.ensures)))) (c.quiet_ms.ensures.judges (ap (λ (s : Setup). s.abandon) c.setup.ensures.value ∙ on)));
+      seeks = λ m after low. c.seek_in.ensures.none_before m after (omega (arith, low, c.min-own.ensures, c.min.ensures));
+    }
+
+pub returns-in-None-clause-some : goal.returns-in-None-clause-some
+returns-in-None-clause-some c = omega (arith, c.untouched_ms.ensures.some, c.seek_in.ensures.some, c.min-own.ensures)
+
+pub returns-in-None-clause-quiet : goal.returns-in-None-clause-quiet
+returns-in-None-clause-quiet c = λ knows kind history.
+    let k = case_on c.args.course.now kind in
+    let q = seen c.args.self.now history in
+    let ms = c.min-own.result in
+    let runs : None ≡ q.download = sym (ap (option_map download_of) c.in-None.is) in
+    record {
+      untouched = untouched_less k q c.untouched_ms.result ms (c.untouched_ms.ensures.untouched kind history) (returns-in-None-clause-some c) (omega (arith, c.min-own.ensures));
+      arrives = subst (λ o. IfSome o (λ e. q.t + ms ≤ done_on k.network e.asked (asked_size k e))) runs tt;
+      judges = λ on. subst (λ o. IfSome o (λ e. (e.rung ≡ 0) ⊎ ((m : ℕ) → q.t < m → m < q.t + ms → is_due_ms (m - e.asked) ≡ false))) runs tt;
+      seeks = λ m after low. c.seek_in.ensures.none_before m after (omega (arith, low, c.min-own.ensures));
+    }

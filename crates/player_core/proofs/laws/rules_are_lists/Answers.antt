@@ -1,0 +1,5 @@
+use Rattle.player_core.proofs.Lists.{rules_are_lists}
+use Rattle.player_core.proofs.laws.rules_are_lists.Goals as goal
+
+pub returns : goal.returns
+returns c = rules_are_lists

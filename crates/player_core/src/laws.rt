@@ -1,0 +1,8 @@
+//! The laws of sessions, each the contract of a function that does nothing.
+
+ghost use Rattle.player_core.specs.Lists.{RulesAreLists};
+
+/// Rules are lists: without abandonment and seeks the session of any rule is that of the rung list which it played.
+pub fn rules_are_lists()
+    ensures { RulesAreLists }
+{}
