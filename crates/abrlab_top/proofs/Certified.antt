@@ -10,12 +10,10 @@ use Rattle.player_core.specs.Scene.{IsTask, Task}
 use Rattle.labels.specs.Read.{labels_before, labels_in}
 use Rattle.labels.proofs.Rounds.{exact_fits}
 use Rattle.labels.proofs.Same.{before_same, certificate_same}
-use Rattle.frontier_planner.proofs.Short.{certificate_short}
+use Rattle.labels.proofs.HasForm.{certificate_form}
 use Rattle.labels.proofs.Sound.{exact_agrees, plan_accepted}
-use Rattle.labels.proofs.ReadBack.{list_fits}
 use Rattle.labels.specs.Form.{IsCertificate}
 use Rattle.labels.specs.declared.verdict.Verdict.TheVariants.{Yes}
-use Rattle.certificate_text.proofs.PlanText.{read_has_text}
 use Rattle.certificate_check.specs.Verdict.{verdict_of}
 use Rattle.certificate_check.proofs.Verdicts.{valid_yes}
 use Rattle.abrlab_top.specs.Plan.{certificate_on, spent_on}
@@ -38,9 +36,7 @@ pub has_text : (g : Task) → IsTask g → labels_in g (frontier g) ≤ 1000000 
 has_text g is few =
     let agree = exact_agrees g is in
     let before = before_same exact g (grown exact g) (frontier g) agree (segments_of g.film) (omega arith) in
-    let short = certificate_short exact g (record { task = is; grid = exact_fits }) (omega (arith, before, few)) in
-    let long = (list_fits exact g exact_fits is).0 in
-    subst IsCertificate (certificate_same exact g (grown exact g) (frontier g) agree is) (read_has_text exact g is (grown exact g) short long)
+    subst IsCertificate (certificate_same exact g (grown exact g) (frontier g) agree is) (certificate_form exact g (record { task = is; grid = exact_fits }) (omega (arith, before, few)))
 
 -- it is valid
 pub says_yes : (g : Task) → IsTask g → verdict_of g (certificate_on g) (certificate_on g).score ≡ Yes

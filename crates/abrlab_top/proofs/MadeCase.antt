@@ -26,7 +26,6 @@ use Rattle.frontier_planner.specs.Planned.{IsPlanOf}
 use Rattle.certificate_text.specs.declared.certificate.Certificate.{Certificate}
 use Rattle.labels.specs.Form.{IsCertificate}
 use Rattle.certificate_text.specs.Form.{certificate_parts}
-use Rattle.certificate_text.proofs.PlanText.{plan_has_text}
 use Rattle.demo_case.specs.declared.case.DemoCase.{DemoCase}
 use Rattle.demo_case.specs.Case.{demo_film, demo_periods, demo_setup, demo_task}
 use Rattle.demo_case.proofs.Bound.{budget_unspent}
@@ -104,7 +103,7 @@ plan_told g p budget score old mid new r q u same of h x y =
 
 -- the certificate of the plan has a text
 pub plan_form : (g : Task) (p : Plan) (budget : ℕ) (c : Certificate) → IsTask g → IsPlanOf exact g (frontier g) budget p p.score → certificate_parts c ≡ plan_parts g.film p → IsCertificate (certificate_parts c)
-plan_form g p budget c is of e = subst IsCertificate (sym e) (plan_has_text exact g (frontier g) budget p p.score is of)
+plan_form g p budget c is of e = subst IsCertificate (sym e) of.form
 
 -- ---- the whole
 

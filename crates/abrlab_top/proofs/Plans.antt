@@ -21,7 +21,6 @@ use Rattle.labels.specs.Parts.{CertificateParts, plan_parts}
 use Rattle.frontier_planner.specs.Planned.{IsPlanOf, PlanAnswer}
 use Rattle.labels.specs.Read.{SpentAt, labels_before, labels_in}
 use Rattle.labels.proofs.Counted.{before_beyond}
-use Rattle.certificate_text.proofs.PlanText.{plan_has_text}
 use Rattle.labels.specs.Form.{IsCertificate}
 use Rattle.abrlab_top.specs.declared.ending.Ending.TheVariants as ending
 use Rattle.abrlab_top.specs.Answer.{printed}
@@ -76,7 +75,7 @@ planned_whole budget as_certificate i n film g p e h same f is of = by_task (tas
         let few = never_spent (task_on i n.1) budget (let most = of.within in let counted = of.labels in omega (arith, most, counted)) in
         let text = ap (λ (q : CertificateParts). parts_text as_certificate q (labels_on (task_on i n.1))) (sym of.parts) ∙ ap (parts_text as_certificate (plan_parts i.film p)) (sym of.labels) in
         rw f (
-          plan_has_text exact (task_on i n.1) (frontier (task_on i n.1)) budget p p.score is of,
+          of.form,
           one_planned budget as_certificate i n e h ∙ ap (unless_spent as_certificate (task_on i n.1)) few ∙ ap (λ said. Ok (printed said)) text,
         )
 

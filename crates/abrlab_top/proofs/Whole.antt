@@ -1,5 +1,5 @@
 -- The stages of a run, put together.
-use Rattle.std.proofs.Common.{◌≡◌, ◌++◌, List, [], ◌∷◌, append-nil, append_assoc, Bool, true, false, Option, Some, None, Result, Ok, Err, IsSome, inl, inr, ap, subst, sym, ◌∙◌, refl}
+use Rattle.std.proofs.Common.{◌≡◌, ◌++◌, List, [], ◌∷◌, append-nil, append_assoc, Bool, true, false, Option, option_map, Some, None, Result, Ok, Err, IsSome, inl, inr, ap, subst, sym, ◌∙◌, refl}
 use Rattle.std.specs.Result.{IsErrAnd}
 use Rattle.std.proofs.lemmas.Result.{err_from_is_err_and}
 use Rattle.lab_io.specs.declared.PutErr.{PutErr}
@@ -21,8 +21,8 @@ use Rattle.lab_inputs.specs.declared.stop.Stop.TheVariants as stop
 use Rattle.lab_inputs.specs.Files.{◌>>=◌, Files}
 use Rattle.lab_inputs.specs.Inputs.{InputValues, inputs_of}
 use Rattle.lab_inputs.specs.Roles.{NamedFile, film_files, files_by, files_of, optional_file, trace_files}
-use Rattle.lab_inputs.specs.Settings.{misfit, settled, unless_misfit}
-use Rattle.lab_inputs.specs.Stages.{Asks, AsksFor, AsksSome, AsksUpTo, Comes, Means, StopsAt, Tells}
+use Rattle.lab_inputs.specs.Settings.{Fits, misfit, settled, unless_misfit}
+use Rattle.lab_inputs.specs.Stages.{Asks, AsksFor, AsksSome, AsksUpTo, Comes, IsSettled, Means, StopsAt, Tells}
 use Rattle.lab_inputs.proofs.Files.{asks_all, asks_none}
 use Rattle.abrlab_top.specs.declared.ending.Ending.{Ending}
 use Rattle.abrlab_top.specs.declared.ending.Ending.TheVariants as ending
@@ -40,6 +40,13 @@ same_written (Some w) = ap Some (sym (append-nil w))
 -- where nothing was written, nothing of a text went out
 pub nothing_written : (old new : Option Text) (said : Text) → new ≡ old → GrewPart old said new
 nothing_written old new said e = ([], said, refl, e ∙ same_written old)
+
+-- what is seen of an option that has nothing, or something
+pub none_there : {A B : Type 0} (f : A → B) (o : Option A) (p : Option B) → o ≡ None → option_map f o ≡ p → p ≡ None
+none_there f o p e h = sym h ∙ ap (option_map f) e
+
+pub some_there : {A B : Type 0} (f : A → B) (o : Option A) (p : Option B) (x : A) → o ≡ Some x → option_map f o ≡ p → p ≡ Some (f x)
+some_there f o p x e h = sym h ∙ ap (option_map f) e
 
 -- ---- a command, once its files are read
 
@@ -61,6 +68,13 @@ late_setting checks i (Some setting) why e = subst (IsLate checks) (same e) tt
 -- a setting does not fit
 pub settings_stop : (m : Manner) (i : InputValues) (meant : Outcome) (old : Seen) (why : Stop) → settled i ≡ Err why → meant ≡ Err (ending.Stopped why) → Writes m meant old (ending.Stopped why) old
 settings_stop m i meant old why e h = (late_setting m.checks i (misfit i.setup i.rules i.film) why e, h, refl)
+
+-- what testing the settings gave: a stop, or all fits
+pub unsettled : (i : InputValues) (r : Result (Unit {0}) Stop) (why : Stop) → r ≡ Err why → IsSettled i r → settled i ≡ Err why
+unsettled i r why e h = rw e at h
+
+pub all_settled : (i : InputValues) (r : Result (Unit {0}) Stop) (u : Unit {0}) → r ≡ Ok u → IsSettled i r → (settled i ≡ Ok i) × Fits i
+all_settled i r u e h = rw e at h
 
 -- the text went out whole
 pub put_done : (m : Manner) (meant : Outcome) (text : Text) (old new : Seen) (r : Result (Unit {0}) PutErr) (u : Unit {0}) → meant ≡ Ok (printed text) → r ≡ Ok u → Puts old text new r → Writes m meant old ending.Done new
