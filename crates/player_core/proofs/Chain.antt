@@ -17,6 +17,7 @@ use Rattle.player_core.specs.State.{Case, Player, case_of, first_player}
 use Rattle.player_core.specs.Parts.{abandon, gone_on, instant, is_ended, pass_ms, request, seek, seek_at, stopped}
 use Rattle.player_core.specs.Session.{Shown, end_of, ends_at, last_player, player_after, session_of, shown, shown_by}
 use Rattle.player_core.specs.Sound.{IsCase, Sound}
+use Rattle.player_core.specs.Scene.{IsTask, Task, task_of}
 use Rattle.player_core.specs.Quiet.{IsQuiet, glides}
 use Rattle.player_core.specs.Seen.{CanGlide, CanRest, Follows, GoesOn, IsTimed, LeftAt, StandsAt, StandsFor, Step, Waits, mode_of, seen}
 use Rattle.player_core.specs.Ready.{CanPass, CanRequest}
@@ -50,6 +51,15 @@ is_case f ps set seeks ahead kind film trace setup script most rule =
       ahead = most;
       rule = rule;
     }
+
+-- so does a task with a script and a rule that fit its film
+pub task_case : (g : Task) (seeks : List Seek) (kind : RuleKind) → IsTask g → SeeksFit seeks (segments_of g.film) → KindFits kind g.film → IsCase (case_of g.film g.periods g.setup seeks g.ahead kind)
+task_case g seeks kind is script rule = is_case g.film g.periods g.setup seeks g.ahead kind is.film is.trace is.setup script is.ahead rule
+
+-- and its parts
+pub parts_case : (f : Film) (ps : List Period) (set : Setup) (seeks : List Seek) (ahead : ℕ) (kind : RuleKind) (g : Task) → g ≡ task_of f ps set ahead → IsTask g → SeeksFit seeks (segments_of f) → KindFits kind f
+    → IsCase (case_of f ps set seeks ahead kind)
+parts_case f ps set seeks ahead kind g e is script rule = task_case (task_of f ps set ahead) seeks kind (subst IsTask e is) script rule
 
 -- ---- the parts of an instant that goes on
 

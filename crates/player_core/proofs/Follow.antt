@@ -159,7 +159,6 @@ request_ready c is n from p b low now =
     let s = body_sound c n from p b now in
     let here = body_instant c n from p b now in
     record {
-      setup_fits = is.setup;
       kind_fits = is.rule;
       position = s.position;
       end = end_most c is from (seen b []) s;

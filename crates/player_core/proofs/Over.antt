@@ -1,10 +1,10 @@
 -- The end of a session: all is played, all is loaded, and nothing is asked for.
-use Rattle.std.proofs.Common.{◌≡◌, ◌∙◌, ℕ, zero, suc, ◌+◌, ◌*◌, ◌<◌, ◌≤◌, ⊎_elim, true, false, ◌&&◌, eqb, ◌∷◌, [], ◌++◌, Option, Some, None, IfSome, refl, sym, ap, mul-le-mul_right, arith}
-use Rattle.std.proofs.lemmas.Bool.{and_parts, cases_Bool, cases_lt, cond_both, eqb-true, true≢false}
+use Rattle.std.proofs.Common.{◌≡◌, ◌∙◌, ℕ, zero, suc, ◌+◌, ◌-◌, ◌*◌, ◌<◌, ◌≤◌, ⊎_elim, true, false, ◌&&◌, eqb, ◌∷◌, [], ◌++◌, Option, Some, None, IfSome, refl, sym, ap, mul-le-mul_right, suc-add, zero-add, arith}
+use Rattle.std.proofs.lemmas.Bool.{and_left, and_parts, cases_Bool, cases_lt, cond-false, cond-true, cond_both, eqb-true, true≢false}
 use Rattle.lab_model.specs.Film.{segments_of}
 use Rattle.player_core.specs.declared.session.Event.TheVariants as event
 use Rattle.player_core.specs.State.{Case, Download, Mode, Player, starting, playing, seeking, ended}
-use Rattle.player_core.specs.Parts.{arrival, arrives, begun, finish, instant, is_ended, is_playing, loads, stopped, takes_any}
+use Rattle.player_core.specs.Parts.{arrival, arrives, begun, finish, goes_on, gone_on, instant, is_ended, is_playing, loads, pass_ms, stopped, takes_any}
 use Rattle.player_core.specs.Session.{end_of, ends_at, last_player, player_after}
 use Rattle.player_core.specs.Sound.{IsCase, Runs, Sound}
 use Rattle.player_core.proofs.Ends.{end_before, end_early, end_found, last_sound}
@@ -94,3 +94,46 @@ module _ (c : Case) (is : IsCase c) where
   -- and no download runs
   pub last_idle : (last_player c).download ≡ None
   last_idle = let sound = last_sound c is in over_idle c is sound.0 (last_player c) sound.1 last_over
+
+-- ---- after its end a player stays as it is
+
+-- who has ended does not play
+ended_rests : (m : Mode) → is_ended m ≡ true → is_playing m ≡ false
+ended_rests ended e = refl
+ended_rests starting e = absurd (true≢false (sym e))
+ended_rests seeking e = absurd (true≢false (sym e))
+ended_rests playing e = absurd (true≢false (sym e))
+
+-- a player that has ended, and for which nothing is to arrive, stays as it is
+pub ended_stays : (c : Case) (p : Player) → is_ended p.mode ≡ true → p.download ≡ None → instant c p ≡ p
+ended_stays c p over none =
+    let inside = and_left (is_playing p.mode) (eqb p.x (segments_of c.film * c.film.seg_ms)) (ended_rests p.mode over) in
+    ap (goes_on c)
+    (ap (λ o. finish c (arrives c p o)) none
+    ∙ cond-false (is_playing p.mode && eqb p.x (segments_of c.film * c.film.seg_ms)) (record p { mode = ended; events = p.events ++ event.End p.t ∷ [] }) p inside)
+    ∙ cond-true (is_ended p.mode) p (gone_on c p) over
+
+module _ (c : Case) (is : IsCase c) where
+  last_ended : is_ended (last_player c).mode ≡ true
+  unfolding last_player
+  last_ended = end_found c is
+
+  last_stays : instant c (last_player c) ≡ last_player c
+  last_stays = ended_stays c (last_player c) last_ended (last_idle c is)
+
+  -- at each instant so many milliseconds after its end the player is the last one
+  after_by : (d : ℕ) → instant c (player_after c (d + end_of c)) ≡ last_player c
+  unfolding last_player player_after
+  after_by zero = ap (λ n. instant c (player_after c n)) (zero-add (end_of c))
+  after_by (suc d) =
+      let before = after_by d in
+      let q = instant c (player_after c (d + end_of c)) in
+      let over : is_ended q.mode ≡ true = ap (λ (p : Player). is_ended p.mode) before ∙ last_ended in
+      let next : player_after c (suc (d + end_of c)) ≡ q = cond-true (is_ended q.mode) q (pass_ms c q) over in
+      ap (λ n. instant c (player_after c n)) (suc-add d (end_of c)) ∙ ap (instant c) (next ∙ before) ∙ last_stays
+
+  -- the law: at and after its end the instant leaves the last player
+  pub after_end : (n : ℕ) → end_of c ≤ n → instant c (player_after c n) ≡ last_player c
+  after_end n late =
+      let d : n ≡ (n - end_of c) + end_of c = omega (arith, late) in
+      ap (λ m. instant c (player_after c m)) d ∙ after_by (n - end_of c)

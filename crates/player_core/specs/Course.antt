@@ -6,4 +6,5 @@ use Rattle.player_core.specs.State.{Case, case_of}
 
 -- the case that a course makes with a kind of rule
 abbrev pub case_on : Course → RuleKind → Case
-case_on o kind = case_of o.film.now o.clock.now o.setup.now o.seeks.now o.ahead kind
+case_on o kind =
+    case_of o.scene.now.film o.scene.now.periods o.scene.now.setup o.seeks.now o.scene.now.ahead kind

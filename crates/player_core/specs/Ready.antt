@@ -2,7 +2,6 @@
 -- What the parts of a player millisecond need of the player.
 use Rattle.std.specs.Prelude.{ℕ, ◌+◌, ◌-◌, ◌*◌, ◌≤◌, ◌<◌, IfSome}
 use Rattle.lab_model.specs.Film.{Film, rungs_of, segments_of}
-use Rattle.lab_model.specs.Fit.{SetupFits}
 use Rattle.lab_model.specs.Rules.{KindFits}
 use Rattle.player_core.specs.Limits.{latest_ms, longest_elapsed, longest_film, most_bits_in_ms, most_segments, most_stalls}
 use Rattle.player_core.specs.State.{Case, Download, Player}
@@ -28,7 +27,6 @@ pub record CanJudge (f : Film) (t : ℕ) (d : Download) : Type 0 where
 
 -- a rule can be asked for a rung of the next segment
 pub record CanChoose (c : Case) (p : Player) : Type 0 where
-  pub setup_fits : SetupFits c.setup c.film
   pub kind_fits : KindFits c.rule c.film
   pub position : p.x ≤ p.y
   pub next : p.k < segments_of c.film
@@ -38,7 +36,6 @@ pub record CanChoose (c : Case) (p : Player) : Type 0 where
 
 -- a request can be made, where there is cause for one
 pub record CanRequest (c : Case) (p : Player) : Type 0 where
-  pub setup_fits : SetupFits c.setup c.film
   pub kind_fits : KindFits c.rule c.film
   pub position : p.x ≤ p.y
   pub end : p.y ≤ longest_film

@@ -77,7 +77,7 @@ SameDownload old new = (new.t ≡ old.t) × (new.download ≡ old.download)
 
 -- the running download of a body, if there is one, knows when its bits begin and when it is done
 abbrev pub KnowsEnd : Course → Body → Type 0
-KnowsEnd o b = IsTimed o.film.now (period_at o.clock.now) b.download
+KnowsEnd o b = IsTimed o.scene.now.film (period_at o.scene.now.periods) b.download
 
 -- a running download is of a segment of the film and a rung of its ladder
 abbrev pub IsRunningOf : Film → Running → Type 0

@@ -61,7 +61,7 @@ pub record IsCase (c : Case) : Type 0 where
   pub film : IsFilm c.film
   pub longest : ℕ
   pub network : IsFlowing longest c.network
-  pub long : 300000000 ≤ longest
+  pub long : 2 * longest_film ≤ longest
   pub short : longest + 10000 < longest_ms
   pub lasts : (longest + 10001) * (turns_left c 0 first_player + 1) < latest_ms
   pub setup : SetupFits c.setup c.film

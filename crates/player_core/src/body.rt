@@ -111,7 +111,7 @@ impl Body {
 
     /// What an instant begins with: the arrival, and then the end.
     pub fn stop<T: Rule>(&mut self, course: &Course<'_>, rule: &mut T) -> Result<(), NoMemory>
-        requires ready { CanArrive course.now.film.now self.old }
+        requires ready { CanArrive course.now.scene.now.film self.old }
         ensures stops { IfOk result (λ _. Steps course.now stopped self.old self.new) }
         ensures told { IfOk result (λ _.
             Hears T.kind T.stands_for course.now stopped self.old rule.old rule.new) }
@@ -140,7 +140,7 @@ impl Body {
 
     /// 1. Arrival: a download of which nothing is left.
     fn arrive<T: Rule>(&mut self, course: &Course<'_>, rule: &mut T) -> Result<(), NoMemory>
-        requires ready { CanArrive course.now.film.now self.old }
+        requires ready { CanArrive course.now.scene.now.film self.old }
         ensures arrives { IfOk result (λ _. Steps course.now arrival self.old self.new) }
         ensures told { IfOk result (λ _.
             Hears T.kind T.stands_for course.now arrival self.old rule.old rule.new) }
@@ -158,14 +158,14 @@ impl Body {
         d: &Running,
         rule: &mut T,
     ) -> Result<(), NoMemory>
-        requires ready { CanLoad course.now.film.now (seen self.old []) (download_of d.now) }
+        requires ready { CanLoad course.now.scene.now.film (seen self.old []) (download_of d.now) }
         ensures loads { IfOk result (λ _.
             Steps course.now (λ c p. loads c p (download_of d.now)) self.old self.new) }
         ensures told { IfOk result (λ _.
             Hears T.kind T.stands_for course.now (λ c p. loads c p (download_of d.now))
             self.old rule.old rule.new) }
     {
-        let sample = d.sample(course.film, self.t);
+        let sample = d.sample(course.scene.film(), self.t);
         self.events.push(Event::Arrive {
             at: self.t,
             segment: d.segment,
@@ -178,7 +178,7 @@ impl Body {
             rung: d.rung,
         })?;
         rule.observe(sample);
-        self.y += course.film.seg_ms();
+        self.y += course.scene.film().seg_ms();
         self.k += 1;
         self.download = None;
         self.last = Some(d.rung);
@@ -190,7 +190,8 @@ impl Body {
     fn finish(&mut self, course: &Course<'_>) -> Result<(), NoMemory>
         ensures { IfOk result (λ _. Steps course.now finish self.old self.new) }
     {
-        let all_ms = course.film.segments() as u32 * course.film.seg_ms();
+        let film = course.scene.film();
+        let all_ms = film.segments() as u32 * film.seg_ms();
         if self.mode.is_playing() && self.x == all_ms {
             self.events.push(Event::End { at: self.t })?;
             self.mode = Mode::Ended;
@@ -201,19 +202,19 @@ impl Body {
     /// 3. Abandonment: where the setup allows it, by the abandonment test.
     fn abandon<T: Rule>(&mut self, course: &Course<'_>, rule: &mut T) -> Result<(), NoMemory>
         requires judge { IfSome self.old.download (λ d.
-            CanJudge course.now.film.now self.old.t (download_of d)) }
+            CanJudge course.now.scene.now.film self.old.t (download_of d)) }
         requires wasted { self.old.wasted ≤ most_wasted }
         ensures abandons { IfOk result (λ _. Steps course.now abandon self.old self.new) }
         ensures told { IfOk result (λ _.
             Hears T.kind T.stands_for course.now abandon self.old rule.old rule.new) }
     {
-        if !course.setup.abandon {
+        if !course.scene.setup().abandon {
             return Ok(());
         }
         let Some(d) = self.download else {
             return Ok(());
         };
-        match d.rung_instead(course.film, self.t) {
+        match d.rung_instead(course.scene.film(), self.t) {
             Some(to) => self.give_up(course, &d, to, rule),
             None => Ok(()),
         }
@@ -227,7 +228,7 @@ impl Body {
         to: u8,
         rule: &mut T,
     ) -> Result<(), NoMemory>
-        requires judge { CanJudge course.now.film.now self.old.t (download_of d.now) }
+        requires judge { CanJudge course.now.scene.now.film self.old.t (download_of d.now) }
         requires first { 1 ≤ bit_ms_of self.old.t (download_of d.now) }
         requires wasted { self.old.wasted ≤ most_wasted }
         ensures gives_up { IfOk result (λ _.
@@ -238,7 +239,7 @@ impl Body {
             (λ c p. gives_up c p (download_of d.now) (Some to))
             self.old rule.old rule.new) }
     {
-        let got = d.got(course.film);
+        let got = d.got(course.scene.film());
         self.events.push(Event::Abandon {
             at: self.t,
             segment: d.segment,
@@ -246,7 +247,7 @@ impl Body {
             to,
             got,
         })?;
-        rule.observe(d.sample(course.film, self.t));
+        rule.observe(d.sample(course.scene.film(), self.t));
         self.download = None;
         self.forced = Some(to);
         self.wasted += got as u64;
@@ -255,24 +256,24 @@ impl Body {
 
     /// 4. Seek.
     fn seek(&mut self, course: &Course<'_>) -> Result<(), NoMemory>
-        requires running { IfSome self.old.download (IsRunningOf course.now.film.now) }
-        requires loaded { All (IsOf course.now.film.now) self.old.loaded.items }
+        requires running { IfSome self.old.download (IsRunningOf course.now.scene.now.film) }
+        requires loaded { All (IsOf course.now.scene.now.film) self.old.loaded.items }
         requires room { length self.old.loaded.items ≤ most_segments }
         requires wasted { self.old.wasted ≤ most_wasted }
-        requires targets { All (λ s. s.to < segments_of course.now.film.now)
+        requires targets { All (λ s. s.to < segments_of course.now.scene.now.film)
             course.now.seeks.now }
         ensures { IfOk result (λ _. Steps course.now seek self.old self.new) }
     {
         let Some(s) = seek_at(course.seeks, self.t) else {
             return Ok(());
         };
-        let wasted = self.wasted_by(course.film);
+        let wasted = self.wasted_by(course.scene.film());
         self.events.push(Event::Seek {
             at: self.t,
             to: s.to,
             wasted,
         })?;
-        let position = s.to as u32 * course.film.seg_ms();
+        let position = s.to as u32 * course.scene.film().seg_ms();
         self.x = position;
         self.y = position;
         self.k = s.to;
@@ -323,14 +324,14 @@ impl Body {
         requires end { self.now.y ≤ longest_film }
         ensures asks { (kind : RuleKind)
             → result ≡ can_ask (case_on course.now kind) (seen self.now []) }
-        ensures next { result ≡ true → self.now.k < segments_of course.now.film.now }
+        ensures next { result ≡ true → self.now.k < segments_of course.now.scene.now.film }
         ensures room { result ≡ true → self.now.y - self.now.x
-            ≤ course.now.setup.now.buffer_ms - course.now.film.now.seg_ms }
+            ≤ course.now.scene.now.setup.buffer_ms - course.now.scene.now.film.seg_ms }
     {
         self.download.is_none()
-            && self.k < course.film.segments()
-            && self.y - self.x + course.film.seg_ms() <= course.setup.buffer_ms
-            && available(course.film, course.ahead, self.k) <= self.t
+            && self.k < course.scene.film().segments()
+            && self.y - self.x + course.scene.film().seg_ms() <= course.scene.setup().buffer_ms
+            && course.scene.available(self.k) <= self.t
     }
 
     /// What the rule sees.
@@ -351,30 +352,30 @@ impl Body {
             (case_on course.now (T.kind rule.now)) (seen self.now []) }
         ensures value { (history : List ℕ) → T.stands_for rule.now history
             → result ≡ rung_for (case_on course.now (T.kind rule.now)) (seen self.now history) }
-        ensures rung { result < rungs_of course.now.film.now }
+        ensures rung { result < rungs_of course.now.scene.now.film }
     {
         match self.forced {
             Some(rung) => rung,
-            None => rule.choose(course.film, course.setup, &self.context()),
+            None => rule.choose(course.scene.film(), course.scene.setup(), &self.context()),
         }
     }
 
     /// A download of a rung of the next segment starts.
     fn ask(&mut self, course: &Course<'_>, rung: u8) -> Result<(), NoMemory>
-        requires next { self.old.k < segments_of course.now.film.now }
-        requires rung { rung < rungs_of course.now.film.now }
+        requires next { self.old.k < segments_of course.now.scene.now.film }
+        requires rung { rung < rungs_of course.now.scene.now.film }
         requires instant { self.old.t ≤ latest_ms }
         ensures asks { IfOk result (λ _.
             FollowsOn course.now (λ c p. asks c p rung) self.old self.new) }
         ensures timed { IfOk result (λ _. KnowsEnd course.now self.new) }
     {
-        let bits = course.film.size(self.k, rung);
+        let bits = course.scene.film().size(self.k, rung);
         self.events.push(Event::Request {
             at: self.t,
             segment: self.k,
             rung,
         })?;
-        let landing = course.clock.finish(self.t, bits);
+        let landing = course.scene.clock().finish(self.t, bits);
         self.download = Some(Running {
             segment: self.k,
             rung,
@@ -393,7 +394,7 @@ impl Body {
         requires { CanPass (seen self.old []) }
         ensures { IfOk result (λ _. Steps course.now pass_ms self.old self.new) }
     {
-        self.pass_in(course, course.clock.period_at(self.t))
+        self.pass_in(course, course.scene.clock().period_at(self.t))
     }
 
     /// The millisecond passes, in this period of a network.
@@ -448,7 +449,7 @@ impl Body {
         ensures plays { IfOk result (λ _. FollowsOn course.now plays self.old self.new) }
         ensures same { IfOk result (λ _. SameDownload self.old self.new) }
     {
-        if self.x % course.film.seg_ms() == 0 {
+        if self.x % course.scene.film().seg_ms() == 0 {
             self.begin()?;
         }
         self.x += 1;

@@ -1,19 +1,13 @@
 //! What a session is played on.
 
-use lab_model::{Manifest, Seek, Setup};
-use network_clock::Clock;
+use crate::scene::Scene;
+use lab_model::Seek;
 
-/// What a session is played on: a film, a network, a setup, a seek script, and the media that are there at instant 0.
+/// What a session is played on: a film on a network with a setup, and a seek script.
 #[derive(Clone, Copy)]
 pub struct Course<'a> {
-    /// The film.
-    pub film: &'a Manifest,
-    /// The network, as far as a player has it for itself.
-    pub clock: &'a Clock,
-    /// The setup.
-    pub setup: &'a Setup,
+    /// Film, network, setup and the media that are there at instant 0. The network is that of a player that has it for itself.
+    pub scene: &'a Scene<'a>,
     /// The seek script.
     pub seeks: &'a [Seek],
-    /// Milliseconds, at most `ALL_AHEAD_MS`.
-    pub ahead: u32,
 }

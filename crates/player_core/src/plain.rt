@@ -45,14 +45,11 @@ pub fn play_on<T: Rule + Drop>(
     course: &Course<'_>,
     rule: T,
 ) -> Result<Session, NoMemory>
-    requires setup { SetupFits course.now.setup.now course.now.film.now }
-    requires rule { KindFits (T.kind rule) course.now.film.now }
-    requires seeks { SeeksFit course.now.seeks.now (segments_of course.now.film.now) }
-    requires ahead { course.now.ahead ≤ longest_film }
+    requires rule { KindFits (T.kind rule) course.now.scene.now.film }
+    requires seeks { SeeksFit course.now.seeks.now (segments_of course.now.scene.now.film) }
     requires told { T.stands_for rule [] }
     ensures { IfOk result (λ s. shown s ≡ session_of (case_on course.now (T.kind rule))) }
 {
-    prove!(course.film.segments() > 0);
-    prove!(!course.clock.periods().is_empty());
+    prove!(course.scene.film().segments() > 0);
     session_on(alloc, course, rule)
 }

@@ -16,6 +16,7 @@ ghost use Rattle.player_core.specs.Lists.{IsListed};
 use crate::body::Body;
 use crate::course::Course;
 use crate::limits::{ALL_AHEAD_MS, LATEST_MS, LATEST_SEEK_MS, MOST_SEEKS};
+use crate::scene::Scene;
 use crate::session::Session;
 use lab_model::{Manifest, NoMemory, Rule, Seek, Setup};
 use network_clock::Clock;
@@ -99,14 +100,10 @@ pub fn play_from<T: Rule + Drop>(
     ensures listed { set.now.abandon ≡ false → seeks.now ≡ []
         → IfOk result (λ s. IsListed m.now clock.now set.now ahead s) }
 {
-    prove!(m.segments() > 0);
-    prove!(!clock.periods().is_empty());
+    let scene = Scene::new(m, clock, set, ahead);
     let course = Course {
-        film: m,
-        clock,
-        setup: set,
+        scene: &scene,
         seeks,
-        ahead,
     };
     session_on(alloc, &course, rule)
 }

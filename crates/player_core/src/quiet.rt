@@ -24,21 +24,21 @@ impl Body {
     fn request_in(&self, course: &Course<'_>) -> u64
         requires position { self.now.x ≤ self.now.y }
         requires end { self.now.y ≤ longest_film }
-        requires waits { self.now.k < segments_of course.now.film.now
-            → MustWait course.now.film.now course.now.setup.now course.now.ahead self.now }
+        requires waits { self.now.k < segments_of course.now.scene.now.film
+            → MustWait course.now.scene.now.film course.now.scene.now.setup course.now.scene.now.ahead self.now }
         ensures some { 1 ≤ result }
-        ensures asks { self.now.k < segments_of course.now.film.now
-            → MustWaitFor course.now.film.now course.now.setup.now course.now.ahead
+        ensures asks { self.now.k < segments_of course.now.scene.now.film
+            → MustWaitFor course.now.scene.now.film course.now.scene.now.setup course.now.scene.now.ahead
             self.now result }
     {
-        if self.k >= course.film.segments() {
+        if self.k >= course.scene.film().segments() {
             return LATEST_MS;
         }
-        let level = self.y - self.x + course.film.seg_ms();
-        if level > course.setup.buffer_ms {
-            (level - course.setup.buffer_ms) as u64
+        let level = self.y - self.x + course.scene.film().seg_ms();
+        if level > course.scene.setup().buffer_ms {
+            (level - course.scene.setup().buffer_ms) as u64
         } else {
-            available(course.film, course.ahead, self.k) - self.t
+            course.scene.available(self.k) - self.t
         }
     }
 
@@ -59,13 +59,13 @@ impl Body {
     /// The milliseconds, at least 1, for which a player has no cause to ask for a segment after an instant, and after the first of which
     /// no segment begins and no stall.
     pub fn untouched_ms(&self, course: &Course<'_>) -> u64
-        requires { CanIdle course.now.film.now course.now.setup.now course.now.ahead self.now }
+        requires { CanIdle course.now.scene.now.film course.now.scene.now.setup course.now.scene.now.ahead self.now }
         ensures some { 1 ≤ result }
         ensures limit { result ≤ latest_ms }
         ensures untouched { (kind : RuleKind) (history : List ℕ)
             → IsUntouched (case_on course.now kind) (seen self.now history) result }
     {
-        let begin = self.begin_in(course.film);
+        let begin = self.begin_in(course.scene.film());
         if self.download.is_some() {
             return begin;
         }
@@ -75,7 +75,7 @@ impl Body {
     /// The milliseconds, at least 1, for which nothing happens after an instant: no arrival, test for abandonment, seek or request, and
     /// no beginning of a segment or of a stall after the first of them.
     fn quiet_ms(&self, course: &Course<'_>) -> u64
-        requires { CanRest course.now.film.now course.now.setup.now course.now.ahead self.now }
+        requires { CanRest course.now.scene.now.film course.now.scene.now.setup course.now.scene.now.ahead self.now }
         ensures some { 1 ≤ result }
         ensures limit { result ≤ latest_ms }
         ensures quiet { KnowsEnd course.now self.now → (kind : RuleKind) (history : List ℕ)
@@ -83,7 +83,7 @@ impl Body {
     {
         let own = self.untouched_ms(course).min(seek_in(course.seeks, self.t));
         match self.download {
-            Some(d) => own.min(d.quiet_ms(self.t, course.setup)),
+            Some(d) => own.min(d.quiet_ms(self.t, course.scene.setup())),
             None => own,
         }
     }

@@ -147,15 +147,15 @@ impl Running {
         requires instant { t + ms ≤ latest_answer }
         requires job { CanTake self.now }
         ensures takes { (kind : RuleKind)
-            → self.now.begins ≡ first_at course.now.clock.now self.now.asked
-            (size_of course.now.film.now self.now.segment self.now.rung)
+            → self.now.begins ≡ first_at course.now.scene.now.periods self.now.asked
+            (size_of course.now.scene.now.film self.now.segment self.now.rung)
             → download_of result
             ≡ taken_ms (case_on course.now kind) t ms (download_of self.now) }
         ensures same { SameRequest self.now result }
     {
         let to = t + ms;
         Running {
-            job: course.clock.advance(self.job, t, to),
+            job: course.scene.clock().advance(self.job, t, to),
             first: if self.begins < to {
                 Some(self.begins)
             } else {

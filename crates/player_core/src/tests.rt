@@ -5,6 +5,7 @@ mod short;
 
 use crate::course::Course;
 use crate::plain::play_on;
+use crate::scene::Scene;
 use crate::{Event, Fixed, Listed, Session, available, play, play_from, seeks_fit};
 use lab_model::{Context, Manifest, Period, Rule, Seek, Setup, Trace, Weights};
 use network_clock::Clock;
@@ -195,12 +196,10 @@ fn listed_session(
     assert!(rt; set.fits(&m) && seeks_fit(&seeks, &m) && rule.fits(&m));
     assert!(rt; case.ahead <= ON_DEMAND);
     Ok(if plainly {
+        let scene = Scene::new(&m, &clock, &set, case.ahead);
         let course = Course {
-            film: &m,
-            clock: &clock,
-            setup: &set,
+            scene: &scene,
             seeks: &seeks,
-            ahead: case.ahead,
         };
         play_on(alloc, &course, rule)?
     } else {

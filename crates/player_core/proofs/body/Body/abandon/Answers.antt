@@ -1,6 +1,7 @@
 use Rattle.std.proofs.Common.{◌≡◌, ◌∙◌, ℕ, true, Some, sym, ap, option_map}
 use Rattle.std.proofs.lemmas.Bool.{cond-true}
 use Rattle.std.proofs.lemmas.Result.{IfOk-weaker}
+use Rattle.lab_model.specs.declared.setup.Setup.{Setup}
 use Rattle.abandonment.specs.Test.{abandonment}
 use Rattle.player_core.specs.State.{Case, Download, Player}
 use Rattle.player_core.specs.Course.{case_on}
@@ -19,8 +20,9 @@ returns-in-Some-rung_instead-clause-abandons g c =
     IfOk-weaker c.give_up.result _ _
     (λ x given kind.
     let k = case_on c.args.course.now kind in
+    let d = download_of c.in-Some.d in
     step_as _ (abandon k) c.args.self.now c.give_up.new.self
-    (λ history. abandons_for k (seen c.args.self.now history) (download_of c.in-Some.d) c.in-Some-rung_instead.to c.if-not-course.false (ap (option_map download_of) c.in-Some.is)
-    (sym c.in-Some-rung_instead.is ∙ c.rung_instead.ensures.value))
+    (λ history. abandons_for k (seen c.args.self.now history) d c.in-Some-rung_instead.to (ap (λ (s : Setup). s.abandon) (sym c.setup.ensures.value) ∙ c.if-not-setup.false) (ap (option_map download_of) c.in-Some.is)
+    (sym c.in-Some-rung_instead.is ∙ c.rung_instead.ensures.value ∙ ap (λ f. abandonment f d.segment d.rung (progress_of f c.args.self.now.t d)) c.film.ensures.value))
     (given kind))
     c.give_up.ensures.gives_up

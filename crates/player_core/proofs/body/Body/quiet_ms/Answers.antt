@@ -1,4 +1,5 @@
-use Rattle.std.proofs.Common.{◌≡◌, ℕ, ◌+◌, ◌-◌, ◌≤◌, ◌<◌, ◌⊎◌, true, false, None, Some, IfSome, inl, inr, option_map, ⊎_elim, sym, ap, subst, arith}
+use Rattle.std.proofs.Common.{◌≡◌, ◌∙◌, ℕ, ◌+◌, ◌-◌, ◌≤◌, ◌<◌, ◌⊎◌, true, false, None, Some, IfSome, inl, inr, option_map, ⊎_elim, sym, ap, subst, arith}
+use Rattle.lab_model.specs.declared.setup.Setup.{Setup}
 use Rattle.network_clock.specs.Network.{done_on}
 use Rattle.player_core.specs.Course.{case_on}
 use Rattle.player_core.specs.State.{Case, Download, Player}
@@ -26,7 +27,7 @@ returns-in-Some-clause-quiet c = λ knows kind history.
       untouched = untouched_less k q c.untouched_ms.result ms (c.untouched_ms.ensures.untouched kind history) some (omega (arith, c.min-own.ensures, c.min.ensures));
       arrives = subst (λ o. IfSome o (λ e. q.t + ms ≤ done_on k.network e.asked (asked_size k e))) runs arrives;
       judges = λ on. subst (λ o. IfSome o (λ e. (e.rung ≡ 0) ⊎ ((m : ℕ) → q.t < m → m < q.t + ms → is_due_ms (m - e.asked) ≡ false))) runs
-          (⊎_elim (λ lowest. inl lowest) (λ none. inr (λ m after low. none m after (omega (arith, low, c.min.ensures)))) (c.quiet_ms.ensures.judges on));
+          (⊎_elim (λ lowest. inl lowest) (λ none. inr (λ m after low. none m after (omega (arith, low, c.min.ensures)))) (c.quiet_ms.ensures.judges (ap (λ (s : Setup). s.abandon) c.setup.ensures.value ∙ on)));
       seeks = λ m after low. c.seek_in.ensures.none_before m after (omega (arith, low, c.min-own.ensures, c.min.ensures));
     }
 
