@@ -1,12 +1,13 @@
 -- When a download begins to take bits, and when it is done.
-use Rattle.std.proofs.Common.{◌≡◌, ℕ, ◌+◌, ◌-◌, ◌<◌, ◌≤◌, true, eqb, sym, ◌∙◌, ap, subst, ⊎_elim, eqb-true, eq-eqb, arith}
+use Rattle.std.proofs.Common.{◌≡◌, ℕ, ◌+◌, ◌-◌, ◌<◌, ◌≤◌, true, eqb, refl, sym, ◌∙◌, ap, subst, ⊎_elim, eqb-true, eq-eqb, arith}
 use Rattle.std.proofs.lemmas.Bool.{cases_lt}
 use Rattle.lab_model.specs.declared.trace.Period.{Period}
+use Rattle.network_clock.specs.declared.job.Job.{Job}
 use Rattle.network_clock.specs.Search.{least_below}
 use Rattle.network_clock.specs.Network.{done_on, first_on, job_on, lands_on, longest_ms, spends, start_job}
 use Rattle.network_clock.specs.Flow.{IsFlowing}
-use Rattle.network_clock.proofs.Search.{least_before, least_found, least_is}
-use Rattle.network_clock.proofs.Laws.{downloads_begin, downloads_end, left_waits, same_spends}
+use Rattle.network_clock.proofs.Search.{least_before, least_found, least_is, least_same}
+use Rattle.network_clock.proofs.Laws.{downloads_begin, downloads_end, free_spends, left_after, left_waits, same_spends}
 
 -- ---- what makes an instant the one
 
@@ -16,13 +17,29 @@ pub first_is : (net : ℕ → Period) (start bits n : ℕ) → n < longest_ms �
 unfolding first_on
 first_is net start bits n inside spent none = ap (λ m. start + m) (least_is longest_ms (λ m. spends (net (start + m)) (job_on net start m (start_job bits))) n inside spent none)
 
--- an instant at which nothing is left, where something is before it, is the one at which a download is done
+-- an instant at which nothing is left of a job, where something is before it, is the one at which it lands
+pub lands_is : (net : ℕ → Period) (from : ℕ) (j : Job) (n : ℕ) → n < longest_ms → (job_on net from n j).left ≡ 0 → ((k : ℕ) → k < n → (job_on net from k j).left ≡ 0 → ⊥) → from + n ≡ lands_on net from j
+unfolding lands_on
+lands_is net from j n inside none before =
+    ap (λ m. from + m)
+    (least_is longest_ms (λ m. eqb (job_on net from m j).left 0) n inside (eq-eqb _ 0 none) (λ k h e. before k h (eqb-true _ 0 e)))
+
+-- the same of a download
 pub done_is : (net : ℕ → Period) (start bits n : ℕ) → n < longest_ms → (job_on net start n (start_job bits)).left ≡ 0
     → ((k : ℕ) → k < n → (job_on net start k (start_job bits)).left ≡ 0 → ⊥) → start + n ≡ done_on net start bits
+done_is net start bits n inside none before = lands_is net start (start_job bits) n inside none before
+
+-- jobs of which the same is left at each instant land at the same instant
+pub lands_same : (net other : ℕ → Period) (from : ℕ) (j i : Job) → ((n : ℕ) → (job_on net from n j).left ≡ (job_on other from n i).left) → lands_on net from j ≡ lands_on other from i
 unfolding lands_on
-done_is net start bits n inside none before =
-    ap (λ m. start + m)
-    (least_is longest_ms (λ m. eqb (job_on net start m (start_job bits)).left 0) n inside (eq-eqb _ 0 none) (λ k h e. before k h (eqb-true _ 0 e)))
+lands_same net other from j i same =
+    ap (λ m. from + m) (least_same longest_ms (λ n. eqb (job_on net from n j).left 0) (λ n. eqb (job_on other from n i).left 0) (λ n. ap (λ left. eqb left 0) (same n)))
+
+-- a job whose millisecond is spent on bits lands where it would without credit
+pub lands_free : (net : ℕ → Period) (from : ℕ) (j : Job) → spends (net from) j ≡ true → lands_on net from j ≡ lands_on net from (record { credit = 0; left = j.left })
+lands_free net from j spent =
+    let free : Job = record { credit = 0; left = j.left } in
+    lands_same net net from j free (λ n. (left_after net from n j spent).1 ∙ sym (left_after net from n free (free_spends (net from) free refl)).1)
 
 -- ---- what is known of them
 

@@ -6,8 +6,10 @@ pub mod Meters
 pub mod Laws
 pub mod Downloads
 pub mod Pace
+pub mod Maps
 pub mod Flows
 pub mod Shares
+pub mod Parted
 pub mod Openings
 pub mod Order
 pub mod Places

@@ -9,9 +9,9 @@ use Rattle.std.proofs.lemmas.List.Elements.{All-head, All-tail}
 use Rattle.std.proofs.lemmas.List.Sums.{sum_by-cons, sum_by-take-le, sum_by_more}
 use Rattle.std.proofs.Math.Seq.{get_or-append_seam, take-length}
 use Rattle.lab_model.specs.declared.trace.Period.{Period}
-use Rattle.lab_model.specs.Cycle.{IsPeriod, IsTrace, cycle_bits, cycle_ms}
+use Rattle.lab_model.specs.Cycle.{IsPeriod, cycle_bits, cycle_ms}
 use Rattle.network_clock.specs.Network.{period_in}
-use Rattle.network_clock.specs.Flow.{AreSums, IsMeter, carried_in, flow_in}
+use Rattle.network_clock.specs.Flow.{AreSums, IsMeter, IsPaced, carried_in, flow_in}
 use Rattle.network_clock.proofs.Periods.{cycle_positive, period_here, period_later}
 use Rattle.network_clock.proofs.Sums.{sum_below_grows}
 use Rattle.network_clock.proofs.Turns.{cycle_flow, flow_in_cycle, flow_in_first, flow_in_rest}
@@ -116,11 +116,11 @@ bits_bounded (p ∷ ps) h =
     omega (arith, rest, ms, bits, one)
 
 -- a cycle of a trace carries at most 10 ^ 18 thousandths of a bit
-pub bits_fit : (ps : List Period) → IsTrace ps → cycle_bits ps ≤ 1000000000000000000
+pub bits_fit : (ps : List Period) → IsPaced ps → cycle_bits ps ≤ 1000000000000000000
 bits_fit ps h = let most = bits_bounded ps h.periods in let few = h.cycle in omega (arith, most, few)
 
 -- up to an instant of the cycle no more is carried than in all of it
-pub flow_in_fits : (ps : List Period) (t : ℕ) → IsTrace ps → t ≤ cycle_ms ps → flow_in carried_in ps t ≤ cycle_bits ps
+pub flow_in_fits : (ps : List Period) (t : ℕ) → IsPaced ps → t ≤ cycle_ms ps → flow_in carried_in ps t ≤ cycle_bits ps
 flow_in_fits ps t h inside =
     let grows = sum_below_grows (λ i. carried_in (period_in ps i)) t (cycle_ms ps) inside in
     let all = flow_in_cycle carried_in ps in
@@ -181,5 +181,5 @@ reached_at ps starts sums k start sum p target s low high =
     }
 
 -- a cycle of a trace carries something
-pub total_positive : (ps : List Period) → IsTrace ps → 1 ≤ cycle_bits ps
+pub total_positive : (ps : List Period) → IsPaced ps → 1 ≤ cycle_bits ps
 total_positive ps h = let some = cycle_positive ps h in omega (arith, h.carries, some)

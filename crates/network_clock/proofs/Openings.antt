@@ -1,5 +1,5 @@
 -- When the delay of a job is over, by the credit that the milliseconds use.
-use Rattle.std.proofs.Common.{◌≡◌, ℕ, suc, ◌+◌, ◌-◌, ◌*◌, ◌%◌, ◌<◌, ◌≤◌, ◌⊎◌, true, eqb, List, [], ◌∷◌, get_or, refl, sym, ◌∙◌, ap, ap₂, ⊎_elim, eqb-true, eq-eqb, inl, inr, le-mul_of_pos_right, mul-le-mul_right, mul-le-mul_left, arith}
+use Rattle.std.proofs.Common.{◌≡◌, ℕ, suc, ◌+◌, ◌-◌, ◌*◌, ◌<◌, ◌≤◌, ◌⊎◌, true, eqb, List, [], ◌∷◌, get_or, refl, sym, ◌∙◌, ap, ap₂, ⊎_elim, eqb-true, eq-eqb, inl, inr, le-mul_of_pos_right, mul-le-mul_right, mul-le-mul_left, arith}
 use Rattle.std.specs.List.{All}
 use Rattle.std.specs.Int.{div_ceil}
 use Rattle.std.proofs.lemmas.Bool.{cases_eq, cases_lt, or_cases, ne_eqb}
@@ -7,16 +7,16 @@ use Rattle.std.proofs.lemmas.Grind.{div_ceil_times}
 use Rattle.std.proofs.lemmas.List.{length-map}
 use Rattle.std.proofs.lemmas.List.Elements.{All-head, All-map, All-tail}
 use Rattle.std.proofs.lemmas.List.Sums.{sum_by-cons}
-use Rattle.std.proofs.lemmas.Nat.{mod_below}
 use Rattle.lab_model.specs.declared.trace.Period.{Period}
 use Rattle.lab_model.specs.Cycle.{IsPeriod, IsTrace, cycle_bits, cycle_ms}
 use Rattle.network_clock.specs.declared.job.Job.{Job}
-use Rattle.network_clock.specs.Network.{done_at, first_at, is_spent, job_after, period_at, period_in, spends, start_job}
-use Rattle.network_clock.specs.Flow.{Opens, Reaches, carried_in, delay_in, delay_of, flow, used_in}
+use Rattle.network_clock.specs.Network.{done_at, first_at, is_spent, job_after, lands_on, longest_ms, period_at, spends, start_job}
+use Rattle.network_clock.specs.Flow.{IsFlowing, IsPaced, Opens, Reaches, carried_in, delay_in, delay_of, flow, used_in}
 use Rattle.network_clock.proofs.Sums.{sum_below_at_least, sum_below_grows, sum_below_same}
-use Rattle.network_clock.proofs.Periods.{cycle_positive, latency_at, period_here, period_later}
-use Rattle.network_clock.proofs.Downloads.{done_is, first_is}
-use Rattle.network_clock.proofs.Flows.{carries_enough}
+use Rattle.network_clock.proofs.Periods.{latency_at}
+use Rattle.network_clock.proofs.Downloads.{first_is, lands_is}
+use Rattle.network_clock.proofs.Flows.{trace_flows}
+use Rattle.network_clock.proofs.Maps.{map_ms, map_period_at}
 use Rattle.network_clock.proofs.Laws.{credit_after, flow_next, free_spends, job_apart, job_start, left_after, left_waits, no_latency_spends, used_least}
 
 -- ---- the delay of a trace is a trace
@@ -36,8 +36,7 @@ used_most p = ⊎_elim (λ (none : p.latency ≡ 0). rw (eq-eqb p.latency 0 none
 
 -- the delay's trace has the same cycle
 pub delay_ms : (ps : List Period) → cycle_ms (delay_of ps) ≡ cycle_ms ps
-delay_ms [] = refl
-delay_ms (p ∷ ps) = sum_by-cons (λ (q : Period). q.duration_ms) (delay_in p) (delay_of ps) ∙ ap (λ n. p.duration_ms + n) (delay_ms ps) ∙ sym (sum_by-cons (λ (q : Period). q.duration_ms) p ps)
+delay_ms = map_ms delay_in (λ p. refl)
 
 delay_carries : (ps : List Period) → All IsPeriod ps → 1000 * cycle_ms ps ≤ cycle_bits (delay_of ps)
 delay_carries [] h = omega arith
@@ -52,38 +51,27 @@ delay_carries (p ∷ ps) h =
 delay_period : (p : Period) → IsPeriod p → IsPeriod (delay_in p)
 delay_period p h = record { duration = h.duration; bandwidth = let most = used_most p in omega (arith, most); latency = h.latency }
 
--- the delay of a trace is a trace too
-pub delay_trace : (ps : List Period) → IsTrace ps → IsTrace (delay_of ps)
-delay_trace ps h = record {
+-- the delay of a trace keeps the limits of a lane
+pub delay_paced : (ps : List Period) → IsPaced ps → IsPaced (delay_of ps)
+delay_paced ps h = record {
   count = rw length-map h.count;
   periods = All-map IsPeriod delay_in ps (λ k d l. delay_period (get_or ps k d) (h.periods k d l));
   cycle = let same = delay_ms ps in omega (arith, same, h.cycle);
   carries = let same = delay_ms ps in let least = delay_carries ps h.periods in omega (arith, same, least);
 }
 
-delay_period_in : (ps : List Period) (t : ℕ) → t < cycle_ms ps → period_in (delay_of ps) t ≡ delay_in (period_in ps t)
-delay_period_in [] t h = absurd (omega arith)
-delay_period_in (p ∷ ps) t h =
-    let ms = sum_by-cons (λ (q : Period). q.duration_ms) p ps in
-    ⊎_elim (λ (here : t < p.duration_ms). period_here (delay_in p) (delay_of ps) t here ∙ ap delay_in (sym (period_here p ps t here)))
-    (λ (later : p.duration_ms ≤ t). period_later (delay_in p) (delay_of ps) t later ∙ delay_period_in ps (t - p.duration_ms) (omega (arith, h, ms)) ∙ ap delay_in (sym (period_later p ps t later))) (cases_lt t p.duration_ms)
-
-delay_period_at : (ps : List Period) (t : ℕ) → IsTrace ps → period_at (delay_of ps) t ≡ delay_in (period_at ps t)
-unfolding period_at
-delay_period_at ps t h = ap (λ n. period_in (delay_of ps) (t % n)) (delay_ms ps) ∙ delay_period_in ps (t % cycle_ms ps) (mod_below t (cycle_ms ps) (cycle_positive ps h))
-
 -- what the delay's trace carries is the credit that is used
-pub delay_flow : (ps : List Period) (t : ℕ) → IsTrace ps → flow carried_in (delay_of ps) t ≡ flow used_in ps t
-delay_flow ps t h = sum_below_same _ _ t (λ i l. ap carried_in (delay_period_at ps i h))
+pub delay_flow : (ps : List Period) (t : ℕ) → IsPaced ps → flow carried_in (delay_of ps) t ≡ flow used_in ps t
+delay_flow ps t h = sum_below_same _ _ t (λ i l. ap carried_in (map_period_at delay_in (λ p. refl) ps h i))
 
 -- the same of the trace that a clock keeps
-pub delay_flow_of : (delay ps : List Period) → IsTrace ps → delay ≡ delay_of ps → (t : ℕ) → flow carried_in delay t ≡ flow used_in ps t
+pub delay_flow_of : (delay ps : List Period) → IsPaced ps → delay ≡ delay_of ps → (t : ℕ) → flow carried_in delay t ≡ flow used_in ps t
 delay_flow_of delay ps h e t = rw e (delay_flow ps t h)
 
 -- ---- the instant at which the credit is used up
 
 -- what is reached on the delay's trace is that instant
-pub used_up : (delay ps : List Period) (from credit was end : ℕ) → IsTrace ps → delay ≡ delay_of ps → was ≡ flow carried_in delay from → Reaches delay (was + credit) end
+pub used_up : (delay ps : List Period) (from credit was end : ℕ) → IsPaced ps → delay ≡ delay_of ps → was ≡ flow carried_in delay from → Reaches delay (was + credit) end
     → (flow used_in ps (end - 1) < flow used_in ps from + credit) × (flow used_in ps from + credit ≤ flow used_in ps end)
 used_up delay ps from credit was end h e was_is r =
     let here = delay_flow_of delay ps h e from in
@@ -92,7 +80,7 @@ used_up delay ps from credit was end h e was_is r =
     (omega (arith, here, last, was_is, r.before), omega (arith, here, all, was_is, r.there))
 
 -- within 10000 milliseconds it is
-pub uses_enough : (ps : List Period) (from : ℕ) → IsTrace ps → flow used_in ps from + 100000000 ≤ flow used_in ps (from + 10000)
+pub uses_enough : (ps : List Period) (from : ℕ) → IsPaced ps → flow used_in ps from + 100000000 ≤ flow used_in ps (from + 10000)
 uses_enough ps from h =
     let uses = sum_below_at_least (λ i. used_in (period_at ps i)) 10000 from 10000 (λ i. used_least (period_at ps i) (latency_at ps i h.periods)) in
     omega (arith, uses)
@@ -104,7 +92,7 @@ spent_means p j h = ⊎_elim (λ free. inl (eqb-true j.credit 0 free)) (λ none.
 no_latency_uses : (p : Period) → p.latency ≡ 0 → used_in p ≡ 100000000
 no_latency_uses p h = rw (eq-eqb p.latency 0 h) refl
 
-module _ (ps : List Period) (h : IsTrace ps) (from credit end : ℕ) (some : 1 ≤ credit) (few : credit ≤ 100000000) (before : flow used_in ps (end - 1) < flow used_in ps from + credit) (there : flow used_in ps from + credit ≤ flow used_in ps end) where
+module _ (ps : List Period) (h : IsPaced ps) (from credit end : ℕ) (some : 1 ≤ credit) (few : credit ≤ 100000000) (before : flow used_in ps (end - 1) < flow used_in ps from + credit) (there : flow used_in ps from + credit ≤ flow used_in ps end) where
   end_later : from < end
   end_later = ⊎_elim (λ (later : from < end). later) (λ (early : end ≤ from). let grows = sum_below_grows (λ i. used_in (period_at ps i)) end from early in absurd (omega (arith, grows, there, some))) (cases_lt from end)
 
@@ -223,28 +211,40 @@ first_opens ps start bits first o =
     let place : start + (first - start) ≡ first = omega arith in
     sym place ∙ first_is (period_at ps) start bits (first - start) (omega arith) (rw place (o.spends (1000 * bits))) (λ k inside. o.waits (1000 * bits) k (omega arith))
 
--- the instant at which nothing is left of one
-pub done_reached : (ps : List Period) → IsTrace ps → (start bits first done : ℕ) → 1 ≤ bits → bits ≤ 200000000 → Opens ps start 100000000 first → Reaches ps (flow carried_in ps first + 1000 * bits) done → done ≡ done_at ps start bits
-done_reached ps h start bits first done some few o r =
-    let from = o.from_on in
+-- what is carried from an instant on is there later
+pub reached_after : (ps : List Period) (from wanted done : ℕ) → 1 ≤ wanted → Reaches ps (flow carried_in ps from + wanted) done → from < done
+reached_after ps from wanted done some r =
+    let there = r.there in
+    ⊎_elim (λ (later : from < done). later)
+    (λ (early : done ≤ from). let grows = sum_below_grows (λ i. carried_in (period_at ps i)) done from early in absurd (omega (arith, grows, there, some))) (cases_lt from done)
+
+-- the instant at which nothing is left of a job
+pub lands_reached : {longest : ℕ} (ps : List Period) → IsFlowing longest (period_at ps) → longest + 10000 < longest_ms → (from first done : ℕ) (j : Job) → 1 ≤ j.left → j.left ≤ 200000000000
+    → Opens ps from j.credit first → Reaches ps (flow carried_in ps first + j.left) done → done ≡ lands_on (period_at ps) from j
+lands_reached {longest} ps h short from first done j some few o r =
+    let start = o.from_on in
     let soon = o.soon in
     let before = r.before in
     let there = r.there in
-    let later : first < done = ⊎_elim (λ (later : first < done). later) (λ (early : done ≤ first). let grows = sum_below_grows (λ i. carried_in (period_at ps i)) done first early in absurd (omega (arith, grows, there, some))) (cases_lt first done) in
-    let enough = carries_enough ps h first 300000000 (omega arith) in
-    let near : done ≤ first + 300000000 = ⊎_elim (λ (late : first + 300000000 < done). let grows = sum_below_grows (λ i. carried_in (period_at ps i)) (first + 300000000) (done - 1) (omega arith) in absurd (omega (arith, grows, before, enough, few))) (λ (near : done ≤ first + 300000000). near) (cases_lt (first + 300000000) done) in
-    let place : start + (done - start) ≡ done = omega arith in
-    let left = left_from ps start first done (start_job bits) o (omega arith) in
-    sym place ∙ done_is (period_at ps) start bits (done - start) (omega arith) (omega (arith, left, there))
+    let later = reached_after ps first j.left done some r in
+    let enough = h.carries first longest (omega arith) in
+    let near : done ≤ first + longest = ⊎_elim (λ (late : first + longest < done). let grows = sum_below_grows (λ i. carried_in (period_at ps i)) (first + longest) (done - 1) (omega arith) in absurd (omega (arith, grows, before, enough, few))) (λ (near : done ≤ first + longest). near) (cases_lt (first + longest) done) in
+    let place : from + (done - from) ≡ done = omega arith in
+    let left = left_from ps from first done j o (omega arith) in
+    sym place ∙ lands_is (period_at ps) from j (done - from) (omega (arith, start, soon, near, short)) (omega (arith, left, there))
     (λ k inside none. ⊎_elim
-    (λ (after : first < start + k).
-    let back : (start + k) - start ≡ k = omega arith in
-    let kept = left_from ps start first (start + k) (start_job bits) o (omega arith) in
-    let same = ap (λ n. (job_after ps start n (start_job bits)).left) back in
-    let grows = sum_below_grows (λ i. carried_in (period_at ps i)) (start + k) (done - 1) (omega arith) in
+    (λ (after : first < from + k).
+    let back : (from + k) - from ≡ k = omega arith in
+    let kept = left_from ps from first (from + k) j o (omega arith) in
+    let same = ap (λ n. (job_after ps from n j).left) back in
+    let grows = sum_below_grows (λ i. carried_in (period_at ps i)) (from + k) (done - 1) (omega arith) in
     absurd (omega (arith, kept, same, grows, before, none)))
-    (λ (until : start + k ≤ first).
-    let back : (start + k) - start ≡ k = omega arith in
-    let kept = left_until ps start first (start + k) (start_job bits) o (omega arith) until in
-    let same = ap (λ n. (job_after ps start n (start_job bits)).left) back in
-    absurd (omega (arith, kept, same, none, some))) (cases_lt first (start + k)))
+    (λ (until : from + k ≤ first).
+    let back : (from + k) - from ≡ k = omega arith in
+    let kept = left_until ps from first (from + k) j o (omega arith) until in
+    let same = ap (λ n. (job_after ps from n j).left) back in
+    absurd (omega (arith, kept, same, none, some))) (cases_lt first (from + k)))
+
+-- and that of a download
+pub done_reached : (ps : List Period) → IsTrace ps → (start bits first done : ℕ) → 1 ≤ bits → bits ≤ 200000000 → Opens ps start 100000000 first → Reaches ps (flow carried_in ps first + 1000 * bits) done → done ≡ done_at ps start bits
+done_reached ps h start bits first done some few = lands_reached ps (trace_flows ps h) (omega arith) start first done (start_job bits) (omega (arith, some)) (omega (arith, few))

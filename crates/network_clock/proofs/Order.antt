@@ -10,6 +10,7 @@ use Rattle.network_clock.proofs.Search.{least_before, least_found}
 use Rattle.network_clock.proofs.Sums.{sum_below_grows}
 use Rattle.network_clock.proofs.Laws.{credit_after, free_spends, job_start, no_latency_spends}
 use Rattle.network_clock.proofs.Flows.{trace_flows}
+use Rattle.network_clock.proofs.Periods.{trace_paced}
 use Rattle.network_clock.proofs.Downloads.{done_found, done_from, done_is, done_not_before}
 use Rattle.network_clock.proofs.Openings.{left_from, left_until, opens_at_end, opens_before_end, spent_means, uses_enough}
 
@@ -21,7 +22,7 @@ end_reached : (ps : List Period) (from : ℕ) → IsTrace ps → flow used_in ps
 unfolding end_of
 end_reached ps from h =
     let test = λ (n : ℕ). leb (flow used_in ps from + 100000000) (flow used_in ps (from + n)) in
-    leb-true _ _ (least_found 10001 test 10000 (omega arith) (le-leb _ _ (uses_enough ps from h))).1
+    leb-true _ _ (least_found 10001 test 10000 (omega arith) (le-leb _ _ (uses_enough ps from (trace_paced ps h)))).1
 
 end_first : (ps : List Period) (from : ℕ) → flow used_in ps (end_of ps from - 1) < flow used_in ps from + 100000000
 unfolding end_of
@@ -41,8 +42,8 @@ end_first ps from =
 pub opening : (ps : List Period) → IsTrace ps → (from : ℕ) → (first : ℕ) × Opens ps from 100000000 first
 opening ps h from =
     let end = end_of ps from in
-    ⊎_elim (λ none. (end - 1, opens_before_end ps h from 100000000 end (omega arith) (omega arith) (end_first ps from) (end_reached ps from h) none))
-    (λ some. (end, opens_at_end ps h from 100000000 end (omega arith) (omega arith) (end_first ps from) (end_reached ps from h) some)) (cases_eq (period_at ps (end - 1)).latency 0)
+    ⊎_elim (λ none. (end - 1, opens_before_end ps (trace_paced ps h) from 100000000 end (omega arith) (omega arith) (end_first ps from) (end_reached ps from h) none))
+    (λ some. (end, opens_at_end ps (trace_paced ps h) from 100000000 end (omega arith) (omega arith) (end_first ps from) (end_reached ps from h) some)) (cases_eq (period_at ps (end - 1)).latency 0)
 
 -- one that is asked for later begins no earlier
 openings_ordered : (ps : List Period) (start later first next : ℕ) → start ≤ later → Opens ps start 100000000 first → Opens ps later 100000000 next → first ≤ next

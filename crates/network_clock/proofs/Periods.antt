@@ -7,6 +7,7 @@ use Rattle.std.proofs.lemmas.List.Elements.{All-head, All-tail}
 use Rattle.std.proofs.lemmas.List.Sums.{get_or-le-sum_by}
 use Rattle.lab_model.specs.declared.trace.Period.{Period}
 use Rattle.lab_model.specs.Cycle.{IsPeriod, IsTrace, cycle_ms}
+use Rattle.network_clock.specs.Flow.{IsPaced}
 use Rattle.network_clock.specs.Network.{no_period, period_at, period_in}
 
 -- an instant before the end of the first period lies in it
@@ -64,8 +65,12 @@ pub latency_at : (ps : List Period) (t : ℕ) → All IsPeriod ps → (period_at
 unfolding period_at
 latency_at ps t h = latency_in ps (t % cycle_ms ps) h
 
--- a trace's cycle has a millisecond
-pub cycle_positive : (ps : List Period) → IsTrace ps → 1 ≤ cycle_ms ps
+-- a trace keeps the limits of a lane
+pub trace_paced : (ps : List Period) → IsTrace ps → IsPaced ps
+trace_paced ps h = record { count = h.count; periods = h.periods; cycle = h.cycle; carries = let carries = h.carries in omega (arith, carries) }
+
+-- a cycle has a millisecond
+pub cycle_positive : (ps : List Period) → IsPaced ps → 1 ≤ cycle_ms ps
 cycle_positive ps h =
     let some : 0 < length ps = omega arith in
     let first = h.periods 0 no_period some in

@@ -5,9 +5,9 @@ use Rattle.std.proofs.lemmas.List.{length-map}
 use Rattle.std.proofs.lemmas.List.Sums.{sum_by-take-le}
 use Rattle.std.proofs.lemmas.Nat.{mod-mul-add, mod_below}
 use Rattle.lab_model.specs.declared.trace.Period.{Period}
-use Rattle.lab_model.specs.Cycle.{IsTrace, cycle_bits, cycle_ms}
+use Rattle.lab_model.specs.Cycle.{cycle_bits, cycle_ms}
 use Rattle.network_clock.specs.declared.meter.Place.{Place}
-use Rattle.network_clock.specs.Flow.{Reaches, Touches, carried_in, delay_in, delay_of, flow}
+use Rattle.network_clock.specs.Flow.{IsPaced, Reaches, Touches, carried_in, delay_in, delay_of, flow}
 use Rattle.network_clock.specs.Network.{period_at, period_in}
 use Rattle.network_clock.proofs.Meters.{ReachesIn, Stands, carried_at, flow_in_fits, period_in_at}
 use Rattle.network_clock.proofs.Openings.{delay_ms}
@@ -82,7 +82,7 @@ carried_there ps starts sums cycles k start sum p t s h =
     omega (arith, inside, turns, first, same, scaled)
 
 -- what is carried in a cycle is at most what the cycle carries
-pub carried_most : (ps : List Period) (cycles k t carried : ℕ) → IsTrace ps → Touches ps (place cycles k) t → cycles * cycle_bits ps + carried ≡ flow carried_in ps t → carried ≤ cycle_bits ps
+pub carried_most : (ps : List Period) (cycles k t carried : ℕ) → IsPaced ps → Touches ps (place cycles k) t → cycles * cycle_bits ps + carried ≡ flow carried_in ps t → carried ≤ cycle_bits ps
 carried_most ps cycles k t carried h touches value =
     let w = within ps cycles k t touches in
     let most = flow_in_fits ps w.rest h w.all in
@@ -92,7 +92,7 @@ carried_most ps cycles k t carried h touches value =
     omega (arith, most, turns, first, same, value)
 
 -- what is carried before an instant has few cycles before it
-pub cycles_few : (ps : List Period) (cycles t : ℕ) → IsTrace ps → cycles * cycle_bits ps < flow carried_in ps t → (cycles * cycle_ms ps ≤ t) × (cycles ≤ t)
+pub cycles_few : (ps : List Period) (cycles t : ℕ) → IsPaced ps → cycles * cycle_bits ps < flow carried_in ps t → (cycles * cycle_ms ps ≤ t) × (cycles ≤ t)
 cycles_few ps cycles t h below =
     let cycle = cycle_positive ps h in
     let part = flow_in_fits ps (t % cycle_ms ps) h (let early = mod_below t (cycle_ms ps) cycle in omega (arith, early)) in

@@ -1,11 +1,15 @@
 -- The search for the least number that passes a test finds it.
-use Rattle.std.proofs.Common.{◌≡◌, ℕ, zero, suc, ◌<◌, ◌≤◌, Bool, true, false, refl, ⊎_elim, arith}
+use Rattle.std.proofs.Common.{◌≡◌, ℕ, zero, suc, ◌<◌, ◌≤◌, Bool, true, false, refl, sym, ◌∙◌, ap, ⊎_elim, arith}
 use Rattle.std.proofs.lemmas.Bool.{cases_Bool, cases_lt}
 use Rattle.network_clock.specs.Search.{least_below}
 
 least_here : (bound : ℕ) (test : ℕ → Bool) → test zero ≡ true → least_below (suc bound) test ≡ zero
 unfolding least_below
 least_here bound test e = rw e refl
+
+least_none : (test : ℕ → Bool) → least_below zero test ≡ zero
+unfolding least_below
+least_none test = refl
 
 least_later : (bound : ℕ) (test : ℕ → Bool) → test zero ≡ false → least_below (suc bound) test ≡ suc (least_below bound (λ n. test (suc n)))
 unfolding least_below
@@ -32,6 +36,16 @@ least_found (suc bound) test (suc n) h e =
 -- nothing before the least passes
 pub least_before : (bound : ℕ) (test : ℕ → Bool) (n : ℕ) → n < least_below bound test → test n ≡ true → ⊥
 least_before bound test n h e = ⊎_elim (λ inside. let f = least_found bound test n inside e in let l = f.0 in omega arith) (λ outside. let b = least_bounded bound test in omega arith) (cases_lt n bound)
+
+-- tests that agree have the same least
+pub least_same : (bound : ℕ) (test other : ℕ → Bool) → ((k : ℕ) → test k ≡ other k) → least_below bound test ≡ least_below bound other
+least_same zero test other same = least_none test ∙ sym (least_none other)
+least_same (suc bound) test other same =
+    ⊎_elim (λ (now : test zero ≡ true). least_here bound test now ∙ sym (least_here bound other (sym (same zero) ∙ now)))
+    (λ (later : test zero ≡ false).
+    least_later bound test later ∙ ap suc (least_same bound (λ k. test (suc k)) (λ k. other (suc k)) (λ k. same (suc k)))
+    ∙ sym (least_later bound other (sym (same zero) ∙ later)))
+    (cases_Bool (test zero))
 
 -- a number that passes, with none before it that does, is the least
 pub least_is : (bound : ℕ) (test : ℕ → Bool) (n : ℕ) → n < bound → test n ≡ true → ((k : ℕ) → k < n → test k ≡ true → ⊥) → n ≡ least_below bound test

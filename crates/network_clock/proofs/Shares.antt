@@ -7,7 +7,7 @@ use Rattle.network_clock.specs.Flow.{IsFlowing, carried_in, flow, flow_on}
 use Rattle.network_clock.specs.Network.{parted, period_at}
 use Rattle.network_clock.proofs.Flows.{enough, enough_ms}
 use Rattle.network_clock.proofs.Laws.{flow_next}
-use Rattle.network_clock.proofs.Periods.{bandwidth_at, cycle_positive, latency_at}
+use Rattle.network_clock.proofs.Periods.{bandwidth_at, cycle_positive, latency_at, trace_paced}
 use Rattle.network_clock.proofs.Sums.{sum_below_grows}
 use Rattle.network_clock.proofs.Turns.{flow_turns}
 
@@ -44,7 +44,7 @@ share_flows ps h takers few = record {
       let share = λ (i : ℕ). parted (takers i) (period_at ps i) in
       let cycle = h.cycle in
       let q = enough 1612000000 (cycle_ms ps) in
-      let ms = enough_ms 1612000000 (cycle_ms ps) (cycle_positive ps h) in
+      let ms = enough_ms 1612000000 (cycle_ms ps) (cycle_positive ps (trace_paced ps h)) in
       let small = ms.0 in
       let large = ms.1 in
       let turns = flow_turns carried_in ps q t in

@@ -1,12 +1,13 @@
 -- Not part of the model: what the proofs keep.
 -- What the milliseconds before an instant bring, and the sums by which it is found without going through them.
 use Rattle.std.specs.Prelude.{◌≡◌, ℕ, zero, suc, ◌+◌, ◌-◌, ◌*◌, ◌<◌, ◌≤◌, ◌==◌, if◌then◌else◌, true, List, length, map, take, slice_index}
-use Rattle.std.specs.List.{sum_by}
+use Rattle.std.specs.List.{All, sum_by}
 use Rattle.std.specs.Int.{div_ceil}
 use Rattle.lab_model.specs.declared.trace.Period.{Period}
-use Rattle.lab_model.specs.Cycle.{IsTrace, cycle_ms}
+use Rattle.lab_model.specs.Cycle.{IsPeriod, cycle_bits, cycle_ms}
+use Rattle.lab_model.specs.Film.{IsWithin}
 use Rattle.network_clock.specs.declared.meter.Place.{Place}
-use Rattle.network_clock.specs.Network.{is_spent, job_after, period_at, period_in}
+use Rattle.network_clock.specs.Network.{is_spent, job_after, parted, period_at, period_in}
 
 -- the sum of what a function gives at the numbers below one
 unfoldable pub sum_below : (ℕ → ℕ) → ℕ → ℕ
@@ -47,6 +48,17 @@ delay_in p = record p { bandwidth = used_in p }
 abbrev pub delay_of : List Period → List Period
 delay_of ps = map delay_in ps
 
+-- the lane of each of so many takers of a trace, as a trace
+abbrev pub parted_trace : ℕ → List Period → List Period
+parted_trace takers ps = map (parted takers) ps
+
+-- the limits of a trace and of the lanes of up to eight takers: on the mean of a cycle a millisecond carries 124 thousandths of a bit
+pub record IsPaced (ps : List Period) : Type 0 where
+  pub count : IsWithin 1 100000 (length ps)
+  pub periods : All IsPeriod ps
+  pub cycle : cycle_ms ps ≤ 100000000
+  pub carries : 124 * cycle_ms ps ≤ cycle_bits ps
+
 -- the sums over the first 0, 1 and so on up to n periods
 pub record AreSums (size : Period → ℕ) (ps : List Period) (n : ℕ) (sums : List ℕ) : Type 0 where
   pub count : length sums ≡ n + 1
@@ -54,7 +66,7 @@ pub record AreSums (size : Period → ℕ) (ps : List Period) (n : ℕ) (sums : 
 
 -- the sums that a meter keeps: of the milliseconds, and of what they carry
 pub record IsMeter (ps : List Period) (start_sums carried_sums : List ℕ) : Type 0 where
-  pub trace : IsTrace ps
+  pub paced : IsPaced ps
   pub starts : AreSums (λ p. p.duration_ms) ps (length ps) start_sums
   pub sums : AreSums (λ p. p.duration_ms * p.bandwidth) ps (length ps) carried_sums
 

@@ -1,3 +1,4 @@
 pub mod Flow
 pub mod Network
 pub mod Search
+pub mod Shared

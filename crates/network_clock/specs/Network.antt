@@ -77,3 +77,7 @@ first_at ps start bits = first_on (period_at ps) start bits
 -- a period of which so many takers have equal shares, in whole thousandths of a bit; without takers it is nobody's
 abbrev pub parted : ℕ → Period → Period
 parted takers p = record p { bandwidth = p.bandwidth / max 1 takers }
+
+-- the lane of each of so many takers of a trace: the period of each instant, parted
+abbrev pub lane_at : List Period → ℕ → ℕ → Period
+lane_at ps takers t = parted takers (period_at ps t)

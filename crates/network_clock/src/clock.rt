@@ -2,7 +2,7 @@
 
 ghost use Rattle.std.specs.Prelude.{◌≡◌, ℕ, ◌+◌, ◌-◌, ◌*◌, ◌<◌, ◌≤◌, IfOk};
 ghost use Rattle.lab_model.specs.Cycle.{IsTrace};
-ghost use Rattle.network_clock.specs.Flow.{Opens, Touches, delay_in, delay_of, used_in};
+ghost use Rattle.network_clock.specs.Flow.{IsPaced, Opens, Touches, delay_in, delay_of, used_in};
 ghost use Rattle.network_clock.specs.Network.{done_at, first_at, job_after, period_at};
 
 use crate::job::{Job, Landing};
@@ -36,6 +36,61 @@ fn delay_of(alloc: Global, periods: &[Period]) -> Result<Vec<Period>, AllocError
     ensures { IfOk result (λ v. v.items ≡ delay_of periods.now) }
 {
     periods.iter().map(|p| delay_in(*p)).collect(alloc)
+}
+
+/// The least instant from `from` on whose millisecond is spent on the bits of a job with this credit, by the
+/// meter of a trace and that of its delay.
+fn first_from(delay: &Meter, bits: &Meter, from: u64, credit: u32) -> Moment
+    requires paced { IsPaced bits.now }
+    requires delay { delay.now ≡ delay_of bits.now }
+    requires from { from ≤ 2000000000000000 }
+    requires credit { credit ≤ 100000000 }
+    ensures opens { Opens bits.now from credit result.instant }
+    ensures place { Touches bits.now result.place result.instant }
+{
+    let begin = delay.place_at(from);
+    if credit == 0 {
+        return Moment {
+            place: begin,
+            instant: from,
+        };
+    }
+    let used = delay.carried_since(begin, from) + credit as u64;
+    let end = delay.reach_from(begin, used);
+    let last = end.instant - 1;
+    let latency = bits.period_of(end.place).latency;
+    // a millisecond without latency uses up the credit, and is spent on bits itself
+    let first = if latency == 0 { last } else { end.instant };
+    Moment {
+        place: end.place,
+        instant: first,
+    }
+}
+
+/// The job after the milliseconds `from` to `to - 1`, by the same meters.
+pub(crate) fn advance_by(delay: &Meter, bits: &Meter, job: Job, from: u64, to: u64) -> Job
+    requires paced { IsPaced bits.now }
+    requires delay { delay.now ≡ delay_of bits.now }
+    requires order { from ≤ to }
+    requires instants { to ≤ 2000000000000000 }
+    requires credit { job.credit ≤ 100000000 }
+    requires left { job.left ≤ 200000000000 }
+    ensures { result ≡ job_after bits.now from (to - from) job }
+{
+    let first = first_from(delay, bits, from, job.credit);
+    if to <= first.instant {
+        let used = delay.carried_before(to) - delay.carried_before(from);
+        return Job {
+            credit: (job.credit as u128).saturating_sub(used) as u32,
+            left: job.left,
+        };
+    }
+    let before = bits.carried_at(first.place, first.instant);
+    let carried = bits.carried_before(to) - before;
+    Job {
+        credit: 0,
+        left: (job.left as u128).saturating_sub(carried) as u64,
+    }
 }
 
 /// The clock of a trace: it answers for any instant.
@@ -77,32 +132,6 @@ impl Clock {
         Ok(Clock { delay, bits })
     }
 
-    /// The least instant from `from` on whose millisecond is spent on the bits of a job with this credit.
-    fn first_from(&self, from: u64, credit: u32) -> Moment
-        requires from { from ≤ 2000000000000000 }
-        requires credit { credit ≤ 100000000 }
-        ensures opens { Opens self.now from credit result.instant }
-        ensures place { Touches self.now result.place result.instant }
-    {
-        let begin = self.delay.place_at(from);
-        if credit == 0 {
-            return Moment {
-                place: begin,
-                instant: from,
-            };
-        }
-        let used = self.delay.carried_since(begin, from) + credit as u64;
-        let end = self.delay.reach_from(begin, used);
-        let last = end.instant - 1;
-        let latency = self.bits.period_of(end.place).latency;
-        // a millisecond without latency uses up the credit, and is spent on bits itself
-        let first = if latency == 0 { last } else { end.instant };
-        Moment {
-            place: end.place,
-            instant: first,
-        }
-    }
-
     /// When a download of `bits`, 1 to 200000000, begins to take bits, and when it is done, if it is asked
     /// for at `start`, at most 2 * 10^15. No download that is asked for later, and is no smaller, is done
     /// earlier.
@@ -121,7 +150,7 @@ impl Clock {
             → result.done ≤ done_at self.now later more }
         ensures trace { IsTrace self.now }
     {
-        let first = self.first_from(start, 100_000_000);
+        let first = first_from(&self.delay, &self.bits, start, 100_000_000);
         let carried = self.bits.carried_since(first.place, first.instant) + 1000 * bits as u64;
         let done = self.bits.reach_from(first.place, carried);
         Landing {
@@ -155,19 +184,21 @@ impl Clock {
         ensures after { result ≡ job_after self.now from (to - from) job }
         ensures trace { IsTrace self.now }
     {
-        let first = self.first_from(from, job.credit);
-        if to <= first.instant {
-            let used = self.delay.carried_before(to) - self.delay.carried_before(from);
-            return Job {
-                credit: (job.credit as u128).saturating_sub(used) as u32,
-                left: job.left,
-            };
-        }
-        let before = self.bits.carried_at(first.place, first.instant);
-        let carried = self.bits.carried_before(to) - before;
-        Job {
-            credit: 0,
-            left: (job.left as u128).saturating_sub(carried) as u64,
-        }
+        advance_by(&self.delay, &self.bits, job, from, to)
+    }
+
+    /// The meter of the trace.
+    pub(crate) fn bits(&self) -> &Meter
+        ensures value { result.now ≡ self.now }
+        ensures trace { IsTrace self.now }
+    {
+        &self.bits
+    }
+
+    /// The meter of its delay.
+    pub(crate) fn delay(&self) -> &Meter
+        ensures value { result.now ≡ delay_of self.now }
+    {
+        &self.delay
     }
 }

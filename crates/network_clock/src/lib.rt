@@ -4,11 +4,13 @@
 
 mod clock;
 mod job;
+mod link;
 mod meter;
 mod plain;
 
 pub use clock::Clock;
 pub use job::{Job, Landing};
+pub use link::{Link, share_of};
 
 #[cfg(test)]
 mod tests;

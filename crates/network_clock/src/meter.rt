@@ -2,9 +2,9 @@
 //! the beginning of each period.
 
 ghost use Rattle.std.specs.Prelude.{◌≡◌, ℕ, ◌+◌, ◌-◌, ◌*◌, ◌<◌, ◌≤◌, IfOk, length, slice_index, take};
-ghost use Rattle.lab_model.specs.Cycle.{IsPeriod, IsTrace, cycle_bits, cycle_ms};
+ghost use Rattle.lab_model.specs.Cycle.{IsPeriod, cycle_bits, cycle_ms};
 ghost use Rattle.std.specs.List.{All};
-ghost use Rattle.network_clock.specs.Flow.{AreSums, Reaches, Touches, carried_in, flow};
+ghost use Rattle.network_clock.specs.Flow.{AreSums, IsPaced, Reaches, Touches, carried_in, flow};
 ghost use Rattle.network_clock.specs.Network.{period_at};
 
 use lab_model::Period;
@@ -13,7 +13,7 @@ use std::marker::Model;
 
 /// The sums of the milliseconds up to the beginning of each period, and of all.
 fn starts_of(alloc: Global, periods: &[Period]) -> Result<Vec<u64>, AllocError>
-    requires { IsTrace periods.now }
+    requires { IsPaced periods.now }
     ensures { IfOk result (λ v. AreSums (λ p. p.duration_ms) periods.now
         (length periods.now) v.items) }
 {
@@ -29,7 +29,7 @@ fn starts_of(alloc: Global, periods: &[Period]) -> Result<Vec<u64>, AllocError>
 
 /// The sums of the thousandths of a bit up to the beginning of each period, and of all.
 fn sums_of(alloc: Global, periods: &[Period]) -> Result<Vec<u64>, AllocError>
-    requires { IsTrace periods.now }
+    requires { IsPaced periods.now }
     ensures { IfOk result (λ v. AreSums (λ p. p.duration_ms * p.bandwidth) periods.now
         (length periods.now) v.items) }
 {
@@ -114,7 +114,7 @@ pub struct Moment {
     pub instant: u64,
 }
 
-/// A trace with its running sums.
+/// A trace, or the lane of a number of takers, with its running sums.
 #[derive(Drop)]
 pub struct Meter {
     periods: Vec<Period>,
@@ -137,7 +137,7 @@ impl Model for Meter {
 impl Meter {
     /// The meter of these periods.
     pub fn new(alloc: Global, periods: Vec<Period>) -> Result<Meter, AllocError>
-        requires { IsTrace periods.items }
+        requires { IsPaced periods.items }
         ensures { IfOk result (λ m. m ≡ periods.items) }
     {
         let starts = starts_of(alloc, &periods)?;
@@ -160,7 +160,7 @@ impl Meter {
     fn cycle(&self) -> u64
         ensures value { result ≡ cycle_ms self.now }
         ensures some { 1 ≤ result }
-        ensures trace { IsTrace self.now }
+        ensures paced { IsPaced self.now }
     {
         self.starts[self.periods.len()]
     }
@@ -169,7 +169,7 @@ impl Meter {
     fn total(&self) -> u64
         ensures value { result ≡ cycle_bits self.now }
         ensures some { 1 ≤ result }
-        ensures trace { IsTrace self.now }
+        ensures paced { IsPaced self.now }
     {
         self.sums[self.periods.len()]
     }

@@ -2,9 +2,10 @@
 
 ghost use Rattle.std.specs.Prelude.{◌≡◌, ℕ, ◌+◌, ◌-◌, ◌*◌, ◌<◌, ◌≤◌};
 ghost use Rattle.lab_model.specs.Cycle.{IsTrace, cycle_ms};
-ghost use Rattle.network_clock.specs.Network.{done_at, first_at, job_after, period_at, period_in};
+ghost use Rattle.network_clock.specs.Network.{first_at, job_on, lands_on, lane_at, period_at, period_in};
 
 use crate::job::Job;
+use crate::link::share_of;
 use lab_model::Period;
 
 /// The milliseconds of one cycle.
@@ -59,32 +60,34 @@ pub fn first_at(periods: &[Period], start: u64, bits: u32) -> u64
     unreachable!()
 }
 
-/// The instant at which nothing is left of a download.
-pub fn done_at(periods: &[Period], start: u64, bits: u32) -> u64
+/// The instant at which nothing is left of a job, where so many share each period.
+pub fn lands(periods: &[Period], takers: u8, start_job: Job, from: u64) -> u64
     requires trace { IsTrace periods.now }
-    requires start { start ≤ 2000000000000000 }
-    requires bits { bits ≤ 200000000 }
-    ensures { result ≡ done_at periods.now start bits }
+    requires takers { takers ≤ 8 }
+    requires from { from ≤ 2000000000000000 }
+    requires credit { start_job.credit ≤ 100000000 }
+    requires left { start_job.left ≤ 200000000000 }
+    ensures { result ≡ lands_on (lane_at periods.now takers) from start_job }
 {
-    let mut job = Job::start(bits);
+    let mut job = start_job;
     for n in 0..2_000_000_000u64 {
         if job.left == 0 {
-            return start + n;
+            return from + n;
         }
-        job = job.pass(period_at(periods, start + n));
+        job = job.pass(share_of(period_at(periods, from + n), takers));
     }
     unreachable!()
 }
 
-/// The job after the milliseconds `from` to `to - 1`.
-pub fn advance(periods: &[Period], start_job: Job, from: u64, to: u64) -> Job
+/// The job after the milliseconds `from` to `to - 1`, where so many share each period.
+pub fn advance(periods: &[Period], takers: u8, start_job: Job, from: u64, to: u64) -> Job
     requires trace { IsTrace periods.now }
     requires order { from ≤ to }
-    ensures { result ≡ job_after periods.now from (to - from) start_job }
+    ensures { result ≡ job_on (lane_at periods.now takers) from (to - from) start_job }
 {
     let mut job = start_job;
     for instant in from..to {
-        job = job.pass(period_at(periods, instant));
+        job = job.pass(share_of(period_at(periods, instant), takers));
     }
     job
 }

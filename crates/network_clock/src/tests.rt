@@ -1,6 +1,6 @@
 //! Worked examples of the network.
 
-use crate::{Clock, Job, Landing, plain};
+use crate::{Clock, Job, Landing, Link, plain};
 use lab_model::{Period, Trace};
 use std::alloc::Global;
 use std::process::Abort;
@@ -118,7 +118,7 @@ fn agrees(rt: &impl Abort, alloc: Global, rows: &[(u32, u64, u32)]) -> Result<()
         for bits in 1..30u32 {
             let landing = Landing {
                 first: plain::first_at(periods, start, bits),
-                done: plain::done_at(periods, start, bits),
+                done: plain::lands(periods, 1, Job::start(bits), start),
             };
             assert_eq!(rt;
                 clock.finish(start, bits),
@@ -132,7 +132,7 @@ fn agrees(rt: &impl Abort, alloc: Global, rows: &[(u32, u64, u32)]) -> Result<()
                 left: 9000,
             };
             for to in start..start + 24 {
-                let wanted = plain::advance(periods, job, start, to);
+                let wanted = plain::advance(periods, 1, job, start, to);
                 assert_eq!(rt;
                     clock.advance(job, start, to),
                     wanted,
@@ -170,5 +170,60 @@ fn like_the_plain_network(rt: HostRuntime) -> Result<(), Fail> {
             (1, 5000, 2),
         ],
     )?;
+    Ok(())
+}
+
+/// The link answers what going millisecond by millisecond does, for every number of takers.
+fn shares_agree(rt: &impl Abort, alloc: Global, rows: &[(u32, u64, u32)]) -> Result<(), Fail> {
+    let trace = trace_of(alloc, rows)?;
+    let link = Link::new(alloc, &trace, 8)?;
+    let periods = trace.periods();
+    for takers in 0..9u8 {
+        for from in 0..16u64 {
+            for bits in 1..10u64 {
+                let left = 1000 * bits;
+                let job = Job { credit: 0, left };
+                let wanted = plain::lands(periods, takers, job, from);
+                assert_eq!(rt;
+                    link.lands(takers, from, left),
+                    wanted,
+                    "{bits} bits from {from}"
+                );
+            }
+            for to in from..from + 20 {
+                let job = Job {
+                    credit: 60_000_000,
+                    left: 9000,
+                };
+                let wanted = plain::advance(periods, takers, job, from, to);
+                assert_eq!(rt;
+                    link.advance(takers, job, from, to),
+                    wanted,
+                    "from {from} to {to}"
+                );
+            }
+        }
+    }
+    Ok(())
+}
+
+#[test]
+fn like_the_plain_share(rt: HostRuntime) -> Result<(), Fail> {
+    let alloc = rt.alloc();
+    shares_agree(
+        &rt,
+        alloc,
+        &[(3, 1500, 8), (2, 0, 3), (4, 7000, 5), (1, 999, 0)],
+    )?;
+    shares_agree(&rt, alloc, &[(7, 999, 9), (1, 1007, 0)])?;
+    Ok(())
+}
+
+#[test]
+fn least_share(rt: HostRuntime) -> Result<(), Fail> {
+    let alloc = rt.alloc();
+    let trace = trace_of(alloc, &[(7, 999, 0), (1, 1007, 0)])?;
+    let link = Link::new(alloc, &trace, 8)?;
+    assert_eq!(rt; link.lands(8, 0, 200_000_000_000), 1_611_278_953);
     Ok(())
 }

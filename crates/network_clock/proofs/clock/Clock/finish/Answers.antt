@@ -23,15 +23,16 @@ trace : (c : After-reach_from-done) → IsTrace c.args.self.now
 trace c = rw (← c.self.view_is) c.self.invariant.0
 
 first : (c : After-reach_from-done) → c.first_from-first.result.instant ≡ first_at c.args.self.now c.args.start c.args.bits
-first c = first_opens c.args.self.now c.args.start c.args.bits c.first_from-first.result.instant c.first_from-first.ensures.opens
+first c = rw (← c.self.view_is) (first_opens c.self.inside.bits c.args.start c.args.bits c.first_from-first.result.instant c.first_from-first.ensures.opens)
 
 done : (c : After-reach_from-done) → c.reach_from-done.result.instant ≡ done_at c.args.self.now c.args.start c.args.bits
 done c =
+    let ps = c.self.inside.bits in
     let first = c.first_from-first.result.instant in
-    let before = c.first_from-first.result.place.cycles * cycle_bits c.self.inside.bits in
-    let wanted : before + (c.carried_since.result + 1000 * c.args.bits) ≡ flow carried_in c.self.inside.bits first + 1000 * c.args.bits = omega (arith, c.carried_since.ensures.value) in
-    let r : Reaches c.args.self.now (flow carried_in c.args.self.now first + 1000 * c.args.bits) c.reach_from-done.result.instant = rw (← c.self.view_is, ← wanted) c.reach_from-done.ensures.reaches in
-    done_reached c.args.self.now (trace c) c.args.start c.args.bits first c.reach_from-done.result.instant c.requires.bits.0 c.requires.bits.1 c.first_from-first.ensures.opens r
+    let before = c.first_from-first.result.place.cycles * cycle_bits ps in
+    let wanted : before + (c.carried_since.result + 1000 * c.args.bits) ≡ flow carried_in ps first + 1000 * c.args.bits = omega (arith, c.carried_since.ensures.value) in
+    let r : Reaches ps (flow carried_in ps first + 1000 * c.args.bits) c.reach_from-done.result.instant = rw (← wanted) c.reach_from-done.ensures.reaches in
+    rw (← c.self.view_is) (done_reached ps c.self.invariant.0 c.args.start c.args.bits first c.reach_from-done.result.instant c.requires.bits.0 c.requires.bits.1 c.first_from-first.ensures.opens r)
 
 pub returns-clause-first : goal.returns-clause-first
 returns-clause-first c = first c

@@ -1,6 +1,6 @@
 use Rattle.std.proofs.Common.{◌≡◌, ◌+◌, ◌-◌, ◌*◌, ◌≤◌, arith}
-use Rattle.lab_model.specs.Cycle.{IsTrace, cycle_bits}
-use Rattle.network_clock.specs.Flow.{Touches, carried_in, flow}
+use Rattle.lab_model.specs.Cycle.{cycle_bits}
+use Rattle.network_clock.specs.Flow.{IsPaced, Touches, carried_in, flow}
 use Rattle.network_clock.proofs.Meters.{Stands, bits_fit, stands}
 use Rattle.network_clock.proofs.Places.{carried_most, carried_there}
 use Rattle.network_clock.proofs.meter.Meter.carried_since.Goals as goal
@@ -22,7 +22,7 @@ value c =
 
 most : (c : After-index-3) → c.index-2.result.now + (c.args.instant - (c.args.place.cycles * c.cycle.result + c.index.result.now)) * c.index-3.result.now.bandwidth ≤ 1000000000000000000
 most c =
-    let h : IsTrace c.args.self.now = c.cycle.ensures.trace in
+    let h : IsPaced c.args.self.now = c.cycle.ensures.paced in
     let few = carried_most c.args.self.now c.args.place.cycles c.args.place.period c.args.instant _ h c.requires (value c) in
     let small = bits_fit c.args.self.now h in
     omega (arith, few, small)

@@ -8,5 +8,5 @@ pub returns-clause-some : goal.returns-clause-some
 returns-clause-some c =
     let ps = c.self.inside.periods in
     let last = sums_last (λ (p : Period). p.duration_ms) ps.items c.self.inside.starts.items c.len.result c.index.result.now c.self.invariant.starts (omega (arith, c.len.ensures, ps.ok.0)) c.index.ensures in
-    let some = cycle_positive ps.items c.self.invariant.trace in
+    let some = cycle_positive ps.items c.self.invariant.paced in
     omega (arith, last, some)

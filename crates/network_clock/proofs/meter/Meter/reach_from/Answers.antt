@@ -31,7 +31,7 @@ cycles_fit c =
     let ps = c.args.self.now in
     let cycles = c.within_cycle-rest.result.0.cycles in
     let below : cycles * cycle_bits ps < flow carried_in ps 3000000000000000 = omega (arith, c.within_cycle-rest.ensures.same, c.within_cycle-rest.ensures.more, c.requires.soon) in
-    let few = (cycles_few ps cycles 3000000000000000 c.cycle.ensures.trace below).0 in
+    let few = (cycles_few ps cycles 3000000000000000 c.cycle.ensures.paced below).0 in
     let same = ap (λ n. cycles * n) c.cycle.ensures.value in
     omega (arith, few, same)
 
@@ -42,7 +42,7 @@ pub overflow_add-result : goal.overflow_add-result
 overflow_add-result c =
     let few = cycles_fit (goal.at.overflow_add-result c).After-cycle in
     let all = rw c.self.view_is at (reached (goal.at.overflow_add-result c).After-cycle).all in
-    omega (arith, few, all, c.cycle.ensures.trace.cycle)
+    omega (arith, few, all, c.cycle.ensures.paced.cycle)
 
 pub returns-clause-reaches : goal.returns-clause-reaches
 returns-clause-reaches c = (found (goal.at.returns-clause-reaches c).After-cycle).reaches

@@ -7,5 +7,5 @@ pub returns-clause-some : goal.returns-clause-some
 returns-clause-some c =
     let ps = c.self.inside.periods in
     let last = sums_last (λ (p : Period). p.duration_ms * p.bandwidth) ps.items c.self.inside.sums.items c.len.result c.index.result.now c.self.invariant.sums (omega (arith, c.len.ensures, ps.ok.0)) c.index.ensures in
-    let some = total_positive ps.items c.self.invariant.trace in
+    let some = total_positive ps.items c.self.invariant.paced in
     omega (arith, last, some)

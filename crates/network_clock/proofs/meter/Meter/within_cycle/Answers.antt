@@ -11,5 +11,5 @@ overflow_add-place c =
     let whole = div-mul-le_self (c.args.wanted - 1) c.total-total.result in
     let total = ap (λ n. turns * n) c.total-total.ensures.value in
     let below : (c.args.from.cycles + turns) * cycle_bits ps < flow carried_in ps 3000000000000000 = omega (arith, c.requires.soon, whole, total, c.if-wanted-total.false) in
-    let few = (cycles_few ps (c.args.from.cycles + turns) 3000000000000000 c.total-total.ensures.trace below).1 in
+    let few = (cycles_few ps (c.args.from.cycles + turns) 3000000000000000 c.total-total.ensures.paced below).1 in
     omega (arith, few)
