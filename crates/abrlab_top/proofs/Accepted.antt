@@ -17,24 +17,22 @@ use Rattle.lab_inputs.specs.Inputs.{◌>>=◌, InputValues, inputs_from, inputs_
 use Rattle.lab_inputs.specs.Settings.{misfit_of, ready_of, settled, setup_of, unless_misfit}
 use Rattle.lab_inputs.proofs.Steps.{bind_ok, inputs_one_more, ok_same, ready_traces}
 use Rattle.player_core.specs.Available.{all_ahead}
-use Rattle.frontier_planner.specs.Frontier.{frontier}
-use Rattle.frontier_planner.specs.Grid.{exact}
-use Rattle.frontier_planner.specs.Grown.{grown}
-use Rattle.frontier_planner.specs.Labels.{IsTask, Task, task_of}
-use Rattle.frontier_planner.specs.Parts.{CertificateParts}
-use Rattle.frontier_planner.specs.Read.{labels_before, labels_in}
-use Rattle.frontier_planner.proofs.Rounds.{exact_fits}
-use Rattle.frontier_planner.proofs.Same.{before_same, certificate_same}
-use Rattle.frontier_planner.proofs.Short.{certificate_short}
-use Rattle.frontier_planner.proofs.Sound.{exact_agrees, plan_accepted}
-use Rattle.frontier_planner.proofs.ReadBack.{list_fits}
-use Rattle.certificate_text.specs.Form.{IsCertificate}
+use Rattle.labels.specs.Frontier.{frontier}
+use Rattle.labels.specs.Grid.{exact}
+use Rattle.labels.specs.Grown.{grown}
+use Rattle.player_core.specs.Scene.{IsTask, Task, task_of}
+use Rattle.labels.specs.Parts.{CertificateParts}
+use Rattle.labels.specs.Read.{labels_before, labels_in}
+use Rattle.labels.proofs.Rounds.{exact_fits}
+use Rattle.labels.proofs.Same.{before_same, certificate_same}
+use Rattle.labels.proofs.HasForm.{certificate_form}
+use Rattle.labels.proofs.Sound.{exact_agrees, plan_accepted}
+use Rattle.labels.specs.Form.{IsCertificate}
 use Rattle.certificate_text.specs.Reading as text
 use Rattle.certificate_text.specs.Spelling.{spelling}
-use Rattle.certificate_text.specs.declared.certificate.Verdict.TheVariants.{Yes}
+use Rattle.labels.specs.declared.verdict.Verdict.TheVariants.{Yes}
 use Rattle.certificate_text.proofs.HeadLaws.{certificate_again}
 use Rattle.certificate_text.proofs.Length.{spelling_fits}
-use Rattle.certificate_text.proofs.PlanText.{read_has_text}
 use Rattle.certificate_check.specs.Verdict.{verdict_of}
 use Rattle.certificate_check.proofs.Verdicts.{valid_yes}
 use Rattle.abrlab_top.specs.Answer.{Answer, printed}
@@ -116,9 +114,7 @@ has_text : (g : Task) → IsTask g → labels_in g (frontier g) ≤ 1000000 → 
 has_text g is few =
     let agree = exact_agrees g is in
     let before = before_same exact g (grown exact g) (frontier g) agree (segments_of g.film) (omega arith) in
-    let short = certificate_short exact g (record { task = is; grid = exact_fits }) (omega (arith, before, few)) in
-    let long = (list_fits exact g exact_fits is).0 in
-    subst IsCertificate (certificate_same exact g (grown exact g) (frontier g) agree is) (read_has_text exact g is (grown exact g) short long)
+    subst IsCertificate (certificate_same exact g (grown exact g) (frontier g) agree is) (certificate_form exact g (record { task = is; grid = exact_fits }) (omega (arith, before, few)))
 
 -- it is valid
 says_yes : (g : Task) → IsTask g → verdict_of g (certificate_on g) (certificate_on g).score ≡ Yes

@@ -18,11 +18,11 @@ use Rattle.lab_inputs.specs.Settings.{ready_of, settled}
 use Rattle.lab_inputs.specs.Stages.{Tells}
 use Rattle.lab_inputs.proofs.Steps.{bind_ok, ok_same, read_ok, ready_traces, role_ok}
 use Rattle.lab_inputs.proofs.Within.{ready_within, settled_fits}
-use Rattle.frontier_planner.specs.Labels.{IsTask}
-use Rattle.frontier_planner.specs.Parts.{CertificateParts}
-use Rattle.frontier_planner.proofs.Sound.{plan_accepted, plan_settles, sound}
-use Rattle.certificate_text.specs.declared.certificate.Verdict.{Verdict}
-use Rattle.certificate_text.specs.declared.certificate.Verdict.TheVariants.{Yes, No}
+use Rattle.player_core.specs.Scene.{IsTask}
+use Rattle.labels.specs.Parts.{CertificateParts}
+use Rattle.labels.proofs.Sound.{plan_accepted, plan_settles, sound}
+use Rattle.labels.specs.declared.verdict.Verdict.{Verdict}
+use Rattle.labels.specs.declared.verdict.Verdict.TheVariants.{Yes, No}
 use Rattle.certificate_text.specs.Reading.{certificate_of}
 use Rattle.certificate_text.proofs.HeadLaws.{certificate_takes}
 use Rattle.certificate_check.specs.Verdict.{verdict_of}

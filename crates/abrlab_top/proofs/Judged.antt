@@ -23,15 +23,16 @@ use Rattle.lab_inputs.specs.Settings.{misfit_of}
 use Rattle.lab_inputs.specs.Stages.{Asks, AsksUpTo, Comes, Means, Stops}
 use Rattle.lab_inputs.proofs.Files.{asks_all}
 use Rattle.lab_inputs.proofs.Steps.{on_film}
-use Rattle.frontier_planner.specs.Labels.{Task}
-use Rattle.frontier_planner.specs.Parts.{CertificateParts, ChainParts}
-use Rattle.certificate_text.specs.declared.certificate.Verdict.{Verdict}
-use Rattle.certificate_text.specs.declared.certificate.Verdict.TheVariants.{Yes, No}
+use Rattle.player_core.specs.Scene.{Task}
+use Rattle.labels.specs.Parts.{CertificateParts, ChainParts}
+use Rattle.labels.specs.declared.verdict.Verdict.{Verdict}
+use Rattle.labels.specs.declared.verdict.Verdict.TheVariants.{Yes, No}
 use Rattle.certificate_text.specs.Fields.{◌>>=◌}
 use Rattle.certificate_text.specs.Reading.{Place, Walks, certificate_of, chains_at, end_at, head_at}
 use Rattle.certificate_text.specs.Walk.{Walk, accepted, begun}
 use Rattle.certificate_text.proofs.FieldLaws.{bind_ok}
-use Rattle.certificate_text.proofs.WalkLaws.{begun_rest, rest_of, whole_of}
+use Rattle.certificate_text.specs.Walk.{rest_of}
+use Rattle.certificate_text.proofs.WalkLaws.{begun_rest, whole_of}
 use Rattle.certificate_check.specs.Verdict.{lines_verdict, verdict_of}
 use Rattle.abrlab_top.specs.declared.check.Judgement.{Judgement}
 use Rattle.abrlab_top.specs.Check.{check, check_inputs, told_verdict, verdict_status}

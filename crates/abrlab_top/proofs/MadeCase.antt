@@ -24,15 +24,15 @@ use Rattle.lab_inputs.specs.declared.stop.Ending.TheVariants as ending
 use Rattle.lab_inputs.specs.Files.{Files, files_of}
 use Rattle.lab_inputs.specs.Stages.{Asks}
 use Rattle.lab_inputs.proofs.Files.{asks_all, asks_none}
-use Rattle.frontier_planner.specs.declared.plans.Plan.{Plan}
-use Rattle.frontier_planner.specs.Frontier.{frontier}
-use Rattle.frontier_planner.specs.Grid.{exact}
-use Rattle.frontier_planner.specs.Labels.{IsTask, Task}
-use Rattle.frontier_planner.specs.Parts.{CertificateParts, plan_parts}
+use Rattle.labels.specs.declared.plans.Plan.{Plan}
+use Rattle.labels.specs.Frontier.{frontier}
+use Rattle.labels.specs.Grid.{exact}
+use Rattle.player_core.specs.Scene.{IsTask, Task}
+use Rattle.labels.specs.Parts.{CertificateParts, plan_parts}
 use Rattle.frontier_planner.specs.Planned.{IsPlanOf}
 use Rattle.certificate_text.specs.declared.certificate.Certificate.{Certificate}
-use Rattle.certificate_text.specs.Form.{IsCertificate, certificate_parts}
-use Rattle.certificate_text.proofs.PlanText.{plan_has_text}
+use Rattle.labels.specs.Form.{IsCertificate}
+use Rattle.certificate_text.specs.Form.{certificate_parts}
 use Rattle.demo_case.specs.declared.case.DemoCase.{DemoCase}
 use Rattle.demo_case.specs.Case.{demo_film, demo_periods, demo_setup, demo_task}
 use Rattle.demo_case.proofs.Bound.{budget_unspent}
@@ -112,7 +112,7 @@ plan_told g p budget score old mid new r q u same of h x y =
 
 -- the certificate of the plan has a text
 pub plan_form : (g : Task) (p : Plan) (budget : ℕ) (c : Certificate) → IsTask g → IsPlanOf exact g (frontier g) budget p p.score → certificate_parts c ≡ plan_parts g.film p → IsCertificate (certificate_parts c)
-plan_form g p budget c is of e = subst IsCertificate (sym e) (plan_has_text exact g (frontier g) budget p p.score is of)
+plan_form g p budget c is of e = subst IsCertificate (sym e) of.form
 
 -- ---- the whole
 

@@ -9,17 +9,16 @@ use Rattle.lab_words.specs.Command.{CommandWords}
 use Rattle.lab_inputs.specs.Inputs.{InputValues}
 use Rattle.lab_inputs.specs.Settings.{setup_of}
 use Rattle.player_core.specs.Available.{all_ahead}
-use Rattle.frontier_planner.specs.declared.plans.Plan.{Plan}
+use Rattle.labels.specs.declared.plans.Plan.{Plan}
 use Rattle.frontier_planner.specs.declared.plans.PlanErr.{PlanErr}
 use Rattle.frontier_planner.specs.declared.plans.PlanErr.TheVariants as planned
-use Rattle.frontier_planner.specs.Frontier.{frontier}
-use Rattle.frontier_planner.specs.Grid.{exact}
-use Rattle.frontier_planner.specs.Labels.{IsTask, Task, task_of}
-use Rattle.frontier_planner.specs.Parts.{CertificateParts, plan_parts}
+use Rattle.labels.specs.Frontier.{frontier}
+use Rattle.labels.specs.Grid.{exact}
+use Rattle.player_core.specs.Scene.{IsTask, Task, task_of}
+use Rattle.labels.specs.Parts.{CertificateParts, plan_parts}
 use Rattle.frontier_planner.specs.Planned.{IsPlanOf, PlanAnswer}
-use Rattle.frontier_planner.specs.Read.{SpentAt, labels_before, labels_in}
-use Rattle.frontier_planner.proofs.Naming.{before_beyond}
-use Rattle.certificate_text.proofs.PlanText.{plan_has_text}
+use Rattle.labels.specs.Read.{SpentAt, labels_before, labels_in}
+use Rattle.labels.proofs.Counted.{before_beyond}
 use Rattle.abrlab_top.specs.Answer.{printed}
 use Rattle.abrlab_top.specs.Plan.{labels_on, parts_text, plan, spent_on, task_on, unless_spent}
 use Rattle.abrlab_top.specs.Stages.{Plans}
@@ -53,7 +52,7 @@ planned_whole : (c : CommandWords) (i : InputValues) (periods : List Period) (p 
 planned_whole c i periods p e is h =
     let few = never_spent (task_on c i periods) c.budget (let most = h.within in let same = h.labels in omega (arith, most, same)) in
     let text = ap (λ (q : CertificateParts). parts_text c.as_certificate q (labels_on (task_on c i periods))) (sym h.parts) ∙ ap (parts_text c.as_certificate (plan_parts i.film p)) (sym h.labels) in (
-      plan_has_text exact (task_on c i periods) (frontier (task_on c i periods)) c.budget p p.score is h,
+      h.form,
       one_planned c i periods e ∙ ap (unless_spent c.as_certificate (task_on c i periods)) few ∙ ap (λ said. Ok (printed said)) text,
     )
 

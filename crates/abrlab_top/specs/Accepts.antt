@@ -5,10 +5,10 @@ use Rattle.lab_words.specs.declared.Verb.TheVariants.{Plan, Check}
 use Rattle.lab_words.specs.Command.{CommandWords}
 use Rattle.lab_words.specs.Limits.{IsWithinLimits}
 use Rattle.lab_inputs.specs.Files.{Files}
-use Rattle.frontier_planner.specs.Parts.{CertificateParts}
-use Rattle.certificate_text.specs.Form.{IsCertificate}
+use Rattle.labels.specs.Parts.{CertificateParts}
+use Rattle.labels.specs.Form.{IsCertificate}
 use Rattle.certificate_text.specs.Spelling.{spelling}
-use Rattle.certificate_text.specs.declared.certificate.Verdict.TheVariants.{Yes}
+use Rattle.labels.specs.declared.verdict.Verdict.TheVariants.{Yes}
 use Rattle.abrlab_top.specs.Answer.{Answer, printed}
 use Rattle.abrlab_top.specs.Check.{verdict_text}
 use Rattle.abrlab_top.specs.Outcome.{answer_of}

@@ -10,9 +10,9 @@ use Rattle.lab_inputs.specs.declared.stop.Stop.{Stop}
 use Rattle.lab_inputs.specs.Files.{Files}
 use Rattle.lab_inputs.specs.Inputs.{◌>>=◌, InputValues, at_role, inputs_of, read_as}
 use Rattle.lab_inputs.specs.Settings.{settled}
-use Rattle.frontier_planner.specs.Parts.{CertificateParts}
-use Rattle.certificate_text.specs.declared.certificate.Verdict.{Verdict}
-use Rattle.certificate_text.specs.declared.certificate.Verdict.TheVariants.{Yes, No}
+use Rattle.labels.specs.Parts.{CertificateParts}
+use Rattle.labels.specs.declared.verdict.Verdict.{Verdict}
+use Rattle.labels.specs.declared.verdict.Verdict.TheVariants.{Yes, No}
 use Rattle.certificate_text.specs.Reading.{certificate_of}
 use Rattle.certificate_check.specs.Verdict.{verdict_of}
 use Rattle.abrlab_top.specs.Answer.{Answer, printed}

@@ -8,9 +8,9 @@ use Rattle.lab_model.specs.declared.trace.Period.{Period}
 use Rattle.lab_model.specs.Rules.{RuleKind, bola, fixed, mpc, throughput}
 use Rattle.lab_words.specs.Command.{CommandWords}
 use Rattle.player_core.specs.Available.{all_ahead}
-use Rattle.frontier_planner.specs.Frontier.{frontier}
-use Rattle.frontier_planner.specs.Labels.{Task, task_of}
-use Rattle.frontier_planner.specs.Read.{SpentAt}
+use Rattle.labels.specs.Frontier.{frontier}
+use Rattle.player_core.specs.Scene.{Task, task_of}
+use Rattle.labels.specs.Read.{SpentAt}
 use Rattle.demo_case.specs.declared.case.DemoCase.{DemoCase}
 use Rattle.demo_case.specs.Case.{demo_film, demo_periods, demo_setup, demo_task}
 use Rattle.demo_case.specs.Laws.{demo_budget}

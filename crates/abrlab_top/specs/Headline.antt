@@ -13,10 +13,10 @@ use Rattle.lab_inputs.specs.Settings.{ready_of, setup_of}
 use Rattle.lab_inputs.specs.Stages.{Tells}
 use Rattle.player_core.specs.Session.{session_of}
 use Rattle.player_core.specs.Value.{value_of}
-use Rattle.frontier_planner.specs.Labels.{AreRungs}
-use Rattle.frontier_planner.specs.Parts.{CertificateParts}
-use Rattle.frontier_planner.specs.Valid.{IsValid}
-use Rattle.certificate_text.specs.declared.certificate.Verdict.TheVariants.{Yes}
+use Rattle.labels.specs.Labels.{AreRungs}
+use Rattle.labels.specs.Parts.{CertificateParts}
+use Rattle.labels.specs.Valid.{IsValid}
+use Rattle.labels.specs.declared.verdict.Verdict.TheVariants.{Yes}
 use Rattle.certificate_text.specs.Reading.{certificate_of}
 use Rattle.session_report.specs.Session.{session_text}
 use Rattle.abrlab_top.specs.Causes.{World}

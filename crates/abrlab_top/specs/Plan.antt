@@ -13,11 +13,11 @@ use Rattle.lab_inputs.specs.declared.stop.Stop.TheVariants as stop
 use Rattle.lab_inputs.specs.Inputs.{InputValues}
 use Rattle.lab_inputs.specs.Settings.{setup_of}
 use Rattle.player_core.specs.Available.{all_ahead}
-use Rattle.frontier_planner.specs.Frontier.{frontier}
-use Rattle.frontier_planner.specs.Grid.{exact}
-use Rattle.frontier_planner.specs.Labels.{Task, task_of}
-use Rattle.frontier_planner.specs.Parts.{CertificateParts}
-use Rattle.frontier_planner.specs.Read.{certificate_of, labels_before, labels_in}
+use Rattle.labels.specs.Frontier.{frontier}
+use Rattle.labels.specs.Grid.{exact}
+use Rattle.player_core.specs.Scene.{Task, task_of}
+use Rattle.labels.specs.Parts.{CertificateParts}
+use Rattle.labels.specs.Read.{certificate_of, labels_before, labels_in}
 use Rattle.certificate_text.specs.Spelling.{spelling}
 use Rattle.abrlab_top.specs.Answer.{Answer, printed}
 

@@ -20,13 +20,13 @@ use Rattle.lab_inputs.specs.declared.stop.Role.TheVariants as role
 use Rattle.lab_inputs.specs.declared.stop.Stop.{Stop}
 use Rattle.lab_inputs.specs.declared.stop.Stop.TheVariants as stop
 use Rattle.lab_inputs.specs.Inputs.{InputValues}
-use Rattle.frontier_planner.specs.declared.plans.Plan.{Plan}
+use Rattle.labels.specs.declared.plans.Plan.{Plan}
 use Rattle.frontier_planner.specs.declared.plans.PlanErr.{PlanErr}
 use Rattle.frontier_planner.specs.declared.plans.PlanErr.TheVariants as planned
-use Rattle.frontier_planner.specs.Parts.{plan_parts}
-use Rattle.certificate_text.specs.declared.certificate.Verdict.{Verdict}
-use Rattle.certificate_text.specs.declared.certificate.Verdict.TheVariants.{Yes, No}
-use Rattle.certificate_text.specs.Form.{IsCertificate}
+use Rattle.labels.specs.Parts.{plan_parts}
+use Rattle.labels.specs.declared.verdict.Verdict.{Verdict}
+use Rattle.labels.specs.declared.verdict.Verdict.TheVariants.{Yes, No}
+use Rattle.labels.specs.Form.{IsCertificate}
 use Rattle.abrlab_top.specs.declared.check.Judgement.{Judgement}
 use Rattle.abrlab_top.specs.Check.{check_inputs, told_verdict}
 use Rattle.abrlab_top.specs.Plan.{parts_text, plan}

@@ -71,6 +71,3 @@ pub fn run<F: Shelf, O: Sink, E: Sink>(
     tell(err, ending);
     ending_status(ending)
 }
-
-#[cfg(test)]
-mod tests;

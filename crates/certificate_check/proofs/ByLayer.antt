@@ -1,37 +1,37 @@
 -- A certificate that is checked layer by layer: what was found stands for every certificate that begins with what was read.
-use Rattle.std.proofs.Common.{◌≡◌, ◌∙◌, ℕ, ◌+◌, ◌*◌, ◌<◌, ◌≤◌, List, [], ◌++◌, length, map, get_or, Option, Some, None, Result, Ok, Err, refl, sym, ap, subst, append_assoc, length-append, arith}
+use Rattle.std.proofs.Common.{◌≡◌, ◌∙◌, ℕ, ℤ, ◌+◌, ◌*◌, ◌<◌, ◌≤◌, List, [], ◌++◌, length, map, get_or, Option, Some, None, Result, Ok, Err, refl, sym, ap, subst, append_assoc, length-append, arith}
 use Rattle.std.proofs.lemmas.List.{get_or-append-add, get_or_append_left, length-map}
 use Rattle.std.proofs.lemmas.Nat.{div-mul-add}
 use Rattle.lab_model.specs.Reading.{Fails}
 use Rattle.lab_model.proofs.Refusals.{fails_on}
 use Rattle.lab_model.specs.declared.fault.InputFault.{InputFault}
 use Rattle.lab_model.specs.declared.fault.Refusal.{Refusal}
-use Rattle.frontier_planner.specs.declared.plans.Chain.{Chain}
-use Rattle.frontier_planner.specs.Labels.{IsTask, Task}
-use Rattle.frontier_planner.specs.Parts.{CertificateParts, ChainParts, chain_parts}
-use Rattle.frontier_planner.specs.Valid.{no_chain}
+use Rattle.labels.specs.declared.plans.Chain.{Chain}
+use Rattle.player_core.specs.Scene.{IsTask, Task}
+use Rattle.labels.specs.Parts.{CertificateParts, ChainParts, chain_parts}
+use Rattle.labels.specs.Best.{Settles}
+use Rattle.labels.specs.Valid.{no_chain}
 use Rattle.certificate_text.specs.declared.certificate.Layer.{Layer}
-use Rattle.certificate_text.specs.declared.certificate.Verdict.{Verdict}
-use Rattle.certificate_text.specs.declared.certificate.Verdict.TheVariants.{Yes}
+use Rattle.labels.specs.declared.verdict.Verdict.{Verdict}
+use Rattle.labels.specs.declared.verdict.Verdict.TheVariants.{Yes}
 use Rattle.certificate_text.specs.Fields.{◌>>=◌}
-use Rattle.certificate_text.specs.Form.{AreChains, IsChain, IsHead, label_count, names_per}
+use Rattle.labels.specs.Form.{AreChains, IsChain, IsHead, label_count, names_per}
 use Rattle.certificate_text.specs.Reading.{Place, certificate_of}
-use Rattle.certificate_text.specs.Walk.{IsBegun, Walk, begun, layer_of, layer_parts}
+use Rattle.certificate_text.specs.Walk.{IsBegun, Walk, begun, layer_of, layer_parts, prepended, rest_of}
 use Rattle.certificate_text.proofs.CertificateLaws.{chains_take}
 use Rattle.certificate_text.proofs.FieldLaws.{bind_ok}
 use Rattle.certificate_text.proofs.Loops.{ok_is}
 use Rattle.certificate_text.proofs.HeadLaws.{certificate_takes, head_takes}
-use Rattle.certificate_text.proofs.WalkLaws.{begins, begun_rest, layer_ends, layer_reads, prepended, rest_more, rest_of, rest_stopped, whole_of}
+use Rattle.certificate_text.proofs.WalkLaws.{begins, begun_rest, layer_ends, layer_reads, rest_more, rest_stopped, whole_of}
 use Rattle.certificate_check.specs.declared.checker.Found.{Found}
 use Rattle.certificate_check.specs.Scheme.{both}
-use Rattle.certificate_check.specs.Clauses.{counts_verdict, ends_verdict, layer_of as chains_by_rung, names_verdict, plan_verdict, ranges_verdict, score_verdict, starts_held, starts_verdict}
+use Rattle.certificate_check.specs.Clauses.{counts_verdict, ends_verdict, chains_by_rung, names_verdict, plan_verdict, ranges_verdict, score_verdict, starts_held, starts_verdict}
 use Rattle.certificate_check.specs.Layers.{AreBoth, IsLayer, IsLayerOf, MayEnd}
-use Rattle.certificate_check.specs.Soundness.{Certifies}
-use Rattle.certificate_check.specs.Verdict.{lines_verdict, verdict_of}
+use Rattle.certificate_check.specs.Verdict.{SaysValid, bounded_verdict, lines_verdict, verdict_of}
 use Rattle.certificate_check.proofs.Progress.{StandsFor, are_both, may_end, stands_first, stands_last, stands_more}
 use Rattle.certificate_check.proofs.Slices.{count_at, form_at}
-use Rattle.certificate_check.proofs.Sound.{yes_certifies}
-use Rattle.certificate_check.proofs.Verdicts.{per_inside, per_last}
+use Rattle.certificate_check.proofs.Sound.{valid_accepted, yes_certifies}
+use Rattle.certificate_check.proofs.Verdicts.{per_inside, per_last, yes_valid}
 
 -- ---- a layer that was read
 
@@ -136,7 +136,7 @@ head_read w begun =
 
 -- the first layer
 pub first_read : (first w : Walk) (here : List Chain) → IsBegun first → layer_of first ≡ Ok (Some (map chain_parts here), w) → LayerRead first w 0 here
-first_read first w here begun h = let known = head_read first begun in layer_read first w 0 here known.form.rungs.0.1 known.segment known.room h
+first_read first w here begun h = let known = head_read first begun in layer_read first w 0 here known.form.rungs.1 known.segment known.room h
 
 -- ---- how the checks go on
 
@@ -147,7 +147,7 @@ pub stands_begun : (g : Task) (first w : Walk) (head : Verdict) (here : List Cha
     → (f.ranges ≡ Yes → f.claims ≡ starts_held g (length first.head.starts) first.head.starts (chains_by_rung here)) → StandsAt g first w 0 here f
 stands_begun g first w head here f begun h is ranges claims =
     let known = head_read first begun in
-    let r = layer_read first w 0 here known.form.rungs.0.1 known.segment known.room h in
+    let r = layer_read first w 0 here known.form.rungs.1 known.segment known.room h in
     record {
       before = [];
       past = omega arith;
@@ -168,7 +168,7 @@ pub stands_on : (g : Task) (first w v : Walk) (i : ℕ) (here next : List Chain)
     → (h.ranges ≡ Yes → h.claims ≡ both f.claims (names_verdict g (length next) (length here) i (chains_by_rung here) (chains_by_rung next))) → StandsAt g first v (i + 1) next h
 stands_on g first w v i here next f h begun inside s read ranges claims =
     let known = head_read first begun in
-    let few : w.head.rungs ≤ 16 = subst (λ (x : CertificateParts). x.rungs ≤ 16) (sym s.head) known.form.rungs.0.1 in
+    let few : w.head.rungs ≤ 16 = subst (λ (x : CertificateParts). x.rungs ≤ 16) (sym s.head) known.form.rungs.1 in
     let r = layer_read w v (i + 1) next few s.segment s.room read in
     let past = s.past in
     let long = s.long in
@@ -215,7 +215,7 @@ pub more_fits : (g : Task) (first w v : Walk) (i : ℕ) (here next : List Chain)
     → MoreFits g i here next f
 more_fits g first w v i here next f begun inside s read =
     let known = head_read first begun in
-    let few = known.form.rungs.0.1 in
+    let few = known.form.rungs.1 in
     let r = layer_read w v (i + 1) next (subst (λ (x : CertificateParts). x.rungs ≤ 16) (sym s.head) few) s.segment s.room read in
     let next_long : length next ≡ first.head.rungs = r.long ∙ ap (λ (x : CertificateParts). x.rungs) s.head in
     let past = s.past in
@@ -272,42 +272,63 @@ whole_read g bytes first w v i here f layer is last s h = (
   layer_there first.head s.before [] i here s.past s.long,
 )
 
+-- the verdict with a bound on what was read
+abbrev verdict_on : Task → ℤ → Result CertificateParts Refusal → Result Verdict Refusal
+verdict_on g bound read = read >>= λ c. Ok (verdict_of g c bound)
+
 -- the verdict is that on the whole certificate
-pub verdict_said : (g : Task) (bytes : List ℕ) (first w v : Walk) (i : ℕ) (here : List Chain) (f : Found) (layer : Option Layer) (said : Verdict) → begun bytes ≡ Ok first → i + 1 ≡ first.head.segments → StandsAt g first w i here f
+pub verdict_said : (g : Task) (bytes : List ℕ) (bound : ℤ) (first w v : Walk) (i : ℕ) (here : List Chain) (f : Found) (layer : Option Layer) (said : Verdict) → begun bytes ≡ Ok first → i + 1 ≡ first.head.segments → StandsAt g first w i here f
     → layer_of w ≡ Ok (layer_parts layer, v)
-    → said ≡ both (both f.ranges (ranges_verdict 0 (length here) i (chains_by_rung here) (chains_by_rung []))) (both f.claims (both (ends_verdict g first.head.score (length here) i (chains_by_rung here)) (score_verdict g first.head.plan first.head.score)))
-    → lines_verdict g bytes ≡ Ok said
-verdict_said g bytes first w v i here f layer said is last s h e =
+    → said ≡ both (both f.ranges (ranges_verdict 0 (length here) i (chains_by_rung here) (chains_by_rung []))) (both f.claims (both (ends_verdict g bound (length here) i (chains_by_rung here)) (score_verdict g first.head.plan first.head.score)))
+    → bounded_verdict g bytes bound ≡ Ok said
+verdict_said g bytes bound first w v i here f layer said is last s h e =
     let whole = whole_read g bytes first w v i here f layer is last s h in
     let c = with_chains first.head whole.0 in
-    ap (verdict_on g) whole.1 ∙ ap (λ (x : Verdict). Ok x) (sym (stands_last g c first.head.score i here f said last whole.3 whole.2 e))
-  where
-    verdict_on : (g : Task) → Result CertificateParts Refusal → Result Verdict Refusal
-    verdict_on g read = read >>= λ c. Ok (verdict_of g c c.score)
+    ap (verdict_on g bound) whole.1 ∙ ap (λ (x : Verdict). Ok x) (sym (stands_last g c bound i here f said last whole.3 whole.2 e))
+
+-- a verdict with a bound is that on the certificate
+said_of : (g : Task) (bytes : List ℕ) (bound : ℤ) (v : Verdict) (c : CertificateParts) → bounded_verdict g bytes bound ≡ Ok v → certificate_of bytes ≡ Ok c → verdict_of g c bound ≡ v
+said_of g bytes bound v c said is = ok_is (verdict_of g c bound) v (sym (ap (verdict_on g bound) is) ∙ said)
+
+-- a Yes says that the certificate is valid, and a valid one gets a Yes
+pub said_valid : (g : Task) (bytes : List ℕ) (bound : ℤ) (v : Verdict) → bounded_verdict g bytes bound ≡ Ok v → SaysValid g bytes bound v
+said_valid g bytes bound v said c is =
+    let own = said_of g bytes bound v c said is in
+    (λ passed. yes_valid g c bound (own ∙ passed), λ valid. sym own ∙ valid_accepted g c bound (certificate_takes bytes c is).0 valid)
 
 -- a Yes proves what the head claims
-pub yes_said : (g : Task) (bytes : List ℕ) (first : Walk) → IsTask g → begun bytes ≡ Ok first → lines_verdict g bytes ≡ Ok Yes → Certifies g first.head.plan first.head.score first.head.score
-yes_said g bytes first is begun passed =
-    let read = bind_ok (certificate_of bytes) (λ c. Ok (verdict_of g c c.score)) Yes passed in
+pub yes_said : (g : Task) (bytes : List ℕ) (bound : ℤ) (first : Walk) → IsTask g → begun bytes ≡ Ok first → bounded_verdict g bytes bound ≡ Ok Yes → Settles g first.head.plan first.head.score bound
+yes_said g bytes bound first is begun said =
+    let read = bind_ok (certificate_of bytes) (λ c. Ok (verdict_of g c bound)) Yes said in
     let whole = bind_ok (rest_of first) (λ cs. Ok (with_chains first.head cs)) read.0 (sym (begun_rest bytes first begun) ∙ read.1) in
     let same : with_chains first.head whole.0 ≡ read.0 = ok_is (with_chains first.head whole.0) read.0 whole.2 in
-    let said : verdict_of g read.0 read.0.score ≡ Yes = ok_is (verdict_of g read.0 read.0.score) Yes read.2 in
-    subst (λ (c : CertificateParts). Certifies g c.plan c.score c.score) (sym same) (yes_certifies g read.0 read.0.score is (certificate_takes bytes read.0 read.1).0 said)
+    let own : verdict_of g read.0 bound ≡ Yes = ok_is (verdict_of g read.0 bound) Yes read.2 in
+    subst (λ (c : CertificateParts). Settles g c.plan c.score bound) (sym same) (yes_certifies g read.0 bound is (certificate_takes bytes read.0 read.1).0 own)
+
+-- with the score of the head as the bound it is the certificate's own
+pub own_verdict : (g : Task) (bytes : List ℕ) (first : Walk) → begun bytes ≡ Ok first → bounded_verdict g bytes first.head.score ≡ lines_verdict g bytes
+own_verdict g bytes first is =
+    ap (verdict_on g first.head.score) (begun_rest bytes first is) ∙ same (rest_of first) ∙ sym (ap own (begun_rest bytes first is))
+  where
+    own : Result CertificateParts Refusal → Result Verdict Refusal
+    own read = read >>= λ c. Ok (verdict_of g c c.score)
+
+    same : (read : Result (List ChainParts) Refusal) → verdict_on g first.head.score (whole_of first.head read) ≡ (whole_of first.head read >>= λ c. Ok (verdict_of g c c.score))
+    same (Ok cs) = refl
+    same (Err e) = refl
 
 -- a fault of the lines is the answer
-pub fault_said : (g : Task) (bytes : List ℕ) (first w : Walk) (front : List ChainParts) (e : InputFault) → begun bytes ≡ Ok first → w.segment ≤ w.head.segments → rest_of first ≡ prepended front (rest_of w) → Fails e (layer_of w) → Fails e (lines_verdict g bytes)
-fault_said g bytes first w front e is low rest h =
-    fails_on e (layer_of w) (lines_verdict g bytes) h (λ y refused.
-    ap (verdict_on g) (begun_rest bytes first is ∙ ap (whole_of first.head) (rest ∙ ap (prepended front) (rest_stopped w y low refused))))
-  where
-    verdict_on : (g : Task) → Result CertificateParts Refusal → Result Verdict Refusal
-    verdict_on g read = read >>= λ c. Ok (verdict_of g c c.score)
+pub fault_said : (g : Task) (bytes : List ℕ) (bound : ℤ) (first w : Walk) (front : List ChainParts) (e : InputFault) → begun bytes ≡ Ok first → w.segment ≤ w.head.segments → rest_of first ≡ prepended front (rest_of w) → Fails e (layer_of w)
+    → Fails e (bounded_verdict g bytes bound)
+fault_said g bytes bound first w front e is low rest h =
+    fails_on e (layer_of w) (bounded_verdict g bytes bound) h (λ y refused.
+    ap (verdict_on g bound) (begun_rest bytes first is ∙ ap (whole_of first.head) (rest ∙ ap (prepended front) (rest_stopped w y low refused))))
 
 -- and so is one before the first layer
-pub fault_first : (g : Task) (bytes : List ℕ) (first : Walk) (e : InputFault) → begun bytes ≡ Ok first → Fails e (layer_of first) → Fails e (lines_verdict g bytes)
-fault_first g bytes first e is h =
+pub fault_first : (g : Task) (bytes : List ℕ) (bound : ℤ) (first : Walk) (e : InputFault) → begun bytes ≡ Ok first → Fails e (layer_of first) → Fails e (bounded_verdict g bytes bound)
+fault_first g bytes bound first e is h =
     let known = head_read first (record { bytes = bytes; is = is }) in
-    fault_said g bytes first first [] e is (omega (arith, known.segment)) (nothing_before (rest_of first)) h
+    fault_said g bytes bound first first [] e is (omega (arith, known.segment)) (nothing_before (rest_of first)) h
   where
     nothing_before : (read : Result (List ChainParts) Refusal) → read ≡ prepended [] read
     nothing_before (Ok cs) = refl

@@ -4,12 +4,11 @@ use Rattle.std.specs.Prelude.{ℤ, nat_le, nat_lt, slice_index}
 use Rattle.std.proofs.lemmas.Bool.{and_parts, leb-true, ltb-true}
 use Rattle.std.proofs.lemmas.Int.{ints}
 use Rattle.lab_model.specs.declared.label.Label.{Label}
-use Rattle.frontier_planner.specs.Near.{CanFollow, IsNear, farthest_ms}
-use Rattle.frontier_planner.specs.Parts.{ChainParts}
-use Rattle.frontier_planner.specs.Read.{no_label}
-use Rattle.certificate_text.specs.declared.certificate.Verdict.TheVariants.{Yes}
-use Rattle.certificate_text.specs.Fields.{HasSignedDigits}
-use Rattle.certificate_text.specs.Form.{IsChain}
+use Rattle.labels.specs.Near.{CanFollow, IsNear, farthest_ms}
+use Rattle.labels.specs.Parts.{ChainParts}
+use Rattle.labels.specs.Read.{no_label}
+use Rattle.labels.specs.declared.verdict.Verdict.TheVariants.{Yes}
+use Rattle.labels.specs.Form.{HasSignedDigits, IsChain}
 use Rattle.certificate_check.specs.Scheme.{tested}
 use Rattle.certificate_check.specs.Clauses.{Layer, count_of, is_near, label_of, name_of, name_ranges, range_verdict, starts_verdict}
 use Rattle.certificate_check.proofs.Scheme.{both_first, both_second, yes_at, yes_tested}

@@ -3,10 +3,11 @@ use Rattle.std.proofs.Common.{◌≡◌, ◌∙◌, ℕ, suc, ◌<◌, List, sym
 use Rattle.std.specs.Prelude.{slice_index}
 use Rattle.lab_model.specs.declared.label.Label.{Label}
 use Rattle.lab_model.specs.Film.{segments_of}
-use Rattle.frontier_planner.specs.Labels.{AreRungs, IsTask, Task, label_at, next_label}
-use Rattle.frontier_planner.specs.Near.{CanFollow}
-use Rattle.frontier_planner.proofs.Path.{label_next}
-use Rattle.frontier_planner.proofs.Reached.{label_reach, reach_follows}
+use Rattle.labels.specs.Labels.{AreRungs, label_at, next_label}
+use Rattle.player_core.specs.Scene.{IsTask, Task}
+use Rattle.labels.specs.Near.{CanFollow}
+use Rattle.labels.proofs.Path.{label_next}
+use Rattle.labels.proofs.Reached.{label_reach, reach_follows}
 
 -- one segment more
 pub plan_next : (g : Task) (plan : List ℕ) (k i n rung : ℕ) (l r : Label) → rung ≡ slice_index plan k → l ≡ label_at g plan k → i ≡ suc k → n ≡ suc k

@@ -2,16 +2,17 @@
 use Rattle.std.proofs.Common.{◌≡◌, ◌∙◌, ℕ, zero, suc, ◌+◌, ◌-◌, ◌<◌, List, [], length, sym, ap, ap₂, subst, arith}
 use Rattle.std.specs.Prelude.{ℤ, slice_index, nat_lt}
 use Rattle.lab_model.specs.Film.{rungs_of, segments_of}
-use Rattle.frontier_planner.specs.declared.plans.Chain.{Chain}
-use Rattle.frontier_planner.specs.Labels.{Task, dominates, next_label, start_label}
-use Rattle.frontier_planner.specs.Parts.{CertificateParts}
-use Rattle.frontier_planner.specs.Valid.{chain_in}
-use Rattle.certificate_text.specs.declared.certificate.Verdict.{Verdict}
-use Rattle.certificate_text.specs.declared.certificate.Verdict.TheVariants.{Yes}
-use Rattle.certificate_text.specs.Form.{names_per}
+use Rattle.labels.specs.declared.plans.Chain.{Chain}
+use Rattle.player_core.specs.Scene.{Task}
+use Rattle.labels.specs.Labels.{dominates, next_label, start_label}
+use Rattle.labels.specs.Parts.{CertificateParts}
+use Rattle.labels.specs.Valid.{chain_in}
+use Rattle.labels.specs.declared.verdict.Verdict.{Verdict}
+use Rattle.labels.specs.declared.verdict.Verdict.TheVariants.{Yes}
+use Rattle.labels.specs.Form.{names_per}
 use Rattle.certificate_check.specs.declared.checker.Found.{Found}
 use Rattle.certificate_check.specs.Scheme.{both, first_no, tested}
-use Rattle.certificate_check.specs.Clauses.{Layer, count_of, counts_verdict, end_verdict, ends_verdict, is_near, label_of, layer_of, name_of, name_verdict, names_verdict, plan_verdict, range_verdict, ranges_verdict, score_verdict, starts_held, starts_verdict}
+use Rattle.certificate_check.specs.Clauses.{Layer, count_of, counts_verdict, end_verdict, ends_verdict, is_near, label_of, chains_by_rung, name_of, name_verdict, names_verdict, plan_verdict, range_verdict, ranges_verdict, score_verdict, starts_held, starts_verdict}
 use Rattle.certificate_check.specs.Layers.{AreBoth, IsLayerOf, MayEnd}
 use Rattle.certificate_check.specs.Verdict.{claims_up_to, ends_in, names_in, ranges_in, ranges_up_to, verdict_of}
 use Rattle.certificate_check.proofs.Scheme.{both-assoc, both_first, both_second, both_none, both_same, first_next, first_none, first_same}
@@ -56,24 +57,24 @@ pub record StandsFor (g : Task) (c : CertificateParts) (n : ℕ) (f : Found) : T
   pub claims : f.ranges ≡ Yes → f.claims ≡ claims_up_to g c n
 
 ranges_of : (c : CertificateParts) (i : ℕ) (here next : List Chain) → i + 1 < c.segments → IsLayerOf c i here → IsLayerOf c (i + 1) next
-    → ranges_verdict (length next) (length here) i (layer_of here) (layer_of next) ≡ ranges_in c i
+    → ranges_verdict (length next) (length here) i (chains_by_rung here) (chains_by_rung next) ≡ ranges_in c i
 ranges_of c i here next inside h k =
     let per = per_inside c.segments c.rungs i inside in
-    ap₂ (λ p n. ranges_verdict p n i (layer_of here) (layer_of next)) (k.count ∙ sym per) h.count
-    ∙ ranges_agree (names_per c.segments c.rungs i) c.rungs i (layer_of here) (chain_in c i) (layer_of next) (chain_in c (i + 1)) h.same (λ r low. k.same r (subst (λ p. r < p) per low))
+    ap₂ (λ p n. ranges_verdict p n i (chains_by_rung here) (chains_by_rung next)) (k.count ∙ sym per) h.count
+    ∙ ranges_agree (names_per c.segments c.rungs i) c.rungs i (chains_by_rung here) (chain_in c i) (chains_by_rung next) (chain_in c (i + 1)) h.same (λ r low. k.same r (subst (λ p. r < p) per low))
 
 names_of : (g : Task) (c : CertificateParts) (i : ℕ) (here next : List Chain) → i + 1 < c.segments → IsLayerOf c i here → IsLayerOf c (i + 1) next
-    → names_verdict g (length next) (length here) i (layer_of here) (layer_of next) ≡ names_in g c i
+    → names_verdict g (length next) (length here) i (chains_by_rung here) (chains_by_rung next) ≡ names_in g c i
 names_of g c i here next inside h k =
     let per = per_inside c.segments c.rungs i inside in
-    ap₂ (λ p n. names_verdict g p n i (layer_of here) (layer_of next)) (k.count ∙ sym per) h.count
-    ∙ names_agree g (names_per c.segments c.rungs i) c.rungs i (layer_of here) (chain_in c i) (layer_of next) (chain_in c (i + 1)) h.same (λ r low. k.same r (subst (λ p. r < p) per low))
+    ap₂ (λ p n. names_verdict g p n i (chains_by_rung here) (chains_by_rung next)) (k.count ∙ sym per) h.count
+    ∙ names_agree g (names_per c.segments c.rungs i) c.rungs i (chains_by_rung here) (chain_in c i) (chains_by_rung next) (chain_in c (i + 1)) h.same (λ r low. k.same r (subst (λ p. r < p) per low))
 
-last_of : (c : CertificateParts) (i : ℕ) (last : List Chain) → i + 1 ≡ c.segments → IsLayerOf c i last → ranges_verdict 0 (length last) i (layer_of last) (layer_of []) ≡ ranges_in c i
+last_of : (c : CertificateParts) (i : ℕ) (last : List Chain) → i + 1 ≡ c.segments → IsLayerOf c i last → ranges_verdict 0 (length last) i (chains_by_rung last) (chains_by_rung []) ≡ ranges_in c i
 last_of c i last end h =
     let per = per_last c.segments c.rungs i end in
-    ap₂ (λ p n. ranges_verdict p n i (layer_of last) (layer_of [])) (sym per) h.count
-    ∙ ranges_agree (names_per c.segments c.rungs i) c.rungs i (layer_of last) (chain_in c i) (layer_of []) (chain_in c (i + 1)) h.same (λ r low. absurd (omega (arith, per, low)))
+    ap₂ (λ p n. ranges_verdict p n i (chains_by_rung last) (chains_by_rung [])) (sym per) h.count
+    ∙ ranges_agree (names_per c.segments c.rungs i) c.rungs i (chains_by_rung last) (chain_in c i) (chains_by_rung []) (chain_in c (i + 1)) h.same (λ r low. absurd (omega (arith, per, low)))
 
 no_names : (g : Task) (c : CertificateParts) (i : ℕ) → i + 1 ≡ c.segments → names_in g c i ≡ Yes
 no_names g c i end =
@@ -110,24 +111,24 @@ claims_next g c n =
 -- after the first layer
 pub stands_first : (g : Task) (c : CertificateParts) (head : Verdict) (first : List Chain) (f : Found) → length c.starts ≡ c.rungs → IsLayerOf c 0 first
     → head ≡ both (counts_verdict g c.table c.segments c.rungs) (plan_verdict c.segments c.rungs c.plan)
-    → f.ranges ≡ both head (starts_verdict (length c.starts) c.starts (layer_of first))
-    → (f.ranges ≡ Yes → f.claims ≡ starts_held g (length c.starts) c.starts (layer_of first)) → StandsFor g c 0 f
+    → f.ranges ≡ both head (starts_verdict (length c.starts) c.starts (chains_by_rung first))
+    → (f.ranges ≡ Yes → f.claims ≡ starts_held g (length c.starts) c.starts (chains_by_rung first)) → StandsFor g c 0 f
 unfolding ranges_up_to claims_up_to
 stands_first g c head first f long h is ranges claims =
     let v1 = counts_verdict g c.table c.segments c.rungs in
     let plan = plan_verdict c.segments c.rungs c.plan in
     let starts = starts_verdict c.rungs c.starts (chain_in c 0) in
     record {
-      ranges = ranges ∙ ap₂ both is (ap (λ n. starts_verdict n c.starts (layer_of first)) long ∙ starts_agree c.rungs c.starts (layer_of first) (chain_in c 0) h.same) ∙ both-assoc v1 plan starts
+      ranges = ranges ∙ ap₂ both is (ap (λ n. starts_verdict n c.starts (chains_by_rung first)) long ∙ starts_agree c.rungs c.starts (chains_by_rung first) (chain_in c 0) h.same) ∙ both-assoc v1 plan starts
           ∙ ap (λ v. both v1 (both plan v)) (sym (both_none starts) ∙ ap (both starts) (sym (first_none (ranges_in c))));
-      claims = λ yes. claims yes ∙ ap (λ n. starts_held g n c.starts (layer_of first)) long ∙ held_agree g c.rungs c.starts (layer_of first) (chain_in c 0) h.same
+      claims = λ yes. claims yes ∙ ap (λ n. starts_held g n c.starts (chains_by_rung first)) long ∙ held_agree g c.rungs c.starts (chains_by_rung first) (chain_in c 0) h.same
           ∙ sym (both_none (starts_held g c.rungs c.starts (chain_in c 0))) ∙ ap (both (starts_held g c.rungs c.starts (chain_in c 0))) (sym (first_none (names_in g c)));
     }
 
 -- after one more
 pub stands_more : (g : Task) (c : CertificateParts) (i : ℕ) (here next : List Chain) (f h : Found) → i + 1 < c.segments → IsLayerOf c i here → IsLayerOf c (i + 1) next → StandsFor g c i f
-    → h.ranges ≡ both f.ranges (ranges_verdict (length next) (length here) i (layer_of here) (layer_of next))
-    → (h.ranges ≡ Yes → h.claims ≡ both f.claims (names_verdict g (length next) (length here) i (layer_of here) (layer_of next))) → StandsFor g c (i + 1) h
+    → h.ranges ≡ both f.ranges (ranges_verdict (length next) (length here) i (chains_by_rung here) (chains_by_rung next))
+    → (h.ranges ≡ Yes → h.claims ≡ both f.claims (names_verdict g (length next) (length here) i (chains_by_rung here) (chains_by_rung next))) → StandsFor g c (i + 1) h
 stands_more g c i here next f h inside own more s ranges claims =
     record {
       ranges = ranges ∙ ap₂ both s.ranges (ranges_of c i here next inside own more) ∙ ranges_next g c i;
@@ -136,17 +137,17 @@ stands_more g c i here next f h inside own more s ranges claims =
 
 -- after the last
 pub stands_last : (g : Task) (c : CertificateParts) (bound : ℤ) (i : ℕ) (last : List Chain) (f : Found) (v : Verdict) → i + 1 ≡ c.segments → IsLayerOf c i last → StandsFor g c i f
-    → v ≡ both (both f.ranges (ranges_verdict 0 (length last) i (layer_of last) (layer_of []))) (both f.claims (both (ends_verdict g bound (length last) i (layer_of last)) (score_verdict g c.plan c.score)))
+    → v ≡ both (both f.ranges (ranges_verdict 0 (length last) i (chains_by_rung last) (chains_by_rung []))) (both f.claims (both (ends_verdict g bound (length last) i (chains_by_rung last)) (score_verdict g c.plan c.score)))
     → v ≡ verdict_of g c bound
 unfolding verdict_of ends_in
 stands_last g c bound i last f v end own s is =
     let before : i ≡ c.segments - 1 = omega (arith, end) in
-    let ends : ends_verdict g bound (length last) i (layer_of last) ≡ ends_verdict g bound c.rungs (c.segments - 1) (chain_in c (c.segments - 1)) =
-    ap (λ n. ends_verdict g bound n i (layer_of last)) own.count ∙ ends_agree g bound c.rungs i (layer_of last) (chain_in c i) own.same ∙ ap (λ j. ends_verdict g bound c.rungs j (chain_in c j)) before in
-    let ranges : both f.ranges (ranges_verdict 0 (length last) i (layer_of last) (layer_of [])) ≡ ranges_up_to g c c.segments =
+    let ends : ends_verdict g bound (length last) i (chains_by_rung last) ≡ ends_verdict g bound c.rungs (c.segments - 1) (chain_in c (c.segments - 1)) =
+    ap (λ n. ends_verdict g bound n i (chains_by_rung last)) own.count ∙ ends_agree g bound c.rungs i (chains_by_rung last) (chain_in c i) own.same ∙ ap (λ j. ends_verdict g bound c.rungs j (chain_in c j)) before in
+    let ranges : both f.ranges (ranges_verdict 0 (length last) i (chains_by_rung last) (chains_by_rung [])) ≡ ranges_up_to g c c.segments =
     ap₂ both s.ranges (last_of c i last end own) ∙ ranges_next g c i ∙ ap (ranges_up_to g c) end in
     let claims = λ (yes : f.ranges ≡ Yes). s.claims yes ∙ sym (both_none (claims_up_to g c i)) ∙ ap (both (claims_up_to g c i)) (sym (no_names g c i end)) ∙ claims_next g c i ∙ ap (claims_up_to g c) end in
-    is ∙ both_same (both f.ranges (ranges_verdict 0 (length last) i (layer_of last) (layer_of []))) _ (both (claims_up_to g c c.segments) (ends_in g c bound))
+    is ∙ both_same (both f.ranges (ranges_verdict 0 (length last) i (chains_by_rung last) (chains_by_rung []))) _ (both (claims_up_to g c c.segments) (ends_in g c bound))
     (λ yes. ap₂ both (claims (both_first f.ranges _ yes)) (ap (λ w. both w (score_verdict g c.plan c.score)) ends))
     ∙ ap (λ w. both w (both (claims_up_to g c c.segments) (ends_in g c bound))) ranges
 

@@ -1,9 +1,11 @@
 -- The scheme: a Yes is a Yes at each place, and the first No is the answer.
-use Rattle.std.proofs.Common.{◌≡◌, ◌∙◌, ℕ, zero, suc, ◌+◌, ◌<◌, ◌≤◌, ◌⊎◌, inl, inr, ⊎_elim, Bool, true, false, refl, sym, ap, add-one, arith}
+use Rattle.std.proofs.Common.{◌≡◌, ◌∙◌, ℕ, zero, suc, ◌+◌, ◌<◌, ◌≤◌, ◌⊎◌, inl, inr, ⊎_elim, Bool, true, false, Result, Ok, Err, refl, sym, ap, add-one, arith}
+use Rattle.std.specs.Result.{IsErrAnd}
 use Rattle.std.proofs.lemmas.Bool.{cases_lt}
-use Rattle.certificate_text.specs.declared.certificate.Verdict.{Verdict}
-use Rattle.certificate_text.specs.declared.certificate.Verdict.TheVariants.{Yes, No}
-use Rattle.certificate_check.specs.Scheme.{both, first_no, is_no, tested}
+use Rattle.labels.specs.declared.verdict.Verdict.{Verdict}
+use Rattle.labels.specs.declared.verdict.Verdict.TheVariants.{Yes, No}
+use Rattle.certificate_check.specs.declared.ranges.Failure.{Failure}
+use Rattle.certificate_check.specs.Scheme.{both, first_no, is_no, tested, verdict_by}
 
 -- ---- two verdicts
 
@@ -25,11 +27,6 @@ both_yes a b h k = ap (λ v. both v b) h ∙ k
 pub both-assoc : (a b c : Verdict) → both (both a b) c ≡ both a (both b c)
 both-assoc Yes b c = refl
 both-assoc (No clause i q k) b c = refl
-
--- a No isn't a Yes
-pub yes_is : (a : Verdict) → is_no a ≡ false → a ≡ Yes
-yes_is Yes h = refl
-yes_is (No c i q k) h = cc
 
 -- a Yes isn't a No
 pub no_is : (a : Verdict) → is_no a ≡ true → a ≡ Yes → ⊥
@@ -99,8 +96,8 @@ all_yes f (suc n) h =
     first_suc f n ∙ both_yes (first_no f n) (f n) (all_yes f n (λ i low. h i (omega (arith, low)))) (h n (omega arith))
 
 -- a Yes so far and a Yes here
-pub first_more : (f : ℕ → Verdict) (n : ℕ) (v : Verdict) → first_no f n ≡ Yes → v ≡ f n → is_no v ≡ false → first_no f (n + 1) ≡ Yes
-first_more f n v h e passes = first_next f n ∙ both_yes (first_no f n) (f n) h (sym e ∙ yes_is v passes)
+pub first_more : (f : ℕ → Verdict) (n : ℕ) → first_no f n ≡ Yes → Yes ≡ f n → first_no f (n + 1) ≡ Yes
+first_more f n h e = first_next f n ∙ both_yes (first_no f n) (f n) h (sym e)
 
 -- a Yes so far and a No here: this is the answer, however many places follow
 first_at : (f : ℕ → Verdict) (n i : ℕ) → i < n → first_no f i ≡ Yes → (f i ≡ Yes → ⊥) → first_no f n ≡ f i
@@ -115,6 +112,16 @@ first_at f (suc n) i low h other =
 -- the answer where a loop stops at a No
 pub first_stop : (f : ℕ → Verdict) (n i : ℕ) (v : Verdict) → i < n → first_no f i ≡ Yes → v ≡ f i → is_no v ≡ true → v ≡ first_no f n
 first_stop f n i v low h e stop = e ∙ sym (first_at f n i low h (λ yes. no_is v stop (e ∙ yes)))
+
+-- the same of the code's tests, the last of which fails
+pub first_fails : (f : ℕ → Verdict) (n i : ℕ) (r : Result (Unit {0}) Failure) (e : Failure) → i < n → first_no f i ≡ Yes → verdict_by (Err e) ≡ f i → IsErrAnd r (λ y. y ≡ e) → verdict_by r ≡ first_no f n
+first_fails f n i (Ok done) e low h is k = absurd k
+first_fails f n i (Err y) e low h is k = ap (λ x. verdict_by (Err x)) k ∙ first_stop f n i (verdict_by (Err e)) low h is refl
+
+-- what comes behind a test that fails doesn't matter
+pub fails_first : (v w : Verdict) (r : Result (Unit {0}) Failure) (e : Failure) → verdict_by (Err e) ≡ v → IsErrAnd r (λ y. y ≡ e) → verdict_by r ≡ both v w
+fails_first v w (Ok done) e is k = absurd k
+fails_first v w (Err y) e is k = ap (λ x. verdict_by (Err x)) k ∙ ap (λ a. both a w) is
 
 -- a Yes at all places that were met, which are all
 pub first_end : (f : ℕ → Verdict) (n i : ℕ) → first_no f i ≡ Yes → i ≤ n → n ≤ i → Yes ≡ first_no f n

@@ -2,12 +2,13 @@
 use Rattle.std.proofs.Common.{◌≡◌, ◌∙◌, ℕ, zero, suc, ◌+◌, ◌-◌, ◌*◌, ◌/◌, ◌<◌, ◌≤◌, List, [], ◌∷◌, length, map, take, drop, get_or, sym, ap, subst, arith}
 use Rattle.std.proofs.lemmas.List.{drop-map, get_or-drop, get_or-take, length-drop, length-map, length-take-le, take-map}
 use Rattle.std.proofs.lemmas.Nat.{div-mul-add, mul-add-lt}
-use Rattle.frontier_planner.specs.declared.plans.Chain.{Chain}
-use Rattle.frontier_planner.specs.Parts.{ChainParts, chain_parts}
-use Rattle.frontier_planner.specs.Valid.{no_chain}
+use Rattle.labels.specs.declared.plans.Chain.{Chain}
+use Rattle.labels.specs.Parts.{ChainParts, chain_parts}
+use Rattle.labels.specs.Valid.{no_chain}
 use Rattle.certificate_text.specs.declared.certificate.Certificate.{Certificate}
-use Rattle.certificate_text.specs.Form.{AreChains, IsCertificate, IsChain, certificate_parts, label_count, names_per}
-use Rattle.certificate_check.specs.Clauses.{count_of, layer_of}
+use Rattle.labels.specs.Form.{AreChains, IsCertificate, IsChain, label_count, names_per}
+use Rattle.certificate_text.specs.Form.{certificate_parts}
+use Rattle.certificate_check.specs.Clauses.{count_of, chains_by_rung}
 use Rattle.certificate_check.specs.Layers.{IsLayer, IsLayerOf}
 
 -- ---- chains in a row
@@ -27,7 +28,7 @@ count_at (c ∷ cs) (suc j) low = let rest = count_at cs j (omega (arith, low)) 
 
 -- ---- a slice of the code's chains
 
-slice_at : (chains : List Chain) (from rungs q : ℕ) → q < rungs → layer_of (take rungs (drop from chains)) q ≡ get_or (map chain_parts chains) (from + q) no_chain
+slice_at : (chains : List Chain) (from rungs q : ℕ) → q < rungs → chains_by_rung (take rungs (drop from chains)) q ≡ get_or (map chain_parts chains) (from + q) no_chain
 slice_at chains from rungs q low =
     ap (λ xs. get_or xs q no_chain) (sym (take-map chain_parts rungs (drop from chains)) ∙ ap (take rungs) (sym (drop-map chain_parts from chains)))
     ∙ get_or-take rungs (drop from (map chain_parts chains)) q no_chain low ∙ get_or-drop from (map chain_parts chains) q no_chain
@@ -42,7 +43,7 @@ module _ (cert : Certificate) (form : IsCertificate (certificate_parts cert)) wh
 
   slice_length : (i : ℕ) → i < cert.segments → length (take cert.rungs (drop (i * cert.rungs) cert.chains.items)) ≡ cert.rungs
   slice_length i low =
-      let some = form.head.rungs.0.0 in
+      let some = form.head.rungs.0 in
       let place = place_in i (cert.rungs - 1) low (omega (arith, some)) in
       let long = length-map cert.chains.items chain_parts in
       let rest = length-drop (i * cert.rungs) cert.chains.items in
@@ -55,7 +56,7 @@ module _ (cert : Certificate) (form : IsCertificate (certificate_parts cert)) wh
   -- and has the form of one
   pub slice_form : (i : ℕ) → i < cert.segments → IsLayer (names_per cert.segments cert.rungs i) (take cert.rungs (drop (i * cert.rungs) cert.chains.items))
   slice_form i low =
-      let few = form.head.rungs.0.1 in
+      let few = form.head.rungs.1 in
       let long = slice_length i low in
       let cs = map chain_parts cert.chains.items in
       let own = λ (q : ℕ) (here : q < length (take cert.rungs (drop (i * cert.rungs) cert.chains.items))). subst (λ n. q < n) long here in

@@ -7,15 +7,16 @@ use Rattle.std.proofs.lemmas.Grind.{get_or_default_zero}
 use Rattle.std.proofs.lemmas.Bool.{and_from, and_parts, cases_lt, cond-true, cond-false, le-leb, lt-ltb, ltb-true}
 use Rattle.std.proofs.lemmas.Int.{ints}
 use Rattle.lab_model.specs.Film.{rungs_of, segments_of}
-use Rattle.frontier_planner.specs.Labels.{Dominates, Task, dominates, end_value, next_label, start_label}
-use Rattle.frontier_planner.specs.Near.{farthest_ms}
-use Rattle.frontier_planner.specs.Parts.{CertificateParts}
-use Rattle.frontier_planner.specs.Read.{has_table, list_value}
-use Rattle.frontier_planner.specs.Valid.{CountsMatch, EndsBelow, InRange, IsPlace, IsValid, NamesHold, ScoreHolds, StartsHold, chain_in, count_in, label_in, start_in}
-use Rattle.frontier_planner.proofs.Kept.{dominates_from, dominates_true}
-use Rattle.certificate_text.specs.declared.certificate.Verdict.{Verdict}
-use Rattle.certificate_text.specs.declared.certificate.Verdict.TheVariants.{Yes}
-use Rattle.certificate_text.specs.Form.{names_per}
+use Rattle.labels.specs.Labels.{Dominates, dominates, end_value, next_label, start_label}
+use Rattle.player_core.specs.Scene.{Task}
+use Rattle.labels.specs.Near.{farthest_ms}
+use Rattle.labels.specs.Parts.{CertificateParts}
+use Rattle.labels.specs.Read.{has_table, list_value}
+use Rattle.labels.specs.Valid.{CountsMatch, EndsBelow, InRange, IsPlace, IsValid, NamesHold, ScoreHolds, StartsHold, chain_in, count_in, label_in, start_in}
+use Rattle.labels.proofs.Kept.{dominates_from, dominates_true}
+use Rattle.labels.specs.declared.verdict.Verdict.{Verdict}
+use Rattle.labels.specs.declared.verdict.Verdict.TheVariants.{Yes}
+use Rattle.labels.specs.Form.{names_per}
 use Rattle.certificate_check.specs.Scheme.{first_no, tested}
 use Rattle.certificate_check.specs.Clauses.{Layer, count_of, counts_verdict, end_verdict, ends_verdict, is_near, name_of, name_verdict, over_labels, plan_verdict, range_verdict, score_verdict, starts_held, starts_verdict}
 use Rattle.certificate_check.specs.Verdict.{claims_up_to, ends_in, names_in, ranges_in, ranges_up_to, verdict_of}

@@ -3,13 +3,14 @@ use Rattle.std.specs.Prelude.{ℕ, ◌+◌, ◌*◌, ◌==◌, ◌&&◌, Bool, n
 use Rattle.std.specs.Ordering.{int_eq}
 use Rattle.lab_model.specs.declared.label.Label.{Label}
 use Rattle.lab_model.specs.Film.{rungs_of, segments_of}
-use Rattle.frontier_planner.specs.declared.plans.Chain.{Chain}
-use Rattle.frontier_planner.specs.Labels.{Task, dominates, end_value, next_label, start_label}
-use Rattle.frontier_planner.specs.Near.{farthest_ms}
-use Rattle.frontier_planner.specs.Parts.{ChainParts, chain_parts}
-use Rattle.frontier_planner.specs.Read.{has_table, list_value, no_label}
-use Rattle.frontier_planner.specs.Valid.{no_chain}
-use Rattle.certificate_text.specs.declared.certificate.Verdict.{Verdict}
+use Rattle.labels.specs.declared.plans.Chain.{Chain}
+use Rattle.player_core.specs.Scene.{Task}
+use Rattle.labels.specs.Labels.{dominates, end_value, next_label, start_label}
+use Rattle.labels.specs.Near.{farthest_ms}
+use Rattle.labels.specs.Parts.{ChainParts, chain_parts}
+use Rattle.labels.specs.Read.{has_table, list_value, no_label}
+use Rattle.labels.specs.Valid.{no_chain}
+use Rattle.labels.specs.declared.verdict.Verdict.{Verdict}
 use Rattle.certificate_check.specs.Scheme.{both, first_no, tested}
 
 -- the chains of a segment, by rung
@@ -17,8 +18,8 @@ abbrev pub Layer : Type 0
 Layer = ℕ → ChainParts
 
 -- the chains of a segment as the code holds them
-abbrev pub layer_of : List Chain → Layer
-layer_of chains q = slice_index_or (map chain_parts chains) q no_chain
+abbrev pub chains_by_rung : List Chain → Layer
+chains_by_rung chains q = slice_index_or (map chain_parts chains) q no_chain
 
 -- the number of labels of a chain
 abbrev pub count_of : ChainParts → ℕ

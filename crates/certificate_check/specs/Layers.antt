@@ -1,23 +1,24 @@
 -- The form that the tests of a layer need, and what they need of what was found before.
 use Rattle.std.specs.Prelude.{◌≡◌, ℕ, ◌+◌, ◌<◌, ◌≤◌, List, length}
 use Rattle.lab_model.specs.Film.{rungs_of, segments_of}
-use Rattle.frontier_planner.specs.declared.plans.Chain.{Chain}
-use Rattle.frontier_planner.specs.Labels.{AreRungs, Task}
-use Rattle.frontier_planner.specs.Parts.{CertificateParts}
-use Rattle.frontier_planner.specs.Valid.{chain_in}
-use Rattle.certificate_text.specs.Form.{IsChain}
-use Rattle.certificate_check.specs.Clauses.{count_of, layer_of}
+use Rattle.labels.specs.declared.plans.Chain.{Chain}
+use Rattle.labels.specs.Labels.{AreRungs}
+use Rattle.player_core.specs.Scene.{Task}
+use Rattle.labels.specs.Parts.{CertificateParts}
+use Rattle.labels.specs.Valid.{chain_in}
+use Rattle.labels.specs.Form.{IsChain}
+use Rattle.certificate_check.specs.Clauses.{count_of, chains_by_rung}
 
 -- the chains of a segment have the form that the grammar gives, with so many names a label
 pub record IsLayer (per : ℕ) (chains : List Chain) : Type 0 where
   pub rungs : length chains ≤ 16
-  pub chain : (q : ℕ) → q < length chains → IsChain per (layer_of chains q)
-  pub count : (q : ℕ) → q < length chains → count_of (layer_of chains q) ≤ 1000000
+  pub chain : (q : ℕ) → q < length chains → IsChain per (chains_by_rung chains q)
+  pub count : (q : ℕ) → q < length chains → count_of (chains_by_rung chains q) ≤ 1000000
 
 -- the chains are those of this segment of the certificate
 pub record IsLayerOf (c : CertificateParts) (i : ℕ) (chains : List Chain) : Type 0 where
   pub count : length chains ≡ c.rungs
-  pub same : (q : ℕ) → q < c.rungs → layer_of chains q ≡ chain_in c i q
+  pub same : (q : ℕ) → q < c.rungs → chains_by_rung chains q ≡ chain_in c i q
 
 -- a segment with this number, and the next one, have as many chains as the film has rungs, and the film has both
 pub record AreBoth (g : Task) (i : ℕ) (here next : List Chain) : Type 0 where

@@ -2,4 +2,3 @@ pub mod Scheme
 pub mod Clauses
 pub mod Layers
 pub mod Verdict
-pub mod Soundness

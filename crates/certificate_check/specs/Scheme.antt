@@ -1,7 +1,13 @@
 -- The one scheme by which a clause is tested at all its places: the first No is the answer.
-use Rattle.std.specs.Prelude.{ℕ, zero, suc, Bool, true, false, if◌then◌else◌}
-use Rattle.certificate_text.specs.declared.certificate.Verdict.{Verdict}
-use Rattle.certificate_text.specs.declared.certificate.Verdict.TheVariants.{Yes, No}
+use Rattle.std.specs.Prelude.{ℕ, zero, suc, Bool, true, false, Result, Ok, Err, if◌then◌else◌}
+use Rattle.labels.specs.declared.verdict.Verdict.{Verdict}
+use Rattle.labels.specs.declared.verdict.Verdict.TheVariants.{Yes, No}
+use Rattle.certificate_check.specs.declared.ranges.Failure.{Failure}
+
+-- the verdict that tests of the code come to
+abbrev pub verdict_by : Result (Unit {0}) Failure → Verdict
+verdict_by (Ok done) = Yes
+verdict_by (Err f) = No f.clause f.segment f.rung f.label
 
 -- it is a No
 abbrev pub is_no : Verdict → Bool

@@ -1,12 +1,13 @@
 -- The verdict on a certificate: the first failing clause, each over the whole certificate, with the first place where it fails.
-use Rattle.std.specs.Prelude.{ℕ, ◌+◌, ◌-◌, ℤ, List, Result, Ok}
+use Rattle.std.specs.Prelude.{◌≡◌, ◌↔◌, ℕ, ◌+◌, ◌-◌, ℤ, List, Result, Ok}
 use Rattle.lab_model.specs.declared.fault.Refusal.{Refusal}
-use Rattle.frontier_planner.specs.Labels.{Task}
-use Rattle.frontier_planner.specs.Parts.{CertificateParts}
-use Rattle.frontier_planner.specs.Valid.{chain_in}
-use Rattle.certificate_text.specs.declared.certificate.Verdict.{Verdict}
+use Rattle.player_core.specs.Scene.{Task}
+use Rattle.labels.specs.Parts.{CertificateParts}
+use Rattle.labels.specs.Valid.{IsValid, chain_in}
+use Rattle.labels.specs.declared.verdict.Verdict.{Verdict}
+use Rattle.labels.specs.declared.verdict.Verdict.TheVariants.{Yes}
 use Rattle.certificate_text.specs.Fields.{◌>>=◌}
-use Rattle.certificate_text.specs.Form.{names_per}
+use Rattle.labels.specs.Form.{names_per}
 use Rattle.certificate_text.specs.Reading.{certificate_of}
 use Rattle.certificate_check.specs.Scheme.{both, first_no}
 use Rattle.certificate_check.specs.Clauses.{counts_verdict, ends_verdict, names_verdict, plan_verdict, ranges_verdict, score_verdict, starts_held, starts_verdict}
@@ -37,8 +38,18 @@ ends_in g c bound = both (ends_verdict g bound c.rungs (c.segments - 1) (chain_i
 unfoldable pub verdict_of : Task → CertificateParts → ℤ → Verdict
 verdict_of g c bound = both (ranges_up_to g c c.segments) (both (claims_up_to g c c.segments) (ends_in g c bound))
 
--- the verdict on the certificate that the bytes spell, with its own score as the bound, or their first bad line
+-- the verdict on the certificate that the bytes spell, with this bound, or their first bad line
+abbrev pub bounded_verdict : Task → List ℕ → ℤ → Result Verdict Refusal
+bounded_verdict g bytes bound = do
+  c ← certificate_of bytes
+  Ok (verdict_of g c bound)
+
+-- the same with the certificate's own score as the bound
 abbrev pub lines_verdict : Task → List ℕ → Result Verdict Refusal
 lines_verdict g bytes = do
   c ← certificate_of bytes
   Ok (verdict_of g c c.score)
+
+-- a verdict on the certificate that the bytes spell is a yes exactly where it is valid
+abbrev pub SaysValid : Task → List ℕ → ℤ → Verdict → Type 0
+SaysValid g bytes bound v = (c : CertificateParts) → certificate_of bytes ≡ Ok c → (v ≡ Yes) ↔ IsValid g c bound

@@ -1,20 +1,21 @@
 //! The check of a certificate that is read layer by layer.
 
-ghost use Rattle.std.specs.Prelude.{◌≡◌, ◌<◌, ℕ, List, map, Some, Ok, IfOk};
+ghost use Rattle.std.specs.Prelude.{◌≡◌, ◌<◌, ◌≤◌, ℕ, List, map, Some, Ok, IfOk};
 ghost use Rattle.lab_model.specs.Fit.{SetupFits};
 ghost use Rattle.lab_model.specs.Reading.{Gives};
 ghost use Rattle.player_core.specs.Available.{all_ahead};
-ghost use Rattle.frontier_planner.specs.Labels.{task_of};
-ghost use Rattle.frontier_planner.specs.Parts.{chain_parts};
-ghost use Rattle.certificate_text.specs.declared.certificate.Verdict.TheVariants.{Yes};
+ghost use Rattle.player_core.specs.Scene.{task_of};
+ghost use Rattle.labels.specs.Best.{Settles};
+ghost use Rattle.labels.specs.Parts.{chain_parts};
+ghost use Rattle.labels.specs.declared.verdict.Verdict.TheVariants.{Yes};
 ghost use Rattle.certificate_text.specs.Walk.{IsBegun, begun, layer_of};
-ghost use Rattle.certificate_check.specs.Soundness.{Certifies};
-ghost use Rattle.certificate_check.specs.Verdict.{lines_verdict};
+ghost use Rattle.certificate_check.specs.Verdict.{SaysValid, bounded_verdict, lines_verdict};
 
 use crate::checker::Checker;
 use crate::whole::ALL_AHEAD;
-use certificate_text::{Layer, Lines, Verdict};
+use certificate_text::{Layer, Lines};
 use lab_model::{InputFault, Manifest, Setup};
+use labels::Verdict;
 use network_clock::Clock;
 
 /// The next layer, where one is left.
@@ -29,27 +30,32 @@ fn next_layer(lines: &mut Lines<'_>) -> Result<Layer, InputFault>
     }
 }
 
-/// The verdict for a film on demand on a certificate that is read layer by layer, with its own score as the bound: see
-/// `check`. The lines are as `begin` answered them.
+/// The verdict on a certificate that is read layer by layer, with this bound in V5, where `ahead` milliseconds of
+/// media, at most 120000000, are there at instant 0: see `check_from`. The lines are as `begin` answered them.
 ///
 /// The faults are those of the lines, and come before any verdict. It holds two layers at a time.
-pub fn check_lines(
+pub fn check_lines_from(
     m: &Manifest,
     clock: &Clock,
     set: &Setup,
+    ahead: u32,
     lines: Lines<'_>,
+    bound: i128,
 ) -> Result<Verdict, InputFault>
     requires setup { SetupFits set.now m.now }
+    requires ahead { ahead ≤ 120000000 }
     requires begun { IsBegun lines }
     // A bad line comes first, then the verdict on the whole certificate.
     ensures verdict { (bytes : List ℕ) → begun bytes ≡ Ok lines.entry → Gives (λ v. v) result
-        (lines_verdict (task_of m.now clock.now set.now all_ahead) bytes) }
-    // A yes proves that the rung list has the score, and that no rung list has a greater value.
+        (bounded_verdict (task_of m.now clock.now set.now ahead) bytes bound) }
+    ensures valid { (bytes : List ℕ) → begun bytes ≡ Ok lines.entry → IfOk result
+        (SaysValid (task_of m.now clock.now set.now ahead) bytes bound) }
+    // A yes proves that the rung list has the score, and that no rung list has a value above the bound.
     ensures sound { IfOk result (λ v. v ≡ Yes →
-        Certifies (task_of m.now clock.now set.now all_ahead) lines.entry.head.plan
-        lines.entry.head.score lines.entry.head.score) }
+        Settles (task_of m.now clock.now set.now ahead) lines.entry.head.plan
+        lines.entry.head.score bound) }
 {
-    let checker = Checker::new(m, clock, set, ALL_AHEAD);
+    let checker = Checker::new(m, clock, set, ahead);
     let mut lines = lines;
     let head = checker.head_verdict(lines.table(), lines.segments(), lines.rungs(), lines.plan());
     let last = lines.segments() - 1;
@@ -61,7 +67,29 @@ pub fn check_lines(
         here = next;
     }
     let score = lines.score();
-    let verdict = checker.verdict(found, last, &here.chains, lines.plan(), score, score);
+    let verdict = checker.verdict(found, last, &here.chains, lines.plan(), score, bound);
     lines.next_layer()?;
     Ok(verdict)
+}
+
+/// The verdict for a film on demand on a certificate that is read layer by layer, with its own score as the bound: see
+/// `check_lines_from`.
+pub fn check_lines(
+    m: &Manifest,
+    clock: &Clock,
+    set: &Setup,
+    lines: Lines<'_>,
+) -> Result<Verdict, InputFault>
+    requires setup { SetupFits set.now m.now }
+    requires begun { IsBegun lines }
+    ensures verdict { (bytes : List ℕ) → begun bytes ≡ Ok lines.entry → Gives (λ v. v) result
+        (lines_verdict (task_of m.now clock.now set.now all_ahead) bytes) }
+    ensures valid { (bytes : List ℕ) → begun bytes ≡ Ok lines.entry → IfOk result
+        (SaysValid (task_of m.now clock.now set.now all_ahead) bytes lines.entry.head.score) }
+    ensures sound { IfOk result (λ v. v ≡ Yes →
+        Settles (task_of m.now clock.now set.now all_ahead) lines.entry.head.plan
+        lines.entry.head.score lines.entry.head.score) }
+{
+    let score = lines.score();
+    check_lines_from(m, clock, set, ALL_AHEAD, lines, score)
 }

@@ -3,41 +3,37 @@
 ghost use Rattle.std.specs.Prelude.{◌≡◌, ◌+◌, ◌<◌, ◌≤◌, [], int_le, length};
 ghost use Rattle.lab_model.specs.Film.{rungs_of, segments_of};
 ghost use Rattle.lab_model.specs.Fit.{SetupFits};
-ghost use Rattle.frontier_planner.specs.Labels.{AreRungs, IsTask, Task, end_value, next_label, start_label, task_of};
-ghost use Rattle.frontier_planner.specs.Near.{CanFollow};
-ghost use Rattle.frontier_planner.specs.Parts.{chain_parts};
-ghost use Rattle.frontier_planner.specs.Read.{list_value};
-ghost use Rattle.certificate_text.specs.declared.certificate.Verdict.TheVariants.{Yes};
-ghost use Rattle.certificate_text.specs.Form.{IsChain};
-ghost use Rattle.certificate_check.specs.Scheme.{both, first_no};
-ghost use Rattle.certificate_check.specs.Clauses.{counts_verdict, end_verdict, ends_verdict, layer_of, name_verdict, names_verdict, plan_verdict, range_verdict, ranges_verdict, score_verdict, starts_held, starts_verdict};
+ghost use Rattle.labels.specs.Labels.{AreRungs, end_value, next_label, start_label};
+ghost use Rattle.player_core.specs.Scene.{IsTask, Task, task_of};
+ghost use Rattle.labels.specs.Near.{CanFollow};
+ghost use Rattle.labels.specs.Parts.{chain_parts};
+ghost use Rattle.labels.specs.Read.{list_value};
+ghost use Rattle.labels.specs.declared.verdict.Verdict.TheVariants.{Yes};
+ghost use Rattle.labels.specs.Form.{IsChain};
+ghost use Rattle.certificate_check.specs.Scheme.{both, first_no, verdict_by};
+ghost use Rattle.certificate_check.specs.Clauses.{counts_verdict, end_verdict, ends_verdict, chains_by_rung, name_verdict, names_verdict, plan_verdict, range_verdict, ranges_verdict, score_verdict, starts_held, starts_verdict};
 ghost use Rattle.certificate_check.specs.Layers.{AreBoth, IsLayer, MayEnd};
 
 use crate::ranges::{
-    both, count_of, is_no, label_of, name_of, plan_verdict, ranges_verdict, starts_verdict, tested,
+    Outcome, both, count_of, label_of, name_of, plan_verdict, ranges_verdict, starts_verdict, test,
+    verdict_by,
 };
-use certificate_text::Verdict;
-use frontier_planner::{Chain, dominates, end_value, next_from, start_from};
 use lab_model::{Label, Manifest, Setup};
+use labels::{Chain, Verdict, dominates, end_value, next_on, start_on};
 use network_clock::Clock;
+use player_core::Scene;
 use std::marker::Model;
 
-/// What certificates are tested against: a film, a network, a setup that fits, and the media ahead.
+/// What certificates are tested against.
 #[derive(Drop)]
 pub(crate) struct Checker<'a> {
-    m: &'a Manifest,
-    clock: &'a Clock,
-    set: &'a Setup,
-    /// At most 120000000 ms.
-    ahead: u32,
+    scene: Scene<'a>,
 }
 
 impl<'a> Model for Checker<'a> {
     ghost Value = { Task };
 
-    ghost view = { λ c. task_of c.m.now c.clock.now c.set.now c.ahead };
-
-    ghost invariant = { λ c. SetupFits c.set.now c.m.now × (c.ahead ≤ 120000000) };
+    ghost view = { λ c. c.scene };
 }
 
 /// What the layers so far gave.
@@ -57,12 +53,8 @@ impl<'a> Checker<'a> {
         ensures value { result ≡ task_of m.entry.now clock.entry.now set.entry.now ahead }
         ensures task { IsTask result }
     {
-        prove!(m.segments() > 0 && set.weights.count() > 0 && !clock.periods().is_empty());
         Checker {
-            m,
-            clock,
-            set,
-            ahead,
+            scene: Scene::new(m, clock, set, ahead),
         }
     }
 
@@ -72,7 +64,7 @@ impl<'a> Checker<'a> {
         ensures label { result ≡ start_label self.now rung }
         ensures task { IsTask self.now }
     {
-        start_from(self.m, self.clock, self.set, self.ahead, rung)
+        start_on(&self.scene, rung)
     }
 
     /// The successor on a rung of the next segment.
@@ -83,17 +75,8 @@ impl<'a> Checker<'a> {
         requires next_rung { next_rung < rungs_of self.now.film }
         ensures { result ≡ next_label self.now (segment + 1) rung old next_rung }
     {
-        prove!(self.m.segments() <= 2000);
-        next_from(
-            self.m,
-            self.clock,
-            self.set,
-            self.ahead,
-            segment + 1,
-            rung,
-            old,
-            next_rung,
-        )
+        prove!(self.scene.film().segments() <= 2000);
+        next_on(&self.scene, segment + 1, rung, old, next_rung)
     }
 
     /// The end value of a label.
@@ -101,7 +84,7 @@ impl<'a> Checker<'a> {
         requires { last.p ≤ 1000000000000000 }
         ensures { result ≡ end_value self.now last }
     {
-        end_value(self.set, last)
+        end_value(self.scene.setup(), last)
     }
 
     /// Whether the end value of a label isn't above the bound.
@@ -118,29 +101,30 @@ impl<'a> Checker<'a> {
         ensures { result ≡ both (counts_verdict self.now table segments rungs)
             (plan_verdict segments rungs plan.now) }
     {
-        let has_table = self.set.weights.rows() != 0;
-        let same = segments == self.m.segments() && rungs == self.m.rungs() && table == has_table;
-        both(tested(1, 0, 0, 0, same), plan_verdict(rungs, plan))
+        let film = self.scene.film();
+        let has_table = self.scene.setup().weights.rows() != 0;
+        let same = segments == film.segments() && rungs == film.rungs() && table == has_table;
+        both(
+            verdict_by(test(1, 0, 0, 0, same)),
+            verdict_by(plan_verdict(rungs, plan)),
+        )
     }
 
     /// V3: the label that a start names dominates the start label.
-    fn starts_held(&self, starts: &[u32], first: &[Chain]) -> Verdict
+    fn starts_held(&self, starts: &[u32], first: &[Chain]) -> Outcome
         requires rungs { length starts.now ≡ rungs_of self.now.film }
         requires few { length starts.now ≤ 16 }
         requires chains { length first.now ≡ length starts.now }
-        requires inside { starts_verdict (length starts.now) starts.now (layer_of first.now) ≡ Yes }
-        ensures { result ≡
-            starts_held self.now (length starts.now) starts.now (layer_of first.now) }
+        requires inside { starts_verdict (length starts.now) starts.now (chains_by_rung first.now) ≡ Yes }
+        ensures { verdict_by result ≡
+            starts_held self.now (length starts.now) starts.now (chains_by_rung first.now) }
     {
         for (rung, start) in starts.iter().enumerate() {
             let named = label_of(&first[rung], *start as usize);
             let own = self.start(rung as u8);
-            let verdict = tested(3, 0, rung as u8, *start, dominates(named, own));
-            if is_no(verdict) {
-                return verdict;
-            }
+            test(3, 0, rung as u8, *start, dominates(named, own))?;
         }
-        Verdict::Yes
+        Ok(())
     }
 
     /// V4 of the label at a place of a chain: for each next rung the named label dominates the successor.
@@ -151,7 +135,7 @@ impl<'a> Checker<'a> {
         chain: &Chain,
         next: &[Chain],
         place: usize,
-    ) -> Verdict
+    ) -> Outcome
         requires segment { segment + 1 < segments_of self.now.film }
         requires rung { rung < rungs_of self.now.film }
         requires next { length next.now ≡ rungs_of self.now.film }
@@ -160,25 +144,22 @@ impl<'a> Checker<'a> {
         requires count { length chain.now.labels.items ≤ 1000000 }
         requires form { IsChain (length next.now) (chain_parts chain.now) }
         requires range { range_verdict (length next.now) segment rung (chain_parts chain.now)
-            (layer_of next.now) place ≡ Yes }
-        ensures { result ≡ name_verdict self.now (length next.now) segment rung
-            (chain_parts chain.now) (layer_of next.now) place }
+            (chains_by_rung next.now) place ≡ Yes }
+        ensures { verdict_by result ≡ name_verdict self.now (length next.now) segment rung
+            (chain_parts chain.now) (chains_by_rung next.now) place }
     {
         let label = label_of(chain, place);
         for (next_rung, next_chain) in next.iter().enumerate() {
             let name = name_of(next.len(), chain, place, next_rung);
             let named = label_of(next_chain, name);
             let successor = self.successor(segment, rung, label, next_rung as u8);
-            let verdict = tested(4, segment, rung, place as u32, dominates(named, successor));
-            if is_no(verdict) {
-                return verdict;
-            }
+            test(4, segment, rung, place as u32, dominates(named, successor))?;
         }
-        Verdict::Yes
+        Ok(())
     }
 
     /// V4 of the labels of a chain.
-    fn names_of_chain(&self, segment: u16, rung: u8, chain: &Chain, next: &[Chain]) -> Verdict
+    fn names_of_chain(&self, segment: u16, rung: u8, chain: &Chain, next: &[Chain]) -> Outcome
         requires segment { segment + 1 < segments_of self.now.film }
         requires rung { rung < rungs_of self.now.film }
         requires next { length next.now ≡ rungs_of self.now.film }
@@ -186,71 +167,59 @@ impl<'a> Checker<'a> {
         requires count { length chain.now.labels.items ≤ 1000000 }
         requires form { IsChain (length next.now) (chain_parts chain.now) }
         requires ranges { first_no (range_verdict (length next.now) segment rung
-            (chain_parts chain.now) (layer_of next.now)) (length chain.now.labels.items) ≡ Yes }
-        ensures { result ≡ first_no (name_verdict self.now (length next.now) segment rung
-            (chain_parts chain.now) (layer_of next.now)) (length chain.now.labels.items) }
+            (chain_parts chain.now) (chains_by_rung next.now)) (length chain.now.labels.items) ≡ Yes }
+        ensures { verdict_by result ≡ first_no (name_verdict self.now (length next.now) segment rung
+            (chain_parts chain.now) (chains_by_rung next.now)) (length chain.now.labels.items) }
     {
         for place in 0..count_of(chain) {
-            let verdict = self.name_verdict(segment, rung, chain, next, place);
-            if is_no(verdict) {
-                return verdict;
-            }
+            self.name_verdict(segment, rung, chain, next, place)?;
         }
-        Verdict::Yes
+        Ok(())
     }
 
     /// V4 of the labels of a segment.
-    fn names_verdict(&self, segment: u16, here: &[Chain], next: &[Chain]) -> Verdict
+    fn names_verdict(&self, segment: u16, here: &[Chain], next: &[Chain]) -> Outcome
         requires fits { AreBoth self.now segment here.now next.now }
         requires few { length next.now ≤ 16 }
         requires form { IsLayer (length next.now) here.now }
         requires ranges { ranges_verdict (length next.now) (length here.now) segment
-            (layer_of here.now) (layer_of next.now) ≡ Yes }
-        ensures { result ≡ names_verdict self.now (length next.now) (length here.now) segment
-            (layer_of here.now) (layer_of next.now) }
+            (chains_by_rung here.now) (chains_by_rung next.now) ≡ Yes }
+        ensures { verdict_by result ≡ names_verdict self.now (length next.now) (length here.now) segment
+            (chains_by_rung here.now) (chains_by_rung next.now) }
     {
         for (rung, chain) in here.iter().enumerate() {
-            let verdict = self.names_of_chain(segment, rung as u8, chain, next);
-            if is_no(verdict) {
-                return verdict;
-            }
+            self.names_of_chain(segment, rung as u8, chain, next)?;
         }
-        Verdict::Yes
+        Ok(())
     }
 
     /// V5 of the labels of a chain of the last segment.
-    fn ends_of_chain(&self, bound: i128, segment: u16, rung: u8, chain: &Chain) -> Verdict
+    fn ends_of_chain(&self, bound: i128, segment: u16, rung: u8, chain: &Chain) -> Outcome
         requires count { length chain.now.labels.items ≤ 1000000 }
         requires ranges { first_no (range_verdict 0 segment rung (chain_parts chain.now)
-            (layer_of [])) (length chain.now.labels.items) ≡ Yes }
-        ensures { result ≡ first_no (end_verdict self.now bound segment rung
+            (chains_by_rung [])) (length chain.now.labels.items) ≡ Yes }
+        ensures { verdict_by result ≡ first_no (end_verdict self.now bound segment rung
             (chain_parts chain.now)) (length chain.now.labels.items) }
     {
         for place in 0..count_of(chain) {
             let low = self.ends_below(bound, label_of(chain, place));
-            let verdict = tested(5, segment, rung, place as u32, low);
-            if is_no(verdict) {
-                return verdict;
-            }
+            test(5, segment, rung, place as u32, low)?;
         }
-        Verdict::Yes
+        Ok(())
     }
 
     /// V5: no label of the last segment has an end value above the bound.
-    fn ends_verdict(&self, bound: i128, segment: u16, last: &[Chain]) -> Verdict
+    fn ends_verdict(&self, bound: i128, segment: u16, last: &[Chain]) -> Outcome
         requires form { IsLayer 0 last.now }
-        requires ranges { ranges_verdict 0 (length last.now) segment (layer_of last.now)
-            (layer_of []) ≡ Yes }
-        ensures { result ≡
-            ends_verdict self.now bound (length last.now) segment (layer_of last.now) }
+        requires ranges { ranges_verdict 0 (length last.now) segment (chains_by_rung last.now)
+            (chains_by_rung []) ≡ Yes }
+        ensures { verdict_by result ≡
+            ends_verdict self.now bound (length last.now) segment (chains_by_rung last.now) }
     {
         for (rung, chain) in last.iter().enumerate() {
-            let verdict = self.ends_of_chain(bound, segment, rung as u8, chain);
-            if is_no(verdict) {
-                return verdict;
-            }
+            self.ends_of_chain(bound, segment, rung as u8, chain)?;
         }
-        Verdict::Yes
+        Ok(())
     }
 
     /// The value of a rung list by its labels.
@@ -258,7 +227,7 @@ impl<'a> Checker<'a> {
         requires { AreRungs self.now (segments_of self.now.film) plan.now }
         ensures { result ≡ list_value self.now plan.now }
     {
-        prove!(self.m.segments() > 0);
+        prove!(self.scene.film().segments() > 0);
         let mut rung = plan[0];
         let mut label = self.start(rung);
         for segment in 1..plan.len() {
@@ -275,13 +244,13 @@ impl<'a> Checker<'a> {
         requires chains { length first.now ≡ length starts.now }
         requires fits { head ≡ Yes → length starts.now ≡ rungs_of self.now.film }
         ensures ranges { result.ranges ≡
-            both head (starts_verdict (length starts.now) starts.now (layer_of first.now)) }
+            both head (starts_verdict (length starts.now) starts.now (chains_by_rung first.now)) }
         ensures claims { result.ranges ≡ Yes → result.claims ≡
-            starts_held self.now (length starts.now) starts.now (layer_of first.now) }
+            starts_held self.now (length starts.now) starts.now (chains_by_rung first.now) }
     {
-        let ranges = both(head, starts_verdict(starts, first));
+        let ranges = both(head, verdict_by(starts_verdict(starts, first)));
         let claims = match ranges {
-            Verdict::Yes => self.starts_held(starts, first),
+            Verdict::Yes => verdict_by(self.starts_held(starts, first)),
             no => no,
         };
         Found { ranges, claims }
@@ -293,14 +262,20 @@ impl<'a> Checker<'a> {
         requires next { length next.now ≤ 16 }
         requires fits { found.ranges ≡ Yes → AreBoth self.now segment here.now next.now }
         ensures ranges { result.ranges ≡ both found.ranges (ranges_verdict (length next.now)
-            (length here.now) segment (layer_of here.now) (layer_of next.now)) }
+            (length here.now) segment (chains_by_rung here.now) (chains_by_rung next.now)) }
         ensures claims { result.ranges ≡ Yes → result.claims ≡ both found.claims
-            (names_verdict self.now (length next.now) (length here.now) segment (layer_of here.now)
-            (layer_of next.now)) }
+            (names_verdict self.now (length next.now) (length here.now) segment (chains_by_rung here.now)
+            (chains_by_rung next.now)) }
     {
-        let ranges = both(found.ranges, ranges_verdict(segment, here, next));
+        let ranges = both(
+            found.ranges,
+            verdict_by(ranges_verdict(segment, here, next)),
+        );
         let claims = match ranges {
-            Verdict::Yes => both(found.claims, self.names_verdict(segment, here, next)),
+            Verdict::Yes => both(
+                found.claims,
+                verdict_by(self.names_verdict(segment, here, next)),
+            ),
             no => no,
         };
         Found { ranges, claims }
@@ -319,16 +294,16 @@ impl<'a> Checker<'a> {
         requires form { IsLayer 0 last.now }
         requires fits { found.ranges ≡ Yes → MayEnd self.now segment last.now plan.now }
         ensures { result ≡ both (both found.ranges (ranges_verdict 0 (length last.now) segment
-            (layer_of last.now) (layer_of []))) (both found.claims
-            (both (ends_verdict self.now bound (length last.now) segment (layer_of last.now))
+            (chains_by_rung last.now) (chains_by_rung []))) (both found.claims
+            (both (ends_verdict self.now bound (length last.now) segment (chains_by_rung last.now))
             (score_verdict self.now plan.now score))) }
     {
-        let ranges = both(found.ranges, ranges_verdict(segment, last, &[]));
+        let ranges = both(found.ranges, verdict_by(ranges_verdict(segment, last, &[])));
         match ranges {
             Verdict::Yes => {
-                let ends = self.ends_verdict(bound, segment, last);
-                let value = self.list_value(plan);
-                both(found.claims, both(ends, tested(6, 0, 0, 0, value == score)))
+                let ends = verdict_by(self.ends_verdict(bound, segment, last));
+                let own = test(6, 0, 0, 0, self.list_value(plan) == score);
+                both(found.claims, both(ends, verdict_by(own)))
             }
             no => no,
         }

@@ -6,8 +6,8 @@ mod checker;
 mod ranges;
 mod whole;
 
-pub use by_layer::check_lines;
-pub use certificate_text::Verdict;
+pub use by_layer::{check_lines, check_lines_from};
+pub use labels::Verdict;
 pub use whole::{check, check_bound, check_from};
 
 #[cfg(test)]

@@ -1,39 +1,65 @@
 //! The tests of V1 and V2: counts, and numbers in range.
 
 ghost use Rattle.std.specs.Prelude.{◌≡◌, ◌*◌, ◌<◌, ◌≤◌, length};
-ghost use Rattle.frontier_planner.specs.Parts.{chain_parts};
-ghost use Rattle.certificate_check.specs.Scheme.{both, first_no, is_no, tested};
-ghost use Rattle.certificate_check.specs.Clauses.{count_of, is_near, label_of, layer_of, name_of, name_ranges, plan_verdict, range_verdict, ranges_verdict, starts_verdict};
+ghost use Rattle.labels.specs.Parts.{chain_parts};
+ghost use Rattle.certificate_check.specs.Scheme.{both, first_no, tested, verdict_by};
+ghost use Rattle.certificate_check.specs.Clauses.{count_of, is_near, label_of, chains_by_rung, name_of, name_ranges, plan_verdict, range_verdict, ranges_verdict, starts_verdict};
 ghost use Rattle.certificate_check.specs.Layers.{IsLayer};
 
-use certificate_text::Verdict;
-use frontier_planner::Chain;
 use lab_model::Label;
+use labels::{Chain, Verdict};
 
 /// The greatest time of a label, in milliseconds.
 const FARTHEST_MS: u64 = 1_000_000_000_000_000;
 
-/// Yes where the test passes, else a no with this clause and place.
-pub(crate) fn tested(clause: u8, segment: u16, rung: u8, label: u32, passes: bool) -> Verdict
-    ensures { result ≡ tested clause segment rung label passes }
+/// Where a test fails: the number of its clause, and the place.
+#[derive(Clone, Copy)]
+pub(crate) struct Failure {
+    pub clause: u8,
+    pub segment: u16,
+    pub rung: u8,
+    pub label: u32,
+}
+
+/// That all tests pass, or the first that fails.
+pub(crate) type Outcome = Result<(), Failure>;
+
+/// A test of this clause and place.
+pub(crate) fn test(clause: u8, segment: u16, rung: u8, label: u32, passes: bool) -> Outcome
+    ensures { verdict_by result ≡ tested clause segment rung label passes }
 {
     if passes {
-        Verdict::Yes
+        Ok(())
     } else {
-        Verdict::No {
+        Err(Failure {
             clause,
             segment,
             rung,
             label,
-        }
+        })
     }
 }
 
-/// Whether it is a no.
-pub(crate) fn is_no(verdict: Verdict) -> bool
-    ensures { result ≡ is_no verdict }
+/// The verdict that tests come to.
+pub(crate) fn verdict_by(outcome: Outcome) -> Verdict
+    ensures { result ≡ verdict_by outcome }
 {
-    matches!(verdict, Verdict::No { .. })
+    match outcome {
+        Ok(()) => Verdict::Yes,
+        Err(
+            Failure {
+                clause,
+                segment,
+                rung,
+                label,
+            },
+        ) => Verdict::No {
+            clause,
+            segment,
+            rung,
+            label,
+        },
+    }
 }
 
 /// The first verdict where it is a no, else the second.
@@ -79,102 +105,85 @@ fn is_near(label: Label) -> bool
 }
 
 /// V2 of the plan: each rung is one of the ladder.
-pub(crate) fn plan_verdict(rungs: u8, plan: &[u8]) -> Verdict
+pub(crate) fn plan_verdict(rungs: u8, plan: &[u8]) -> Outcome
     requires { length plan.now ≤ 2000 }
-    ensures { result ≡ plan_verdict (length plan.now) rungs plan.now }
+    ensures { verdict_by result ≡ plan_verdict (length plan.now) rungs plan.now }
 {
     for (segment, rung) in plan.iter().enumerate() {
-        let verdict = tested(2, segment as u16, 0, 0, *rung < rungs);
-        if is_no(verdict) {
-            return verdict;
-        }
+        test(2, segment as u16, 0, 0, *rung < rungs)?;
     }
-    Verdict::Yes
+    Ok(())
 }
 
 /// V2 of the starts: each is a place of its rung's chain in segment 0.
-pub(crate) fn starts_verdict(starts: &[u32], first: &[Chain]) -> Verdict
+pub(crate) fn starts_verdict(starts: &[u32], first: &[Chain]) -> Outcome
     requires rungs { length starts.now ≤ 16 }
     requires chains { length first.now ≡ length starts.now }
-    ensures { result ≡ starts_verdict (length starts.now) starts.now (layer_of first.now) }
+    ensures { verdict_by result ≡ starts_verdict (length starts.now) starts.now (chains_by_rung first.now) }
 {
     for (rung, start) in starts.iter().enumerate() {
         let inside = (*start as usize) < count_of(&first[rung]);
-        let verdict = tested(2, 0, rung as u8, 0, inside);
-        if is_no(verdict) {
-            return verdict;
-        }
+        test(2, 0, rung as u8, 0, inside)?;
     }
-    Verdict::Yes
+    Ok(())
 }
 
 /// V2 of the names of the label at a place of a chain: each is a place of the named chain of the next segment.
-fn name_ranges(segment: u16, rung: u8, chain: &Chain, next: &[Chain], place: usize) -> Verdict
+fn name_ranges(segment: u16, rung: u8, chain: &Chain, next: &[Chain], place: usize) -> Outcome
     requires count { length chain.now.labels.items ≤ 1000000 }
     requires next { length next.now ≤ 16 }
     requires place { place < length chain.now.labels.items }
     requires names { length chain.now.names.items
         ≡ length chain.now.labels.items * length next.now }
-    ensures { result ≡ name_ranges (length next.now) segment rung (chain_parts chain.now)
-        (layer_of next.now) place }
+    ensures { verdict_by result ≡ name_ranges (length next.now) segment rung (chain_parts chain.now)
+        (chains_by_rung next.now) place }
 {
     for (next_rung, next_chain) in next.iter().enumerate() {
         let inside = name_of(next.len(), chain, place, next_rung) < count_of(next_chain);
-        let verdict = tested(2, segment, rung, place as u32, inside);
-        if is_no(verdict) {
-            return verdict;
-        }
+        test(2, segment, rung, place as u32, inside)?;
     }
-    Verdict::Yes
+    Ok(())
 }
 
 /// V2 of the label at a place of a chain: its times and its names.
-fn range_verdict(segment: u16, rung: u8, chain: &Chain, next: &[Chain], place: usize) -> Verdict
+fn range_verdict(segment: u16, rung: u8, chain: &Chain, next: &[Chain], place: usize) -> Outcome
     requires count { length chain.now.labels.items ≤ 1000000 }
     requires next { length next.now ≤ 16 }
     requires place { place < length chain.now.labels.items }
     requires names { length chain.now.names.items
         ≡ length chain.now.labels.items * length next.now }
-    ensures { result ≡ range_verdict (length next.now) segment rung (chain_parts chain.now)
-        (layer_of next.now) place }
+    ensures { verdict_by result ≡ range_verdict (length next.now) segment rung (chain_parts chain.now)
+        (chains_by_rung next.now) place }
 {
     let near = is_near(label_of(chain, place));
-    both(
-        tested(2, segment, rung, place as u32, near),
-        name_ranges(segment, rung, chain, next, place),
-    )
+    test(2, segment, rung, place as u32, near)?;
+    name_ranges(segment, rung, chain, next, place)
 }
 
 /// V2 of the labels of a chain.
-fn range_of_chain(segment: u16, rung: u8, chain: &Chain, next: &[Chain]) -> Verdict
+fn range_of_chain(segment: u16, rung: u8, chain: &Chain, next: &[Chain]) -> Outcome
     requires count { length chain.now.labels.items ≤ 1000000 }
     requires next { length next.now ≤ 16 }
     requires names { length chain.now.names.items
         ≡ length chain.now.labels.items * length next.now }
-    ensures { result ≡ first_no (range_verdict (length next.now) segment rung
-        (chain_parts chain.now) (layer_of next.now)) (length chain.now.labels.items) }
+    ensures { verdict_by result ≡ first_no (range_verdict (length next.now) segment rung
+        (chain_parts chain.now) (chains_by_rung next.now)) (length chain.now.labels.items) }
 {
     for place in 0..count_of(chain) {
-        let verdict = range_verdict(segment, rung, chain, next, place);
-        if is_no(verdict) {
-            return verdict;
-        }
+        range_verdict(segment, rung, chain, next, place)?;
     }
-    Verdict::Yes
+    Ok(())
 }
 
 /// V2 of the labels of a segment.
-pub(crate) fn ranges_verdict(segment: u16, here: &[Chain], next: &[Chain]) -> Verdict
+pub(crate) fn ranges_verdict(segment: u16, here: &[Chain], next: &[Chain]) -> Outcome
     requires form { IsLayer (length next.now) here.now }
     requires next { length next.now ≤ 16 }
-    ensures { result ≡ ranges_verdict (length next.now) (length here.now) segment
-        (layer_of here.now) (layer_of next.now) }
+    ensures { verdict_by result ≡ ranges_verdict (length next.now) (length here.now) segment
+        (chains_by_rung here.now) (chains_by_rung next.now) }
 {
     for (rung, chain) in here.iter().enumerate() {
-        let verdict = range_of_chain(segment, rung as u8, chain, next);
-        if is_no(verdict) {
-            return verdict;
-        }
+        range_of_chain(segment, rung as u8, chain, next)?;
     }
-    Verdict::Yes
+    Ok(())
 }

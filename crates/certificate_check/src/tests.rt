@@ -2,7 +2,7 @@
 
 mod certificates;
 
-use crate::{Verdict, check, check_bound, check_from, check_lines};
+use crate::{Verdict, check, check_bound, check_from, check_lines, check_lines_from};
 use certificate_text::{Lines, read_certificate};
 use certificates::{
     CHANGED, EQUAL_UTILITIES, LIVE_EDGE, MUTATED, SMALLEST_INPUT, STEADY_PLAN, UTILITY_TABLE,
@@ -233,7 +233,7 @@ fn each_prefix(rt: HostRuntime) -> Result<(), Fail> {
     Ok(())
 }
 
-/// What the general check of a text says, with so much media ahead.
+/// What the general checks of a text say, with so much media ahead.
 fn with_ahead(
     rt: &impl Abort,
     alloc: Global,
@@ -246,6 +246,9 @@ fn with_ahead(
     assert!(rt; ahead <= 120_000_000);
     let certificate = read_certificate(alloc, text.as_bytes())?;
     let verdict = check_from(&m1.m, &m1.clock, &m1.set, ahead, &certificate, bound);
+    let lines = Lines::begin(alloc, text.as_bytes())?;
+    let by_layer = check_lines_from(&m1.m, &m1.clock, &m1.set, ahead, lines, bound)?;
+    assert_eq!(rt; by_layer, verdict);
     told(alloc, &Ok(verdict))
 }
 

@@ -3,18 +3,19 @@
 ghost use Rattle.std.specs.Prelude.{◌≡◌, ◌↔◌, ◌<◌, ◌≤◌};
 ghost use Rattle.lab_model.specs.Fit.{SetupFits};
 ghost use Rattle.player_core.specs.Available.{all_ahead};
-ghost use Rattle.frontier_planner.specs.Labels.{task_of};
-ghost use Rattle.frontier_planner.specs.Valid.{IsValid};
-ghost use Rattle.certificate_text.specs.declared.certificate.Verdict.TheVariants.{Yes};
-ghost use Rattle.certificate_text.specs.Form.{IsCertificate, certificate_parts, names_per};
+ghost use Rattle.player_core.specs.Scene.{task_of};
+ghost use Rattle.labels.specs.Best.{Settles};
+ghost use Rattle.labels.specs.Valid.{IsValid};
+ghost use Rattle.labels.specs.declared.verdict.Verdict.TheVariants.{Yes};
+ghost use Rattle.labels.specs.Form.{IsCertificate, names_per};
+ghost use Rattle.certificate_text.specs.Form.{certificate_parts};
 ghost use Rattle.certificate_check.specs.Layers.{IsLayer, IsLayerOf};
-ghost use Rattle.certificate_check.specs.Soundness.{Certifies};
 ghost use Rattle.certificate_check.specs.Verdict.{verdict_of};
 
 use crate::checker::Checker;
-use certificate_text::{Certificate, Verdict};
-use frontier_planner::Chain;
+use certificate_text::Certificate;
 use lab_model::{Manifest, Setup};
+use labels::{Chain, Verdict};
 use network_clock::Clock;
 
 /// So many milliseconds of media ahead that every film within the limits is there at instant 0.
@@ -77,7 +78,7 @@ pub fn check_from(
     ensures valid { (result ≡ Yes) ↔
         IsValid (task_of m.now clock.now set.now ahead) (certificate_parts cert.now) bound }
     ensures sound { result ≡ Yes →
-        Certifies (task_of m.now clock.now set.now ahead) cert.now.plan.items cert.now.score bound }
+        Settles (task_of m.now clock.now set.now ahead) cert.now.plan.items cert.now.score bound }
 {
     let checker = Checker::new(m, clock, set, ahead);
     verdict_on(&checker, cert, bound)
@@ -97,7 +98,7 @@ pub fn check_bound(
         verdict_of (task_of m.now clock.now set.now all_ahead) (certificate_parts cert.now) bound }
     ensures valid { (result ≡ Yes) ↔
         IsValid (task_of m.now clock.now set.now all_ahead) (certificate_parts cert.now) bound }
-    ensures sound { result ≡ Yes → Certifies (task_of m.now clock.now set.now all_ahead)
+    ensures sound { result ≡ Yes → Settles (task_of m.now clock.now set.now all_ahead)
         cert.now.plan.items cert.now.score bound }
 {
     check_from(m, clock, set, ALL_AHEAD, cert, bound)
@@ -112,7 +113,7 @@ pub fn check(m: &Manifest, clock: &Clock, set: &Setup, cert: &Certificate) -> Ve
         (certificate_parts cert.now) cert.now.score }
     ensures valid { (result ≡ Yes) ↔ IsValid (task_of m.now clock.now set.now all_ahead)
         (certificate_parts cert.now) cert.now.score }
-    ensures sound { result ≡ Yes → Certifies (task_of m.now clock.now set.now all_ahead)
+    ensures sound { result ≡ Yes → Settles (task_of m.now clock.now set.now all_ahead)
         cert.now.plan.items cert.now.score cert.now.score }
 {
     check_bound(m, clock, set, cert, cert.score)

@@ -9,15 +9,15 @@ use Rattle.std.proofs.Math.Nat.{div-le_self, mod-lt}
 use Rattle.lab_model.specs.declared.label.Label.{Label}
 use Rattle.lab_io.specs.Sink.{Text}
 use Rattle.lab_io.specs.Piece.{fields_line}
-use Rattle.frontier_planner.specs.Parts.{ChainParts}
-use Rattle.certificate_text.specs.Fields.{◌>>=◌, HasDigits, passed, place_digits}
+use Rattle.labels.specs.Parts.{ChainParts}
+use Rattle.certificate_text.specs.Fields.{◌>>=◌, value_if}
+use Rattle.labels.specs.Form.{HasDigits, place_digits, AreChains, IsChain, IsSpelled, label_count, names_per}
 use Rattle.certificate_text.specs.Line.{Holds, Values, values_at}
 use Rattle.certificate_text.specs.Grammar.{label_line, layer_line}
-use Rattle.certificate_text.specs.Form.{AreChains, IsChain, IsSpelled, label_count, names_per}
 use Rattle.certificate_text.specs.Reading.{Place, chain_at, chains_at, joined, label_at, labels_at, layer_at}
 use Rattle.certificate_text.specs.Spelling.{chain_lines, chains_lines, label_fields, label_lines, layer_fields, lines_text}
 use Rattle.certificate_text.proofs.Loops.{given, ok_is}
-use Rattle.certificate_text.proofs.FieldLaws.{bind_ok, passed_ok}
+use Rattle.certificate_text.proofs.FieldLaws.{bind_ok, value_if_ok}
 use Rattle.certificate_text.proofs.LineLaws.{IsSpellable, line_again, line_takes}
 
 -- where a reader stands
@@ -142,8 +142,8 @@ can_layer segment rung = (refl, ((lit≤ tt, lit≤ tt), tt))
 layer_takes : (row segment rung left : ℕ) (bytes : Text) (x : ℕ × Text) → layer_at row segment rung left bytes ≡ Ok x → (bytes ≡ fields_line (layer_fields segment rung x.0) ++ x.1) × (x.0 ≤ left)
 unfolding layer_at
 layer_takes row segment rung left bytes x h =
-    let n = bind_ok (values_at row (layer_line segment rung) bytes) (λ count. passed row (nat_le count.0.0 left) (count.0.0, count.1)) x h in
-    let p = passed_ok row (nat_le n.0.0.0 left) (n.0.0.0, n.0.1) x n.2 in
+    let n = bind_ok (values_at row (layer_line segment rung) bytes) (λ count. value_if row (nat_le count.0.0 left) (count.0.0, count.1)) x h in
+    let p = value_if_ok row (nat_le n.0.0.0 left) (n.0.0.0, n.0.1) x n.2 in
     let t = line_takes row (layer_line segment rung) bytes n.0 (can_layer segment rung) (lit≤ tt) n.1 in
     subst (λ (y : ℕ × Text). (bytes ≡ fields_line (layer_fields segment rung y.0) ++ y.1) × (y.0 ≤ left)) p.1 (t.text, grind (arith, nat_tests, p.0))
 

@@ -19,7 +19,8 @@ use Rattle.lab_io.specs.Number.{numeral}
 use Rattle.lab_io.specs.Piece.{later_fields}
 use Rattle.lab_io.proofs.Numbers.{decimal-spelling, digit_at, numeral-decimal, numeral-takes}
 use Rattle.lab_model.specs.Film.{IsWithin}
-use Rattle.certificate_text.specs.Fields.{◌>>=◌, HasDigits, HasSignedDigits, field_at, known_at, negative, number_at, numbers_at, parted, passed, place_digits, signed_at, signed_of, some_at, stop_before, unsigned_of, within_at, word_at}
+use Rattle.certificate_text.specs.Fields.{◌>>=◌, field_at, known_at, negative, number_at, numbers_at, parted, value_if, signed_at, signed_of, some_at, stop_before, unsigned_of, within_at, word_at}
+use Rattle.labels.specs.Form.{HasDigits, HasSignedDigits, place_digits}
 use Rattle.certificate_text.proofs.Loops.{given, ok_is}
 
 -- ---- steps
@@ -30,9 +31,9 @@ bind_ok (Ok x) f y h = (x, refl, h)
 bind_ok (Err e) f y h = absurd cc
 
 -- a test that passed
-pub passed_ok : {X : Type 0} (row : ℕ) (b : Bool) (x y : X) → passed row b x ≡ Ok y → (b ≡ true) × (x ≡ y)
-passed_ok row true x y h = (refl, cc)
-passed_ok row false x y h = absurd cc
+pub value_if_ok : {X : Type 0} (row : ℕ) (b : Bool) (x y : X) → value_if row b x ≡ Ok y → (b ≡ true) × (x ≡ y)
+value_if_ok row true x y h = (refl, cc)
+value_if_ok row false x y h = absurd cc
 
 -- what an option gave
 pub some_ok : {X : Type 0} (row : ℕ) (o : Option X) (y : X) → some_at row o ≡ Ok y → o ≡ Some y
@@ -97,8 +98,8 @@ bytes_eq-same x y h = (bytes_eq-Decides x y).0 h
 pub word_takes : (row : ℕ) (word : Text) (stop : ℕ) (bytes rest : Text) → word_at row word stop bytes ≡ Ok rest → bytes ≡ word ++ stop ∷ rest
 unfolding word_at
 word_takes row word stop bytes rest h =
-    let f = bind_ok (field_at row stop bytes) (λ field. passed row (bytes_eq field.0 word) field.1) rest h in
-    let p = passed_ok row (bytes_eq f.0.0 word) f.0.1 rest f.2 in
+    let f = bind_ok (field_at row stop bytes) (λ field. value_if row (bytes_eq field.0 word) field.1) rest h in
+    let p = value_if_ok row (bytes_eq f.0.0 word) f.0.1 rest f.2 in
     let t = field_takes row stop bytes f.0 f.1 in
     let e : f.0.0 ≡ word = bytes_eq-same f.0.0 word p.0 in
     t ∙ rw (e, p.1) refl
@@ -153,8 +154,8 @@ number_again row digits stop n rest one short low lt =
 pub known_takes : (row known stop : ℕ) (bytes rest : Text) → known_at row known stop bytes ≡ Ok rest → (bytes ≡ decimal known ++ stop ∷ rest) × HasDigits place_digits known
 unfolding known_at
 known_takes row known stop bytes rest h =
-    let n = bind_ok (number_at row place_digits stop bytes) (λ n. passed row (n.0 == known) n.1) rest h in
-    let p = passed_ok row (n.0.0 == known) n.0.1 rest n.2 in
+    let n = bind_ok (number_at row place_digits stop bytes) (λ n. value_if row (n.0 == known) n.1) rest h in
+    let p = value_if_ok row (n.0.0 == known) n.0.1 rest n.2 in
     let t = number_takes row place_digits stop bytes n.0 (lit≤ tt) n.1 in
     let e : n.0.0 ≡ known = eqb-true n.0.0 known p.0 in
     (t.0 ∙ rw (e, p.1) refl, subst (HasDigits place_digits) e t.1)
@@ -168,8 +169,8 @@ known_again row known stop rest low lt = rw (number_again row place_digits stop 
 pub within_takes : (row low high stop : ℕ) (bytes : Text) (x : ℕ × Text) → within_at row low high stop bytes ≡ Ok x → (bytes ≡ decimal x.0 ++ stop ∷ x.1) × IsWithin low high x.0
 unfolding within_at
 within_takes row low high stop bytes x h =
-    let n = bind_ok (number_at row place_digits stop bytes) (λ n. passed row (nat_le low n.0 && nat_le n.0 high) n) x h in
-    let p = passed_ok row (nat_le low n.0.0 && nat_le n.0.0 high) n.0 x n.2 in
+    let n = bind_ok (number_at row place_digits stop bytes) (λ n. value_if row (nat_le low n.0 && nat_le n.0 high) n) x h in
+    let p = value_if_ok row (nat_le low n.0.0 && nat_le n.0.0 high) n.0 x n.2 in
     let both = and_parts (nat_le low n.0.0) (nat_le n.0.0 high) p.0 in
     let t = number_takes row place_digits stop bytes n.0 (lit≤ tt) n.1 in
     subst (λ (y : ℕ × Text). (bytes ≡ decimal y.0 ++ stop ∷ y.1) × IsWithin low high y.0) p.1 (t.0, (grind (arith, nat_tests, both.0), grind (arith, nat_tests, both.1)))
@@ -186,8 +187,8 @@ within_again row low high stop n rest end short within =
 
 negative_takes : (row digits : ℕ) (text : Text) (z : ℤ) → digits ≤ 64 → negative row digits text ≡ Ok z → (45 ∷ text ≡ signed_decimal z) × HasSignedDigits digits z
 negative_takes row digits text z short h =
-    let n = bind_ok (some_at row (numeral digits text)) (λ n. passed row (nat_le 1 n) (pos 0 -ℤ pos n)) z h in
-    let p = passed_ok row (nat_le 1 n.0) (pos 0 -ℤ pos n.0) z n.2 in
+    let n = bind_ok (some_at row (numeral digits text)) (λ n. value_if row (nat_le 1 n) (pos 0 -ℤ pos n)) z h in
+    let p = value_if_ok row (nat_le 1 n.0) (pos 0 -ℤ pos n.0) z n.2 in
     let s = numeral-takes digits text n.0 short (some_ok row (numeral digits text) n.0 n.1) in
     go n.0 s.0 s.1 p.0 p.1
   where

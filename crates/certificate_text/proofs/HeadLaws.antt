@@ -6,13 +6,15 @@ use Rattle.lab_model.specs.Reading.{Gives}
 use Rattle.lab_model.specs.Film.{IsWithin}
 use Rattle.lab_io.specs.Sink.{Text}
 use Rattle.lab_io.specs.Piece.{fields_line}
-use Rattle.frontier_planner.specs.Parts.{CertificateParts}
+use Rattle.labels.specs.Parts.{CertificateParts}
 use Rattle.certificate_text.specs.declared.certificate.Certificate.{Certificate}
-use Rattle.certificate_text.specs.Fields.{◌>>=◌, place_digits}
+use Rattle.certificate_text.specs.Fields.{◌>>=◌}
+use Rattle.labels.specs.Form.{place_digits, most_labels, rung_digits, IsCertificate, IsHead}
 use Rattle.certificate_text.specs.Line.{Holds, fields_of, values_at}
-use Rattle.certificate_text.specs.Grammar.{end_line, list_line, most_labels, plan_line, rung_digits, rungs_line, score_line, segments_line, start_line, table_line, version_line}
-use Rattle.certificate_text.specs.Form.{IsCertificate, IsHead, certificate_parts}
+use Rattle.certificate_text.specs.Grammar.{end_line, list_line, plan_line, rungs_line, score_line, segments_line, start_line, table_line, version_line}
+use Rattle.certificate_text.specs.Form.{certificate_parts}
 use Rattle.certificate_text.specs.Reading.{Counts, Place, certificate_of, chains_at, counts_at, end_at, head_at, nothing_at, score_row, table_at, version_at}
+use Rattle.certificate_text.specs.Walk.{without_chains}
 use Rattle.certificate_text.specs.Spelling.{chains_lines, head_lines, lines_text, spelling, table_lines, version_fields, version_number}
 use Rattle.certificate_text.proofs.Loops.{ok_is}
 use Rattle.certificate_text.proofs.FieldLaws.{bind_ok, is_free}
@@ -145,10 +147,6 @@ counts_again t n r rest a b =
 
 -- ---- the head
 
--- a certificate without its chains
-abbrev pub without_chains : CertificateParts → CertificateParts
-without_chains c = record c { chains = [] }
-
 -- the parts of a head
 abbrev made_head : Counts → ℤ → List ℕ → List ℕ → CertificateParts
 made_head counts score plan starts = record { table = counts.table; segments = counts.segments; rungs = counts.rungs; score = score; plan = plan; starts = starts; chains = [] }
@@ -171,6 +169,7 @@ pub record TakesHead (bytes : Text) (x : CertificateParts × Place) : Type 0 whe
   pub text : bytes ≡ lines_text (head_lines x.0) ++ x.1.rest
   pub head : IsHead x.0
   pub left : x.1.left ≡ most_labels
+  pub none : x.0.chains ≡ []
 
 -- a head that was read is of the form and spelled so
 pub head_takes : (bytes : Text) (x : CertificateParts × Place) → head_at bytes ≡ Ok x → TakesHead bytes x
@@ -191,8 +190,9 @@ head_takes bytes x h =
           ∙ ap (λ (w : Text). fields_line (fields_of (plan_line k.0.0.segments) p.0.0) ++ w) ts.text)
           ∙ sym (lists_line c s.0.1))
           ∙ sym (head_line c s.0.1);
-      head = record { segments = tk.segments; rungs = tk.rungs; score = tz.holds; plan = tp.holds; starts = ts.holds };
+      head = record { segments = tk.segments.0; rungs = tk.rungs.0; score = tz.holds.0; plan = tp.holds; starts = ts.holds };
       left = refl;
+      none = refl;
     })
 
 -- a head of the form is read from its spelling
@@ -203,11 +203,11 @@ head_again c rest form =
     let start = fields_line (fields_of (start_line c.rungs) c.starts) in
     ap head_at (head_line c rest)
     ∙ rw (
-      counts_again c.table c.segments c.rungs (lists_text c ++ rest) form.segments form.rungs,
+      counts_again c.table c.segments c.rungs (lists_text c ++ rest) (form.segments, tt) (form.rungs, tt),
       lists_line c rest,
-      line_again (score_row c.table) score_line (c.score, tt) (plan ++ (start ++ rest)) can_score (lit≤ tt) form.score,
-      line_again (score_row c.table + 1) (plan_line c.segments) c.plan (start ++ rest) (can_plan c.segments form.segments.0.0) (omega arith) form.plan,
-      line_again (score_row c.table + 2) (start_line c.rungs) c.starts rest (can_start c.rungs form.rungs.0.0) (omega arith) form.starts,
+      line_again (score_row c.table) score_line (c.score, tt) (plan ++ (start ++ rest)) can_score (lit≤ tt) (form.score, tt),
+      line_again (score_row c.table + 1) (plan_line c.segments) c.plan (start ++ rest) (can_plan c.segments form.segments.0) (omega arith) form.plan,
+      line_again (score_row c.table + 2) (start_line c.rungs) c.starts rest (can_start c.rungs form.rungs.0) (omega arith) form.starts,
     ) refl
 
 -- ---- the end
@@ -258,9 +258,9 @@ pub certificate_again : (c : CertificateParts) → IsCertificate c → certifica
 unfolding certificate_of
 certificate_again c form =
     let later = lines_text (chains_lines c.segments c.rungs 0 c.chains) ++ fields_line (fields_of end_line tt) in
-    let few = at_most c.segments c.rungs form.head.segments.0.1 form.head.rungs.0.1 in
+    let few = at_most c.segments c.rungs form.head.segments.1 form.head.rungs.1 in
     let far : length c.chains ≤ 32000 = omega (arith, form.count, few) in
-    let q = chains_again c.segments c.rungs 0 c.chains (first_place c.table later) (fields_line (fields_of end_line tt)) form.head.rungs.0.0 form.head.rungs.0.1 (omega (arith, far)) refl form.chains form.labels (omega arith) in
+    let q = chains_again c.segments c.rungs 0 c.chains (first_place c.table later) (fields_line (fields_of end_line tt)) form.head.rungs.0 form.head.rungs.1 (omega (arith, far)) refl form.chains form.labels (omega arith) in
     let chains : chains_at c.segments c.rungs 0 (c.segments * c.rungs) (first_place c.table later) ≡ Ok (c.chains, q.0) = subst (λ (k : ℕ). chains_at c.segments c.rungs 0 k (first_place c.table later) ≡ Ok (c.chains, q.0)) form.count q.1 in
     ap certificate_of (spelling_parts c) ∙ rw (head_again c later form.head, chains, end_again q.0 q.2) refl
   where

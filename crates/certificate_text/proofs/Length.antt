@@ -11,11 +11,10 @@ use Rattle.std.proofs.Math.Nat.{div-le_self, mod-lt, pow-le-pow_right}
 use Rattle.lab_model.specs.declared.label.Label.{Label}
 use Rattle.lab_io.specs.Sink.{Text}
 use Rattle.lab_io.specs.Piece.{fields_line, later_fields}
-use Rattle.frontier_planner.specs.Parts.{CertificateParts, ChainParts}
-use Rattle.certificate_text.specs.Fields.{HasDigits, HasSignedDigits}
+use Rattle.labels.specs.Parts.{CertificateParts, ChainParts}
+use Rattle.labels.specs.Form.{HasDigits, HasSignedDigits, AreChains, IsCertificate, IsHead, IsSpelled, label_count, names_per}
 use Rattle.certificate_text.specs.Line.{fields_of}
 use Rattle.certificate_text.specs.Grammar.{end_line, plan_line, rungs_line, score_line, segments_line, start_line}
-use Rattle.certificate_text.specs.Form.{AreChains, IsCertificate, IsHead, IsSpelled, label_count, names_per}
 use Rattle.certificate_text.specs.Spelling.{chain_lines, chains_lines, head_lines, label_fields, label_lines, layer_fields, lines_text, spelling, table_lines, version_fields, version_number}
 use Rattle.certificate_text.proofs.Texts.{spelling_parts}
 
@@ -166,15 +165,15 @@ head_short c h =
     let score = fields_of score_line (c.score, tt) in
     let plan = fields_of (plan_line c.segments) c.plan in
     let starts = fields_of (start_line c.rungs) c.starts in
-    let many = h.segments.0.1 in
-    let high = h.rungs.0.1 in
+    let many = h.segments.1 in
+    let high = h.rungs.1 in
     let long = h.plan.0 in
     let wide = h.starts.0 in
     let a = version_short c.table in
     let b = count_short (codes "segments") c.segments (omega (arith, many)) in
     let d = count_short (codes "rungs") c.rungs (omega (arith, high)) in
     let e = table_short c.table in
-    let f = score_short c.score h.score.0 in
+    let f = score_short c.score h.score in
     let p = list_short (codes "plan") 2 c.plan (omega arith) (omega arith) h.plan.1 in
     let s = list_short (codes "start") 7 c.starts (omega arith) (omega arith) h.starts.1 in
     let one = lines_both counts (table_lines c.table ++ (score ∷ plan ∷ starts ∷ [])) in
@@ -192,10 +191,10 @@ pub spelling_fits : (c : CertificateParts) → IsCertificate c → length (spell
 spelling_fits c form =
     let head = lines_text (head_lines c) in
     let chains = lines_text (chains_lines c.segments c.rungs 0 c.chains) in
-    let few = at_most c.segments c.rungs form.head.segments.0.1 form.head.rungs.0.1 in
+    let few = at_most c.segments c.rungs form.head.segments.1 form.head.rungs.1 in
     let count = form.count in
     let a = head_short c form.head in
-    let b = chains_short c.segments c.rungs 0 c.chains form.head.rungs.0.0 form.head.rungs.0.1 (omega (arith, count, few)) form.chains form.labels in
+    let b = chains_short c.segments c.rungs 0 c.chains form.head.rungs.0 form.head.rungs.1 (omega (arith, count, few)) form.chains form.labels in
     let whole = ap length (spelling_parts c) in
     let one = length-append head (chains ++ fields_line (fields_of end_line tt)) in
     let two = length-append chains (fields_line (fields_of end_line tt)) in

@@ -6,5 +6,5 @@ pub mod Texts
 pub mod CertificateLaws
 pub mod HeadLaws
 pub mod WalkLaws
-pub mod PlanText
+pub mod LayerByLayer
 pub mod Length

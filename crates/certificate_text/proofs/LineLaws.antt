@@ -4,7 +4,8 @@ use Rattle.std.specs.Fmt.{decimal, signed_decimal}
 use Rattle.std.proofs.lemmas.List.{length-map}
 use Rattle.lab_io.specs.Sink.{Text}
 use Rattle.lab_io.specs.Piece.{fields_line, later_fields}
-use Rattle.certificate_text.specs.Fields.{◌>>=◌, HasDigits, known_at, number_at, numbers_at, place_digits, signed_at, stop_before, within_at, word_at}
+use Rattle.certificate_text.specs.Fields.{◌>>=◌, known_at, number_at, numbers_at, signed_at, stop_before, within_at, word_at}
+use Rattle.labels.specs.Form.{HasDigits, place_digits}
 use Rattle.certificate_text.specs.Line.{Holds, Line, Values, ends, field_count, fields_of, known, number, numbers, signed, stop_of, values_at, within, word}
 use Rattle.certificate_text.proofs.Loops.{ok_is}
 use Rattle.certificate_text.proofs.FieldLaws.{bind_ok, is_free, known_again, known_takes, number_again, number_takes, numbers_again, numbers_take, numbers_text, signed_again, signed_takes, stop_low, within_again, within_takes, word_again, word_takes}

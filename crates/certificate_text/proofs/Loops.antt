@@ -2,8 +2,8 @@
 use Rattle.std.proofs.Common.{◌≡◌, ◌+◌, ◌-◌, ◌/◌, ◌%◌, ◌<◌, ◌≤◌, ℕ, suc, List, [], ◌∷◌, ◌++◌, Result, Ok, Err, refl, sym, ap, append_assoc, append-nil, arith}
 use Rattle.lab_model.specs.declared.fault.Refusal.{Refusal}
 use Rattle.lab_io.specs.Sink.{Text}
-use Rattle.frontier_planner.specs.Parts.{ChainParts}
-use Rattle.certificate_text.specs.Form.{names_per}
+use Rattle.labels.specs.Parts.{ChainParts}
+use Rattle.labels.specs.Form.{names_per}
 use Rattle.certificate_text.specs.Fields.{◌>>=◌, Read, number_at, numbers_at, prepended, stop_before}
 use Rattle.certificate_text.specs.Reading.{Place, Walks, behind, chain_at, chains_at, joined, label_at, labels_at}
 

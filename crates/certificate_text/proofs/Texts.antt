@@ -6,9 +6,9 @@ use Rattle.std.proofs.lemmas.List.Concat.{flat_map-append}
 use Rattle.lab_model.specs.declared.label.Label.{Label}
 use Rattle.lab_io.specs.Sink.{Text}
 use Rattle.lab_io.specs.Piece.{fields_line, later_fields}
-use Rattle.frontier_planner.specs.declared.plans.Chain.{Chain}
-use Rattle.frontier_planner.specs.Parts.{CertificateParts, ChainParts, chain_parts}
-use Rattle.certificate_text.specs.Form.{AreChains, IsChain, names_per}
+use Rattle.labels.specs.declared.plans.Chain.{Chain}
+use Rattle.labels.specs.Parts.{CertificateParts, ChainParts, chain_parts}
+use Rattle.labels.specs.Form.{AreChains, IsChain, names_per}
 use Rattle.certificate_text.specs.Line.{fields_of}
 use Rattle.certificate_text.specs.Grammar.{end_line, plan_line, rungs_line, score_line, segments_line, start_line}
 use Rattle.certificate_text.specs.Spelling.{chain_lines, chains_lines, head_lines, label_fields, label_lines, lines_text, spelling, table_lines, version_fields}

@@ -6,12 +6,12 @@ use Rattle.lab_model.specs.declared.fault.Refusal.{Refusal}
 use Rattle.lab_model.specs.declared.fault.InputFault.{InputFault}
 use Rattle.lab_model.specs.Reading.{Gives}
 use Rattle.lab_io.specs.Sink.{Text}
-use Rattle.frontier_planner.specs.Parts.{CertificateParts, ChainParts, chain_parts}
+use Rattle.labels.specs.Parts.{CertificateParts, ChainParts, chain_parts}
 use Rattle.certificate_text.specs.declared.certificate.Layer.{Layer}
-use Rattle.certificate_text.specs.Form.{names_per}
+use Rattle.labels.specs.Form.{names_per}
 use Rattle.certificate_text.specs.Fields.{◌>>=◌}
 use Rattle.certificate_text.specs.Reading.{Place, Walks, certificate_of, chain_at, chains_at, end_at, head_at}
-use Rattle.certificate_text.specs.Walk.{IsBegun, Walk, accepted, begun, ended, layer_of, layer_parts, went}
+use Rattle.certificate_text.specs.Walk.{IsBegun, Walk, accepted, begun, chains_to_end, ended, layer_of, layer_parts, prepended, rest_of, went}
 use Rattle.certificate_text.proofs.FieldLaws.{bind_ok}
 use Rattle.certificate_text.proofs.Loops.{ok_is, with_front}
 
@@ -57,24 +57,12 @@ chains_split segments rungs number (suc a) b p =
 
 -- ---- what is left of a walk
 
--- chains, and then those that are still read
-abbrev pub prepended : List ChainParts → Result (List ChainParts) Refusal → Result (List ChainParts) Refusal
-prepended front read = read >>= λ cs. Ok (front ++ cs)
-
--- the chains from a place on, and then the last line
-abbrev chains_to_end : ℕ → ℕ → ℕ → ℕ → Place → Result (List ChainParts) Refusal
-chains_to_end segments rungs number count p = chains_at segments rungs number count p >>= λ x. end_at x.1 >>= λ done. Ok x.0
-
--- the chains that are left of a walk
-unfoldable pub rest_of : Walk → Result (List ChainParts) Refusal
-rest_of w = w.at >>= λ p. chains_to_end w.head.segments w.head.rungs (w.segment * w.head.rungs) ((w.head.segments - w.segment) * w.head.rungs) p
-
 -- whether a walk comes to its end
 abbrev pub silent : {X : Type 0} → Result X Refusal → Result (Unit {0}) Refusal
 silent read = read >>= λ x. Ok tt
 
 -- the walk that begins behind a head
-abbrev first_walk : CertificateParts × Place → Walk
+abbrev pub first_walk : CertificateParts × Place → Walk
 first_walk x = record { head = x.0; segment = 0; at = Ok x.1 }
 
 -- the certificate of a head and what is read behind it
@@ -239,17 +227,20 @@ rest_last w p standing e =
     rest_at w p standing ∙ ap (λ n. chains_to_end w.head.segments w.head.rungs (w.segment * w.head.rungs) n p) (none_left w.head.segments w.segment w.head.rungs e)
 
 -- no layer comes at the end alone
-pub layer_ends : (w v : Walk) → layer_of w ≡ Ok (None, v) → (w.segment ≡ w.head.segments) × (rest_of w ≡ Ok [])
+pub layer_ends : (w v : Walk) → layer_of w ≡ Ok (None, v) → (w.segment ≡ w.head.segments) × (rest_of w ≡ Ok []) × (v ≡ w)
 unfolding layer_of
 layer_ends w v h =
     let p = bind_ok w.at (λ p. stepped w p (w.segment == w.head.segments)) (None, v) h in
     go p.0 p.1 (w.segment == w.head.segments) refl p.2
   where
-    go : (p : Place) → w.at ≡ Ok p → (last : Bool) → (w.segment == w.head.segments) ≡ last → stepped w p last ≡ Ok (None, v) → (w.segment ≡ w.head.segments) × (rest_of w ≡ Ok [])
+    go : (p : Place) → w.at ≡ Ok p → (last : Bool) → (w.segment == w.head.segments) ≡ last → stepped w p last ≡ Ok (None, v) → (w.segment ≡ w.head.segments) × (rest_of w ≡ Ok []) × (v ≡ w)
     go p standing true e h =
         let end = bind_ok (end_at p) (λ done. Ok (None, w)) (None, v) h in
-        let same = same_count w.segment w.head.segments e in
-        (same, rest_last w p standing same ∙ ap (λ (read : Result (Unit {0}) Refusal). read >>= λ done. Ok []) end.1)
+        let same = same_count w.segment w.head.segments e in (
+          same,
+          rest_last w p standing same ∙ ap (λ (read : Result (Unit {0}) Refusal). read >>= λ done. Ok []) end.1,
+          sym (ap (λ (x : Option (List ChainParts) × Walk). x.1) (ok_is (None, w) (None, v) end.2)),
+        )
     go p standing false e h =
         let cs = bind_ok (chains_at w.head.segments w.head.rungs (w.segment * w.head.rungs) w.head.rungs p) (λ chains. Ok (Some chains.0, record w { segment = w.segment + 1; at = Ok chains.1 })) (None, v) h in
         absurd (none_some cs.0.0 (sym (ap (λ (x : Option (List ChainParts) × Walk). x.0) (ok_is (Some cs.0.0, record w { segment = w.segment + 1; at = Ok cs.0.1 }) (None, v) cs.2))))

@@ -1,5 +1,5 @@
 -- The fields of a line, read one after the other: each is what the bytes say and what stands behind it, or the line is bad.
-use Rattle.std.specs.Prelude.{ℕ, zero, suc, ◌+◌, ◌^◌, ◌<◌, ◌==◌, ◌&&◌, Bool, List, [], ◌∷◌, ◌++◌, take, drop, position, Option, Some, None, Result, Ok, Err, if◌then◌else◌, ℤ, pos, ◌-ℤ◌, ◌<ℤ◌, nat_le}
+use Rattle.std.specs.Prelude.{ℕ, zero, suc, ◌+◌, ◌==◌, ◌&&◌, Bool, List, [], ◌∷◌, ◌++◌, take, drop, position, Option, Some, None, Result, Ok, Err, if◌then◌else◌, ℤ, pos, ◌-ℤ◌, nat_le}
 use Rattle.std.specs.Str.{bytes_eq}
 use Rattle.lab_model.specs.declared.fault.Kind.TheVariants as kind
 use Rattle.lab_model.specs.declared.fault.Key.TheVariants as key
@@ -7,18 +7,7 @@ use Rattle.lab_model.specs.declared.fault.Refusal.{Refusal}
 use Rattle.lab_model.specs.Reading.{refusal}
 use Rattle.lab_io.specs.Sink.{Text}
 use Rattle.lab_io.specs.Number.{numeral}
-
--- a number of at most so many digits
-abbrev pub HasDigits : ℕ → ℕ → Type 0
-HasDigits digits n = n < 10 ^ digits
-
--- the same behind a `-`, too
-abbrev pub HasSignedDigits : ℕ → ℤ → Type 0
-HasSignedDigits digits z = ((pos 0 -ℤ pos (10 ^ digits)) <ℤ z) × (z <ℤ pos (10 ^ digits))
-
--- the digits of a number that names a place, or counts
-abbrev pub place_digits : ℕ
-place_digits = 7
+use Rattle.labels.specs.Form.{place_digits}
 
 infixl 10 ◌>>=◌
 -- one step and then the next, unless the first was refused
@@ -35,8 +24,8 @@ abbrev pub bad_line : ℕ → Refusal
 bad_line row = refusal kind.CertLine key.Line row 0
 
 -- the value, where the test passes
-abbrev pub passed : {X : Type 0} → ℕ → Bool → X → Result X Refusal
-passed row test x = if test then Ok x else Err (bad_line row)
+abbrev pub value_if : {X : Type 0} → ℕ → Bool → X → Result X Refusal
+value_if row test x = if test then Ok x else Err (bad_line row)
 
 -- the value, where there is one
 abbrev pub some_at : {X : Type 0} → ℕ → Option X → Result X Refusal
@@ -56,7 +45,7 @@ field_at row stop bytes = parted row bytes (position (λ b. b == stop) bytes)
 unfoldable pub word_at : ℕ → Text → ℕ → Text → Result Text Refusal
 word_at row word stop bytes = do
   field ← field_at row stop bytes
-  passed row (bytes_eq field.0 word) field.1
+  value_if row (bytes_eq field.0 word) field.1
 
 -- a number of at most so many digits
 unfoldable pub number_at : ℕ → ℕ → ℕ → Text → Read ℕ
@@ -69,19 +58,19 @@ number_at row digits stop bytes = do
 unfoldable pub known_at : ℕ → ℕ → ℕ → Text → Result Text Refusal
 known_at row known stop bytes = do
   n ← number_at row place_digits stop bytes
-  passed row (n.0 == known) n.1
+  value_if row (n.0 == known) n.1
 
 -- a number from the first to the second
 unfoldable pub within_at : ℕ → ℕ → ℕ → ℕ → Text → Read ℕ
 within_at row low high stop bytes = do
   n ← number_at row place_digits stop bytes
-  passed row (nat_le low n.0 && nat_le n.0 high) n
+  value_if row (nat_le low n.0 && nat_le n.0 high) n
 
 -- the number below 0 that a text spells behind its `-`
 abbrev pub negative : ℕ → ℕ → Text → Result ℤ Refusal
 negative row digits text = do
   n ← some_at row (numeral digits text)
-  passed row (nat_le 1 n) (pos 0 -ℤ pos n)
+  value_if row (nat_le 1 n) (pos 0 -ℤ pos n)
 
 -- the number that a text spells, with a sign
 abbrev pub unsigned_of : ℕ → ℕ → Text → Result ℤ Refusal

@@ -1,32 +1,8 @@
 -- The lines of a certificate: the form of each, for those who write it and those who read it.
 use Rattle.std.specs.Prelude.{ℕ, codes}
 use Rattle.lab_io.specs.Sink.{Text}
-use Rattle.certificate_text.specs.Fields.{place_digits}
+use Rattle.labels.specs.Form.{label_digits, most_rungs, most_segments, place_digits, rung_digits, score_digits}
 use Rattle.certificate_text.specs.Line.{Line, ends, known, number, numbers, signed, within, word}
-
--- the digits of a label's numbers
-abbrev pub label_digits : ℕ
-label_digits = 18
-
--- the digits of a score
-abbrev pub score_digits : ℕ
-score_digits = 24
-
--- the digits of a rung
-abbrev pub rung_digits : ℕ
-rung_digits = 2
-
--- the most segments
-abbrev pub most_segments : ℕ
-most_segments = 2000
-
--- the most rungs
-abbrev pub most_rungs : ℕ
-most_rungs = 16
-
--- the most labels of all chains together
-abbrev pub most_labels : ℕ
-most_labels = 1000000
 
 -- a line of a word and a number from 1 to the most
 abbrev pub count_line : Text → ℕ → Line

@@ -5,7 +5,8 @@ use Rattle.std.specs.List.{All}
 use Rattle.std.specs.Fmt.{decimal, signed_decimal}
 use Rattle.lab_model.specs.Film.{IsWithin}
 use Rattle.lab_io.specs.Sink.{Text}
-use Rattle.certificate_text.specs.Fields.{◌>>=◌, HasDigits, HasSignedDigits, Read, known_at, number_at, numbers_at, place_digits, signed_at, stop_before, within_at, word_at}
+use Rattle.certificate_text.specs.Fields.{◌>>=◌, Read, known_at, number_at, numbers_at, signed_at, stop_before, within_at, word_at}
+use Rattle.labels.specs.Form.{HasDigits, HasSignedDigits, place_digits}
 
 -- a form: no field more; so many numbers of at most so many digits, and no field more; or a field and then more of them, which is this word,
 -- this number, a number of at most so many digits, a number from the first to the second, or a number of at most so many digits behind

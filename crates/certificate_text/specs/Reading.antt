@@ -2,13 +2,13 @@
 use Rattle.std.specs.Prelude.{ℕ, zero, suc, ◌+◌, ◌-◌, ◌*◌, ◌/◌, ◌%◌, ◌==◌, Bool, List, [], ◌∷◌, ◌++◌, Result, Ok, Err, if◌then◌else◌, nat_le}
 use Rattle.lab_model.specs.declared.fault.Refusal.{Refusal}
 use Rattle.lab_io.specs.Sink.{Text}
-use Rattle.frontier_planner.specs.Parts.{CertificateParts, ChainParts}
+use Rattle.labels.specs.Parts.{CertificateParts, ChainParts}
 use Rattle.certificate_text.specs.declared.chains.Spot.{Spot}
 use Rattle.certificate_text.specs.declared.head.Counts as head
-use Rattle.certificate_text.specs.Form.{names_per}
-use Rattle.certificate_text.specs.Fields.{◌>>=◌, Read, bad_line, passed}
+use Rattle.labels.specs.Form.{names_per, most_labels}
+use Rattle.certificate_text.specs.Fields.{◌>>=◌, Read, bad_line, value_if}
 use Rattle.certificate_text.specs.Line.{values_at}
-use Rattle.certificate_text.specs.Grammar.{end_line, label_line, layer_line, most_labels, plan_line, rungs_line, score_line, segments_line, start_line, table_line, version_line}
+use Rattle.certificate_text.specs.Grammar.{end_line, label_line, layer_line, plan_line, rungs_line, score_line, segments_line, start_line, table_line, version_line}
 
 -- where a reader stands: the number of the next line, how many labels may still come, and the bytes that are left
 pub record Place : Type 0 where
@@ -99,7 +99,7 @@ labels_at row per (suc more) bytes = do
 unfoldable pub layer_at : ℕ → ℕ → ℕ → ℕ → Text → Read ℕ
 layer_at row segment rung left bytes = do
   count ← values_at row (layer_line segment rung) bytes
-  passed row (nat_le count.0.0 left) (count.0.0, count.1)
+  value_if row (nat_le count.0.0 left) (count.0.0, count.1)
 
 -- the chain of a segment and rung, whose labels have so many names each
 unfoldable pub chain_at : ℕ → ℕ → ℕ → Place → Walks ChainParts

@@ -4,10 +4,10 @@ use Rattle.std.specs.List.{flat_map}
 use Rattle.lab_model.specs.declared.label.Label.{Label}
 use Rattle.lab_io.specs.Sink.{Text}
 use Rattle.lab_io.specs.Piece.{fields_line}
-use Rattle.frontier_planner.specs.Parts.{CertificateParts, ChainParts}
+use Rattle.labels.specs.Parts.{CertificateParts, ChainParts}
 use Rattle.certificate_text.specs.Line.{fields_of}
 use Rattle.certificate_text.specs.Grammar.{end_line, label_line, layer_line, plan_line, rungs_line, score_line, segments_line, start_line, table_line, version_line}
-use Rattle.certificate_text.specs.Form.{names_per}
+use Rattle.labels.specs.Form.{names_per}
 
 -- the number of the version: 2 for a setup with a utility table
 abbrev pub version_number : Bool → ℕ

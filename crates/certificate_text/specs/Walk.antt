@@ -1,11 +1,11 @@
 -- A certificate that is read layer by layer.
-use Rattle.std.specs.Prelude.{◌≡◌, ℕ, ◌+◌, ◌*◌, ◌==◌, List, map, Option, Some, None, Result, Ok, Err, if◌then◌else◌}
+use Rattle.std.specs.Prelude.{◌≡◌, ℕ, ◌+◌, ◌-◌, ◌*◌, ◌<◌, ◌==◌, List, [], ◌++◌, take, drop, map, Option, Some, None, Result, Ok, Err, if◌then◌else◌}
 use Rattle.lab_model.specs.declared.fault.Refusal.{Refusal}
 use Rattle.lab_model.specs.declared.fault.InputFault.{InputFault}
 use Rattle.lab_model.specs.declared.fault.InputFault.TheVariants.{Memory, Refused}
 use Rattle.lab_model.specs.Reading.{Fails}
 use Rattle.lab_io.specs.Sink.{Text}
-use Rattle.frontier_planner.specs.Parts.{CertificateParts, ChainParts, chain_parts}
+use Rattle.labels.specs.Parts.{CertificateParts, ChainParts, chain_parts}
 use Rattle.certificate_text.specs.declared.certificate.Layer.{Layer}
 use Rattle.certificate_text.specs.declared.chains.Spot.{Spot}
 use Rattle.certificate_text.specs.Fields.{◌>>=◌}
@@ -71,3 +71,70 @@ after_fault w Memory = w
 abbrev pub Steps : Walk → Result (Option Layer) InputFault → Walk → Type 0
 Steps old (Ok layer) new = layer_of old ≡ Ok (layer_parts layer, new)
 Steps old (Err fault) new = Fails fault (layer_of old) × (new ≡ after_fault old fault)
+
+-- ---- what is left of a walk, by the reading of certificates
+
+-- chains, and then those that are still read
+abbrev pub prepended : List ChainParts → Result (List ChainParts) Refusal → Result (List ChainParts) Refusal
+prepended front read = do
+  chains ← read
+  Ok (front ++ chains)
+
+-- so many chains from a place on, and then the last line
+abbrev pub chains_to_end : ℕ → ℕ → ℕ → ℕ → Place → Result (List ChainParts) Refusal
+chains_to_end segments rungs number count p = do
+  chains ← chains_at segments rungs number count p
+  done ← end_at chains.1
+  Ok chains.0
+
+-- the chains that are left of a walk, or the bad line before it
+unfoldable pub rest_of : Walk → Result (List ChainParts) Refusal
+rest_of w = do
+  p ← w.at
+  chains_to_end w.head.segments w.head.rungs (w.segment * w.head.rungs) ((w.head.segments - w.segment) * w.head.rungs) p
+
+-- ---- layer by layer
+
+-- a certificate without its chains
+abbrev pub without_chains : CertificateParts → CertificateParts
+without_chains c = record c { chains = [] }
+
+-- the layer of a segment of a certificate
+abbrev pub layer_in : CertificateParts → ℕ → List ChainParts
+layer_in c segment = take c.rungs (drop (segment * c.rungs) c.chains)
+
+-- the walk has the head of this certificate, and its chains from a segment on are still to come
+pub record WillGive (c : CertificateParts) (w : Walk) : Type 0 where
+  pub head : w.head ≡ without_chains c
+  pub rest : rest_of w ≡ Ok (drop (w.segment * c.rungs) c.chains)
+
+-- this bad line is still to come
+abbrev pub WillRefuse : Refusal → Walk → Type 0
+WillRefuse e w = rest_of w ≡ Err e
+
+-- what `begin` answers where the bytes spell a certificate: its head, before its first layer
+abbrev pub BeginsLayers : CertificateParts → Result Walk InputFault → Type 0
+BeginsLayers c (Ok w) = WillGive c w × (w.segment ≡ 0)
+BeginsLayers c (Err (Refused e)) = ⊥
+BeginsLayers c (Err Memory) = Unit {0}
+
+-- what it answers where they have a bad line: that line, or a walk that comes to it
+abbrev pub BeginsBadly : Refusal → Result Walk InputFault → Type 0
+BeginsBadly e (Ok w) = WillRefuse e w
+BeginsBadly e (Err (Refused refusal)) = refusal ≡ e
+BeginsBadly e (Err Memory) = Unit {0}
+
+-- what the next call answers where a certificate is still to come: its next layer, or None exactly behind the last
+abbrev pub GivesLayer : CertificateParts → Walk → Result (Option Layer) InputFault → Walk → Type 0
+GivesLayer c old (Ok (Some layer)) new =
+    (old.segment < c.segments) × (map chain_parts layer.chains.items ≡ layer_in c old.segment) × (new.segment ≡ old.segment + 1) × WillGive c new
+GivesLayer c old (Ok None) new = (old.segment ≡ c.segments) × (new ≡ old)
+GivesLayer c old (Err (Refused e)) new = ⊥
+GivesLayer c old (Err Memory) new = new ≡ old
+
+-- what it answers where a bad line is still to come: a whole layer before it, or the line, now and ever after
+abbrev pub MeetsBadLine : Refusal → Walk → Result (Option Layer) InputFault → Walk → Type 0
+MeetsBadLine e old (Ok (Some layer)) new = WillRefuse e new
+MeetsBadLine e old (Ok None) new = ⊥
+MeetsBadLine e old (Err (Refused refusal)) new = (refusal ≡ e) × WillRefuse e new
+MeetsBadLine e old (Err Memory) new = new ≡ old

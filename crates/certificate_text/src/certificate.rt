@@ -1,6 +1,6 @@
-//! Certificates, and what a check of one says.
+//! Certificates.
 
-use frontier_planner::Chain;
+use labels::Chain;
 
 /// A claim that a rung list is the best, with all that a check of it asks for.
 #[derive(Drop)]
@@ -26,22 +26,4 @@ pub struct Certificate {
 pub struct Layer {
     /// The chains, one for each rung.
     pub chains: Vec<Chain>,
-}
-
-/// What a check of a certificate says.
-#[derive(Clone, Copy, PartialEq, Eq, Debug)]
-pub enum Verdict {
-    /// The certificate is valid.
-    Yes,
-    /// It isn't.
-    No {
-        /// The number of the first clause that fails, 1 to 6.
-        clause: u8,
-        /// The segment of the first place where it fails.
-        segment: u16,
-        /// The rung of that place.
-        rung: u8,
-        /// The place of a label in its chain.
-        label: u32,
-    },
 }

@@ -2,16 +2,16 @@
 ghost use Rattle.std.specs.Prelude.{◌≡◌, ◌+◌, ◌*◌, ◌≤◌, ◌<◌, map, IfOk};
 ghost use Rattle.lab_model.specs.Reading.{Gives};
 ghost use Rattle.lab_model.specs.Film.{IsWithin};
-ghost use Rattle.frontier_planner.specs.Parts.{chain_parts};
-ghost use Rattle.certificate_text.specs.Form.{names_per};
+ghost use Rattle.labels.specs.Parts.{chain_parts};
+ghost use Rattle.labels.specs.Form.{names_per};
 ghost use Rattle.certificate_text.specs.Reading.{behind, chain_at, chains_at, end_at, label_at, labels_at, layer_at, nothing_at, place_of};
 
 use crate::fields::{
     PLACE_DIGITS, bad_line, known_at, number_at, push, push_numbers, signed_at, stop_before,
     word_at,
 };
-use frontier_planner::Chain;
 use lab_model::{InputFault, Label};
+use labels::Chain;
 use std::alloc::Global;
 
 /// The most digits of a label's numbers.

@@ -5,7 +5,8 @@ ghost use Rattle.std.specs.Str.Parse.{digits_value};
 ghost use Rattle.lab_io.specs.Number.{is_number, numeral};
 ghost use Rattle.lab_model.specs.Reading.{Gives};
 ghost use Rattle.lab_model.specs.Film.{IsWithin};
-ghost use Rattle.certificate_text.specs.Fields.{HasDigits, HasSignedDigits, bad_line, field_at, known_at, negative, number_at, numbers_at, passed, prepended, signed_at, signed_of, some_at, stop_before, unsigned_of, within_at, word_at};
+ghost use Rattle.labels.specs.Form.{HasDigits, HasSignedDigits};
+ghost use Rattle.certificate_text.specs.Fields.{bad_line, field_at, known_at, negative, number_at, numbers_at, value_if, prepended, signed_at, signed_of, some_at, stop_before, unsigned_of, within_at, word_at};
 
 use lab_model::{InputFault, Key, Kind, Refusal};
 use std::alloc::Global;
@@ -26,8 +27,8 @@ pub(crate) fn bad_line(row: u32) -> InputFault
 }
 
 /// The value, where the test passes.
-pub(crate) fn passed<T: Drop>(row: u32, test: bool, value: T) -> Result<T, InputFault>
-    ensures { Gives (λ x. x) result (passed row test value) }
+pub(crate) fn value_if<T: Drop>(row: u32, test: bool, value: T) -> Result<T, InputFault>
+    ensures { Gives (λ x. x) result (value_if row test value) }
 {
     if test { Ok(value) } else { Err(bad_line(row)) }
 }
@@ -60,7 +61,7 @@ pub(crate) fn word_at<'a>(
     ensures { Gives (λ rest. rest.now) result (word_at row word.now stop bytes.now) }
 {
     let (field, rest) = field_at(row, stop, bytes)?;
-    passed(row, field == word.as_bytes(), rest)
+    value_if(row, field == word.as_bytes(), rest)
 }
 
 fn are_ascii_digits(bytes: &[u8]) -> bool
@@ -138,7 +139,7 @@ pub(crate) fn known_at(row: u32, known: u32, stop: u8, bytes: &[u8]) -> Result<&
     ensures { Gives (λ rest. rest.now) result (known_at row known stop bytes.now) }
 {
     let (n, rest) = number_at(row, PLACE_DIGITS, stop, bytes)?;
-    passed(row, n == u64::from(known), rest)
+    value_if(row, n == u64::from(known), rest)
 }
 
 /// A number from the first to the second.
@@ -162,7 +163,7 @@ pub(crate) fn within_at(
 }
 
 /// The same number with a sign.
-fn signed(n: u128) -> i128
+fn to_signed(n: u128) -> i128
     requires { HasDigits 24 n }
     ensures { result ≡ pos n }
 {
@@ -176,7 +177,7 @@ fn negative(row: u32, digits: usize, text: &[u8]) -> Result<i128, InputFault>
     ensures digits { IfOk result (λ z. HasSignedDigits digits z) }
 {
     match numeral(digits, text) {
-        Some(n) if n >= 1 => Ok(-signed(n)),
+        Some(n) if n >= 1 => Ok(-to_signed(n)),
         _ => Err(bad_line(row)),
     }
 }
@@ -188,7 +189,7 @@ fn unsigned_of(row: u32, digits: usize, text: &[u8]) -> Result<i128, InputFault>
     ensures digits { IfOk result (λ z. HasSignedDigits digits z) }
 {
     match numeral(digits, text) {
-        Some(n) => Ok(signed(n)),
+        Some(n) => Ok(to_signed(n)),
         None => Err(bad_line(row)),
     }
 }

@@ -2,9 +2,9 @@
 ghost use Rattle.std.specs.Prelude.{◌≡◌, ◌+◌, ◌≤◌, ◌<◌, All, IfErr, IfOk};
 ghost use Rattle.lab_model.specs.Reading.{Gives};
 ghost use Rattle.lab_model.specs.Film.{IsWithin};
-ghost use Rattle.certificate_text.specs.Fields.{HasDigits, place_digits};
+ghost use Rattle.labels.specs.Form.{HasDigits, place_digits, rung_digits};
 ghost use Rattle.certificate_text.specs.Line.{values_at};
-ghost use Rattle.certificate_text.specs.Grammar.{count_line, list_line, rung_digits, score_line};
+ghost use Rattle.certificate_text.specs.Grammar.{count_line, list_line, score_line};
 ghost use Rattle.certificate_text.specs.Form.{certificate_parts};
 ghost use Rattle.certificate_text.specs.Reading.{counts_at, counts_of, head_at, place_of, table_at, version_at};
 

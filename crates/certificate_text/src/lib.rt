@@ -26,7 +26,8 @@ mod head;
 mod lines;
 mod writer;
 
-pub use certificate::{Certificate, Layer, Verdict};
+pub use certificate::{Certificate, Layer};
+pub use labels::Verdict;
 pub use lines::{Lines, one_spelling, read_certificate};
 pub use writer::{put_plan, put_score, write_certificate};
 

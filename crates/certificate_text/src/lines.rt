@@ -1,13 +1,15 @@
 //! Certificates that are read, whole or layer by layer.
-ghost use Rattle.std.specs.Prelude.{◌≡◌, ◌+◌, ◌*◌, ◌≤◌, ◌<◌, Ok, IfOk};
+ghost use Rattle.std.specs.Prelude.{◌≡◌, ◌+◌, ◌*◌, ◌≤◌, ◌<◌, Ok, Err, IfOk};
 ghost use Rattle.lab_io.specs.Sink.{Text};
 ghost use Rattle.lab_model.specs.Film.{IsWithin};
+ghost use Rattle.lab_model.specs.declared.fault.Refusal.{Refusal};
 ghost use Rattle.lab_model.specs.Reading.{Gives};
-ghost use Rattle.frontier_planner.specs.Parts.{CertificateParts};
-ghost use Rattle.certificate_text.specs.Form.{IsCertificate, certificate_parts};
+ghost use Rattle.labels.specs.Parts.{CertificateParts};
+ghost use Rattle.labels.specs.Form.{IsCertificate};
+ghost use Rattle.certificate_text.specs.Form.{certificate_parts};
 ghost use Rattle.certificate_text.specs.Reading.{certificate_of};
 ghost use Rattle.certificate_text.specs.Spelling.{spelling};
-ghost use Rattle.certificate_text.specs.Walk.{IsBegun, Steps, Walk, accepted, after_fault, begun, standing};
+ghost use Rattle.certificate_text.specs.Walk.{BeginsBadly, BeginsLayers, GivesLayer, IsBegun, MeetsBadLine, Steps, Walk, WillGive, WillRefuse, accepted, after_fault, begun, standing};
 
 use crate::certificate::{Certificate, Layer};
 use crate::chains::{Spot, chains_at, end_at};
@@ -42,10 +44,21 @@ impl<'a> Model for Lines<'a> {
 
 impl<'a> Lines<'a> {
     /// Reads the lines before the first layer. It is refused exactly where a bad line is among them.
-    #[tactic(auto, unfolding(crate::specs::Walk::begun))]
     pub fn begin(alloc: Global, bytes: &'a [u8]) -> Result<Lines<'a>, InputFault>
         ensures walk { Gives (λ lines. lines) result (begun bytes.now) }
         ensures begun { IfOk result IsBegun }
+        ensures layers { (c : CertificateParts)
+            → certificate_of bytes.now ≡ Ok c → BeginsLayers c result }
+        ensures bad_line { (e : Refusal)
+            → certificate_of bytes.now ≡ Err e → BeginsBadly e result }
+    {
+        Self::behind_head(alloc, bytes)
+    }
+
+    /// The reader behind the lines before the first layer.
+    #[tactic(auto, unfolding(crate::specs::Walk::begun))]
+    fn behind_head(alloc: Global, bytes: &'a [u8]) -> Result<Lines<'a>, InputFault>
+        ensures { Gives (λ lines. lines) result (begun bytes.now) }
     {
         let (head, spot) = head_at(alloc, bytes)?;
         Ok(Lines {
@@ -61,9 +74,23 @@ impl<'a> Lines<'a> {
     ///
     /// It is refused exactly where the lines that it reads hold the first bad line; then every later call answers
     /// the same. After `Memory` the reader stands where it stood.
-    #[tactic(auto, unfolding(crate::specs::Walk::layer_of))]
     pub fn next_layer(&mut self) -> Result<Option<Layer>, InputFault>
-        ensures { Steps self.old result self.new }
+        ensures steps { Steps self.old result self.new }
+        // Where a certificate is still to come, this is its next layer, or its end.
+        ensures layers { (c : CertificateParts)
+            → WillGive c self.old → GivesLayer c self.old result self.new }
+        // Where a bad line is still to come, this is a whole layer before it, or that line.
+        ensures bad_line { (e : Refusal)
+            → WillRefuse e self.old → MeetsBadLine e self.old result self.new }
+    {
+        self.read_layer()
+    }
+
+    /// Reads the next layer.
+    #[tactic(auto, unfolding(crate::specs::Walk::layer_of))]
+    fn read_layer(&mut self) -> Result<Option<Layer>, InputFault>
+        ensures steps { Steps self.old result self.new }
+        ensures inside { self.old.segment ≤ self.old.head.segments }
     {
         if let Some(refusal) = self.refused {
             return Err(InputFault::Refused(refusal));

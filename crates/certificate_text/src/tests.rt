@@ -1,8 +1,8 @@
 // Each public call on the worked examples, byte by byte, and bad lines of all kinds.
 use crate::{Certificate, Lines, read_certificate, write_certificate};
-use frontier_planner::Plan;
 use lab_io::SureSink;
 use lab_model::{InputFault, Key, Kind, Manifest, Refusal};
+use labels::Plan;
 use std::alloc::Global;
 use std::process::Abort;
 use std::test::Fail;

@@ -4,17 +4,17 @@ ghost use Rattle.std.specs.Fmt.{decimal};
 ghost use Rattle.lab_io.specs.Piece.{fields_line, later_fields};
 ghost use Rattle.lab_io.specs.Sink.{Puts};
 ghost use Rattle.lab_model.specs.Film.{IsWithin, rungs_of, segments_of};
-ghost use Rattle.frontier_planner.specs.Parts.{chain_parts, plan_parts};
+ghost use Rattle.labels.specs.Parts.{chain_parts, plan_parts};
 ghost use Rattle.certificate_text.specs.Line.{fields_of};
 ghost use Rattle.certificate_text.specs.Grammar.{plan_line, rungs_line, score_line, segments_line, start_line, version_line};
-ghost use Rattle.certificate_text.specs.Form.{AreChains, IsCertificate};
+ghost use Rattle.labels.specs.Form.{AreChains, IsCertificate};
 ghost use Rattle.certificate_text.specs.Spelling.{chain_lines, chains_lines, head_lines, label_fields, label_lines, layer_fields, lines_text, spelling, table_lines, version_fields, version_number};
 
 use crate::chains::names_per;
-use frontier_planner::{Chain, Plan};
 use lab_io::Piece::{Number, Word};
 use lab_io::{PutErr, Sink, put_fields, put_line, put_number, put_pieces, put_text};
 use lab_model::{Label, Manifest};
+use labels::{Chain, Plan};
 
 /// A number that isn't the first of its line.
 fn put_later_number<O: Sink>(out: &mut O, n: u32) -> Result<(), PutErr>

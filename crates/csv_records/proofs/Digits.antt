@@ -1,14 +1,12 @@
 -- The numbers that digits write.
-use Rattle.std.proofs.Common.{◌≡◌, ◌∙◌, ◌+◌, ◌-◌, ◌*◌, ◌^◌, ◌<◌, ◌≤◌, ◌&&◌, ◌⊎◌, ℕ, zero, suc, List, [], ◌∷◌, Bool, true, false, Result, Ok, Err, cond, get_or, length, min, nat_le, nat_lt, take, refl, sym, ap, inl, inr, arith}
+use Rattle.std.proofs.Common.{◌≡◌, ◌∙◌, ◌+◌, ◌-◌, ◌*◌, ◌^◌, ◌<◌, ◌≤◌, ◌&&◌, ℕ, zero, suc, List, [], ◌∷◌, Bool, true, false, Ok, Err, cond, get_or, length, min, nat_le, nat_lt, take, refl, sym, ap, inl, inr, arith}
 use Rattle.std.specs.Char.{digit_value, is_ascii_digit}
 use Rattle.std.specs.Str.{all_ascii_digits}
 use Rattle.std.specs.Str.Parse.{digits_value}
 use Rattle.std.proofs.lemmas.Bool.{and_parts, cases_lt}
 use Rattle.std.proofs.lemmas.Bool.Decides.{nat_tests}
 use Rattle.std.proofs.lemmas.Int.Digits.{digits_value_more}
-use Rattle.csv_records.specs.declared.number.Fault.{Fault}
 use Rattle.csv_records.specs.declared.number.Fault.TheVariants as fault
-use Rattle.csv_records.proofs.Each.{test_ok}
 use Rattle.csv_records.specs.Field.{are_digits, in_range, is_in_thousandths, spelling_fault, thousandths, thousandths_of, whole_number}
 
 is_digit : (c : ℕ) → is_ascii_digit c ≡ true → (48 ≤ c) × (c ≤ 57)
@@ -80,30 +78,3 @@ thousandths-read least most field n h d t e =
 pub thousandths-other : (least most : ℕ) (field : List ℕ) → are_digits field ≡ false → is_in_thousandths field ≡ false → Err (spelling_fault field) ≡ thousandths least most field
 unfolding thousandths
 thousandths-other least most field d t = rw (d, t) refl
-
-in_range-within : (least most m n : ℕ) → in_range least most m ≡ Ok n → (least ≤ n) × (n ≤ most)
-in_range-within least most m n h =
-    let t = test_ok (nat_le least m && nat_le m most) (Ok m) n fault.OutOfRange h in
-    let b = and_parts (nat_le least m) (nat_le m most) t.0 in
-    let same : m ≡ n = cc in
-    (grind (arith, nat_tests, b.0, same), grind (arith, nat_tests, b.1, same))
-
--- a whole number that passed its tests is in its range
-pub whole-within : (least most : ℕ) (field : List ℕ) (n : ℕ) → whole_number least most field ≡ Ok n → (least ≤ n) × (n ≤ most)
-unfolding whole_number
-whole-within least most field n h =
-    in_range-within least most (digits_value 10 field) n (test_ok (are_digits field) (in_range least most (digits_value 10 field)) n (spelling_fault field) h).1
-
-either : (b c : Bool) (r s : Result ℕ Fault) (e : Fault) (n : ℕ) → cond b r (cond c s (Err e)) ≡ Ok n → (r ≡ Ok n) ⊎ (s ≡ Ok n)
-either true c r s e n h = inl h
-either false true r s e n h = inr h
-either false false r s e n h = absurd cc
-
--- so are thousandths
-pub thousandths-within : (least most : ℕ) (field : List ℕ) (n : ℕ) → thousandths least most field ≡ Ok n → (1000 * least ≤ n) × (n ≤ 1000 * most)
-unfolding thousandths
-thousandths-within least most field n h =
-    elim (either (are_digits field) (is_in_thousandths field) (in_range (1000 * least) (1000 * most) (1000 * digits_value 10 field)) (in_range (1000 * least) (1000 * most) (thousandths_of field)) (spelling_fault field) n h) [
-      | inl e ↦ in_range-within (1000 * least) (1000 * most) (1000 * digits_value 10 field) n e
-      | inr e ↦ in_range-within (1000 * least) (1000 * most) (thousandths_of field) n e
-    ]

@@ -1,4 +1,2 @@
 pub mod Rows
 pub mod Digits
-pub mod Each
-pub mod Within

@@ -13,17 +13,17 @@ abbrev pub is_blank : ℕ → Bool
 is_blank c = (c == 32) || (c == 9)
 
 -- without the blanks in front
-abbrev pub unindented : List ℕ → List ℕ
-unindented [] = []
-unindented (c ∷ cs) = if is_blank c then unindented cs else c ∷ cs
+abbrev pub without_indent : List ℕ → List ℕ
+without_indent [] = []
+without_indent (c ∷ cs) = if is_blank c then without_indent cs else c ∷ cs
 
 -- without the blanks at its end
-abbrev pub unpadded : List ℕ → List ℕ
-unpadded xs = reverse (unindented (reverse xs))
+abbrev pub without_padding : List ℕ → List ℕ
+without_padding xs = reverse (without_indent (reverse xs))
 
 -- a field without the blanks at its ends
-abbrev pub trimmed : List ℕ → List ℕ
-trimmed xs = unpadded (unindented xs)
+abbrev pub without_blanks : List ℕ → List ℕ
+without_blanks xs = without_padding (without_indent xs)
 
 -- the field, or nothing where it is lacking
 abbrev pub or_nothing : Option (List ℕ) → List ℕ
@@ -32,7 +32,7 @@ or_nothing None = []
 
 -- the field in a column, counted from 0, without the blanks at its ends
 abbrev pub field_in : ℕ → Fields → List ℕ
-field_in column fields = trimmed (or_nothing (field_at fields column))
+field_in column fields = without_blanks (or_nothing (field_at fields column))
 
 -- the field in a column has this text
 abbrev pub is_named : ℕ → List ℕ → Fields → Bool

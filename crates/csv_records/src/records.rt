@@ -2,7 +2,7 @@
 
 ghost use Rattle.std.specs.Prelude.{◌≡◌, ◌+◌, IfOk, IfSome, length};
 ghost use Rattle.csv.specs.Records.{fields_of};
-ghost use Rattle.csv_records.specs.Field.{field_in, is_blank, is_named, trimmed, unindented, unpadded};
+ghost use Rattle.csv_records.specs.Field.{field_in, is_blank, is_named, without_blanks, without_indent, without_padding};
 ghost use Rattle.csv_records.specs.Table.{is_uneven, table_in, table_within};
 
 use csv::{ByteRecord, Error, ErrorKind, ReaderBuilder};
@@ -59,8 +59,8 @@ fn is_blank(byte: u8) -> bool
     byte == b' ' || byte == b'\t'
 }
 
-fn unindented(field: &[u8]) -> &[u8]
-    ensures { result.now ≡ unindented field.now }
+fn without_indent(field: &[u8]) -> &[u8]
+    ensures { result.now ≡ without_indent field.now }
 {
     let mut rest = field;
     while let [first, tail @ ..] = rest {
@@ -72,8 +72,8 @@ fn unindented(field: &[u8]) -> &[u8]
     rest
 }
 
-fn unpadded(field: &[u8]) -> &[u8]
-    ensures { result.now ≡ unpadded field.now }
+fn without_padding(field: &[u8]) -> &[u8]
+    ensures { result.now ≡ without_padding field.now }
 {
     let mut rest = field;
     while let [front @ .., last] = rest {
@@ -91,7 +91,7 @@ pub fn field_in(row: &ByteRecord, column: usize) -> &[u8]
     ensures { result.now ≡ field_in column (fields_of row.now) }
 {
     match row.get(column) {
-        Some(field) => unpadded(unindented(field)),
+        Some(field) => without_padding(without_indent(field)),
         None => &[],
     }
 }

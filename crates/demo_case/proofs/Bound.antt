@@ -15,13 +15,13 @@ use Rattle.std.proofs.lemmas.Map.Views.{tells_apart}
 use Rattle.lab_model.specs.declared.label.Label.{Label}
 use Rattle.lab_model.specs.Film.{segments_of}
 use Rattle.lab_model.specs.Ladder.{rungs_below}
-use Rattle.frontier_planner.specs.Frontier.{frontier, is_same, label_cmp, prefix_labels}
-use Rattle.frontier_planner.specs.Read.{labels_before, labels_of}
-use Rattle.frontier_planner.proofs.Kept.{undominated_sorted}
-use Rattle.frontier_planner.proofs.Order.{label_exact, label_total}
-use Rattle.frontier_planner.proofs.Prefixes.{frontier_is, grown_is_frontier}
-use Rattle.frontier_planner.proofs.SmallBuffers.{frontier_apart}
-use Rattle.frontier_planner.proofs.Walks.{from_map, in_flat_map, in_map, in_rungs}
+use Rattle.labels.specs.Frontier.{frontier, is_same, label_cmp, prefix_labels}
+use Rattle.labels.specs.Read.{labels_before, labels_of}
+use Rattle.labels.proofs.Kept.{undominated_sorted}
+use Rattle.labels.proofs.Order.{label_exact, label_total}
+use Rattle.labels.proofs.Prefixes.{frontier_is, grown_is_frontier}
+use Rattle.labels.proofs.SmallBuffers.{frontier_apart}
+use Rattle.labels.proofs.Walks.{from_map, in_flat_map, in_map, in_rungs}
 use Rattle.demo_case.specs.Case.{demo_task}
 use Rattle.demo_case.specs.Laws.{DemoFitsBudget, DemoIsSmall}
 use Rattle.demo_case.proofs.Values.{grown_value, value_of}

@@ -6,12 +6,12 @@ use Rattle.std.proofs.lemmas.Int.{ints}
 use Rattle.lab_model.specs.declared.label.Label.{Label}
 use Rattle.lab_model.specs.Film.{rungs_of}
 use Rattle.lab_model.specs.Weighing.{change_of, utility_of}
-use Rattle.frontier_planner.specs.Labels.{next_label, start_label}
-use Rattle.frontier_planner.specs.Grid.{exact}
-use Rattle.frontier_planner.specs.Grown.{grown}
-use Rattle.frontier_planner.proofs.Grown.{from_first, from_next}
-use Rattle.frontier_planner.proofs.Rounds.{round_exact}
-use Rattle.frontier_planner.proofs.Walks.{from_by_rung}
+use Rattle.labels.specs.Labels.{next_label, start_label}
+use Rattle.labels.specs.Grid.{exact}
+use Rattle.labels.specs.Grown.{grown}
+use Rattle.labels.proofs.Grown.{from_first, from_next}
+use Rattle.labels.proofs.Rounds.{round_exact}
+use Rattle.labels.proofs.Walks.{from_by_rung}
 use Rattle.demo_case.specs.Case.{demo_setup, demo_task}
 
 -- the value of so many units of utility after the start on a rung

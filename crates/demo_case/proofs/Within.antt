@@ -11,7 +11,7 @@ use Rattle.lab_model.specs.Fit.{SetupFits}
 use Rattle.lab_model.specs.Row.{IsRow}
 use Rattle.lab_model.specs.Weighing.{IsWeighing}
 use Rattle.lab_model.proofs.Rows.{weighing_within}
-use Rattle.frontier_planner.specs.Labels.{IsTask}
+use Rattle.player_core.specs.Scene.{IsTask}
 use Rattle.demo_case.specs.Draws.{draw, state_after}
 use Rattle.demo_case.specs.Case.{demo_bitrates, demo_film, demo_setup, demo_task, period_drawn, periods_from, size_drawn, sizes_drawn, sizes_from}
 use Rattle.demo_case.proofs.Drawn.{periods_first, periods_length, periods_more, sizes_first, sizes_length, sizes_more}

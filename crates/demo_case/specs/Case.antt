@@ -7,7 +7,7 @@ use Rattle.lab_model.specs.Film.{Film, film}
 use Rattle.lab_model.specs.Ladder.{rungs_below}
 use Rattle.lab_model.specs.Weighing.{weighing}
 use Rattle.player_core.specs.Available.{all_ahead}
-use Rattle.frontier_planner.specs.Labels.{Task, task_of}
+use Rattle.player_core.specs.Scene.{Task, task_of}
 use Rattle.demo_case.specs.Draws.{draw, draws_from, state_after}
 
 -- the bitrates in kbps

@@ -1,7 +1,7 @@
 -- The law of made cases: small buffers, small frontiers.
 use Rattle.std.specs.Prelude.{ℕ, ◌≤◌}
-use Rattle.frontier_planner.specs.Frontier.{frontier}
-use Rattle.frontier_planner.specs.Read.{SpentAt, labels_in}
+use Rattle.labels.specs.Frontier.{frontier}
+use Rattle.labels.specs.Read.{SpentAt, labels_in}
 use Rattle.demo_case.specs.Case.{demo_task}
 
 -- the greatest number that has a made case

@@ -2,7 +2,7 @@
 
 ghost use Rattle.std.specs.Prelude.{◌≡◌, ◌≤◌, ◌++◌, IfOk};
 ghost use Rattle.lab_model.specs.Fit.{SetupFits};
-ghost use Rattle.frontier_planner.specs.Labels.{IsTask};
+ghost use Rattle.player_core.specs.Scene.{IsTask};
 ghost use Rattle.demo_case.specs.Case.{demo_film, demo_periods, demo_setup, demo_task, period_drawn, periods_from, sizes_drawn, sizes_from};
 ghost use Rattle.demo_case.specs.Draws.{draw, state_after};
 

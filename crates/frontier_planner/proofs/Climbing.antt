@@ -7,11 +7,11 @@ use Rattle.std.proofs.lemmas.List.{get_or_default}
 use Rattle.std.proofs.lemmas.List.Sums.{fails_before_first}
 use Rattle.lab_model.specs.declared.label.Label.{Label}
 use Rattle.frontier_planner.specs.Climbing.{ClimbsTo, IsClimbing, Reaches}
-use Rattle.frontier_planner.specs.Covers.{HasAbove}
-use Rattle.frontier_planner.specs.Labels.{Dominates, dominates}
-use Rattle.frontier_planner.specs.Read.{no_label, place_above}
-use Rattle.frontier_planner.proofs.Accepts.{place_found}
-use Rattle.frontier_planner.proofs.Kept.{dominates_from}
+use Rattle.labels.specs.Covers.{HasAbove}
+use Rattle.labels.specs.Labels.{Dominates, dominates}
+use Rattle.labels.specs.Read.{no_label, place_above}
+use Rattle.labels.proofs.Accepts.{place_found}
+use Rattle.labels.proofs.Kept.{dominates_from}
 
 -- ---- pair by pair
 

@@ -1,38 +1,28 @@
 -- Layers: how the coarse frontiers of a segment are held, chain by chain, and counted.
-use Rattle.std.proofs.Common.{◌≡◌, ◌∙◌, ℕ, zero, suc, ◌+◌, ◌-◌, ◌<◌, ◌≤◌, ⊎_elim, List, [], ◌∷◌, ◌++◌, length, get_or, map, refl, sym, ap, subst, arith, add-one, add-zero, length-append}
+use Rattle.std.proofs.Common.{◌≡◌, ◌∙◌, ℕ, suc, ◌+◌, ◌-◌, ◌<◌, ◌≤◌, ⊎_elim, List, [], ◌∷◌, ◌++◌, length, get_or, map, refl, sym, ap, subst, arith, length-append}
 use Rattle.std.specs.Prelude.{Vec, Result, Ok, Err}
 use Rattle.std.specs.Result.{IsErrAnd}
 use Rattle.std.specs.Global.{Global}
-use Rattle.std.specs.List.{flat_map}
-use Rattle.std.proofs.lemmas.Grind.{flat_map-append}
 use Rattle.std.proofs.Math.ListN.{get_or-map}
 use Rattle.std.proofs.Math.Seq.{get_or-append_seam}
 use Rattle.std.proofs.lemmas.Bool.{cases_lt}
-use Rattle.std.proofs.lemmas.List.{append-nil, get_or_append_left, length-map, map-append}
+use Rattle.std.proofs.lemmas.List.{get_or_append_left, map-append}
 use Rattle.std.proofs.lemmas.List.FromFn.{get_or-map-range_with_len}
 use Rattle.lab_model.specs.declared.label.Label.{Label}
 use Rattle.lab_model.specs.Ladder.{rungs_below}
 use Rattle.lab_model.proofs.Rungs.{rungs_more}
 use Rattle.lab_model.specs.Film.{segments_of}
-use Rattle.frontier_planner.specs.declared.label.Grid.{Grid}
+use Rattle.labels.specs.declared.label.Grid.{Grid}
 use Rattle.frontier_planner.specs.declared.grow.Frontiers.{Frontiers}
 use Rattle.frontier_planner.specs.declared.grow.Layer.{Layer}
 use Rattle.frontier_planner.specs.declared.plans.PlanErr.{PlanErr}
 use Rattle.frontier_planner.specs.declared.plans.PlanErr.TheVariants as fault
-use Rattle.frontier_planner.specs.Frontier.{by_rung}
-use Rattle.frontier_planner.specs.Grown.{grown}
-use Rattle.frontier_planner.specs.Labels.{Task}
-use Rattle.frontier_planner.specs.Layers.{HoldAll, HoldsFrontiers, LayerAnswer, FrontiersAnswer, grown_labels, held}
-use Rattle.frontier_planner.specs.Read.{Chains, SpentAt, labels_before, labels_of}
-
-le-itself : (n : ℕ) → n ≤ n
-le-itself n = omega arith
-
--- the labels of one rung more
-pub by_rung_more : (chain : ℕ → List Label) (r : ℕ) → by_rung (r + 1) chain ≡ by_rung r chain ++ map (λ l. (r, l)) (chain r)
-by_rung_more chain r =
-    ap (λ qs. flat_map (λ q. map (λ l. (q, l)) (chain q)) qs) (rungs_more r) ∙ flat_map-append (λ q. map (λ l. (q, l)) (chain q)) (rungs_below r) (r ∷ [])
-    ∙ ap (λ ls. by_rung r chain ++ ls) (append-nil (map (λ l. (r, l)) (chain r)))
+use Rattle.labels.specs.Frontier.{by_rung}
+use Rattle.labels.specs.Grown.{grown, grown_labels}
+use Rattle.player_core.specs.Scene.{Task}
+use Rattle.frontier_planner.specs.Layers.{HoldAll, HoldsFrontiers, LayerAnswer, FrontiersAnswer, held}
+use Rattle.labels.specs.Read.{SpentAt, labels_before}
+use Rattle.labels.proofs.Counted.{before_next, by_rung_more}
 
 -- the chains of one rung more
 pub held_more : (chains more : List (Vec Label Global)) (v : Vec Label Global) (chain : ℕ → List Label) (r : ℕ) → held chains ≡ map chain (rungs_below r) → v.items ≡ chain r → more ≡ chains ++ v ∷ []
@@ -45,23 +35,6 @@ held_more chains more v chain r h e pushed =
 pub by_rung_added : (chain : ℕ → List Label) (r : ℕ) (labels more : List (ℕ × Label)) (c : List Label) → labels ≡ by_rung r chain → c ≡ chain r → more ≡ labels ++ map (λ l. (r, l)) c → more ≡ by_rung (r + 1) chain
 by_rung_added chain r labels more c old one added =
     added ∙ ap (λ ls. ls ++ map (λ l. (r, l)) c) old ∙ ap (λ ls. by_rung r chain ++ map (λ l. (r, l)) ls) one ∙ sym (by_rung_more chain r)
-
--- and how many those are
-pub by_rung_count : (chain : ℕ → List Label) (r : ℕ) → length (by_rung (r + 1) chain) ≡ length (by_rung r chain) + length (chain r)
-by_rung_count chain r =
-    ap length (by_rung_more chain r) ∙ length-append (by_rung r chain) (map (λ l. (r, l)) (chain r)) ∙ ap (λ n. length (by_rung r chain) + n) (length-map (chain r) (λ l. (r, l)))
-
-by_rung_beyond : (chain : ℕ → List Label) (r n : ℕ) → length (by_rung r chain) ≤ length (by_rung (r + n) chain)
-by_rung_beyond chain r zero = subst (λ m. length (by_rung r chain) ≤ length (by_rung m chain)) (sym (add-zero r)) (le-itself (length (by_rung r chain)))
-by_rung_beyond chain r (suc n) =
-    let before = by_rung_beyond chain r n in
-    let count = by_rung_count chain (r + n) in
-    let e : r + n + 1 ≡ r + suc n = omega arith in
-    subst (λ m. length (by_rung r chain) ≤ length (by_rung m chain)) e (omega (arith, before, count))
-
--- fewer rungs have no more labels
-pub by_rung_fewer : (chain : ℕ → List Label) (r n : ℕ) → r ≤ n → length (by_rung r chain) ≤ length (by_rung n chain)
-by_rung_fewer chain r n low = let e : r + (n - r) ≡ n = omega (arith, low) in subst (λ m. length (by_rung r chain) ≤ length (by_rung m chain)) e (by_rung_beyond chain r (n - r))
 
 -- the chain of a rung among the first rungs
 pub held_at : (chains : List (Vec Label Global)) (chain : ℕ → List Label) (n r : ℕ) (v : Vec Label Global) → held chains ≡ map chain (rungs_below n) → r < n → (get_or chains r v).items ≡ chain r
@@ -84,20 +57,6 @@ hold_more d g layers more l h one pushed i x low =
     (λ (new : length layers ≤ i).
     let e : length layers ≡ i = omega (arith, low, long, new) in
     subst (λ n. HoldsFrontiers d g n (get_or (layers ++ l ∷ []) n x)) e (subst (HoldsFrontiers d g (length layers)) (sym (get_or-append_seam layers l [] x)) one)) (cases_lt i (length layers)))
-
--- the labels before the first segment, and before the next
-pub before_none : (g : Task) (chains : Chains) → labels_before g chains 0 ≡ 0
-unfolding labels_before
-before_none g chains = refl
-
--- the labels before the next segment are those before this one and its own
-pub before_next : (g : Task) (chains : Chains) (i : ℕ) → labels_before g chains (suc i) ≡ labels_before g chains i + length (labels_of g chains i)
-unfolding labels_before
-before_next g chains i = refl
-
--- the same, where the next segment is written as a sum
-pub before_more : (g : Task) (chains : Chains) (i : ℕ) → labels_before g chains (i + 1) ≡ labels_before g chains i + length (labels_of g chains i)
-before_more g chains i = ap (labels_before g chains) (add-one i) ∙ before_next g chains i
 
 -- where a segment has more labels than are left, the budget is spent at it
 pub spent_here : (d : Grid) (g : Task) (budget left i s : ℕ) → i < segments_of g.film → left + labels_before g (grown d g) i ≡ budget → (s ≡ i) × (left < length (grown_labels d g i)) → SpentAt g (grown d g) budget s

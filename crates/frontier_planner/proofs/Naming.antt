@@ -1,39 +1,29 @@
 -- Names and chains as they are read off layers.
-use Rattle.std.proofs.Common.{◌≡◌, ◌∙◌, ℕ, zero, suc, ◌+◌, ◌-◌, ◌<◌, ◌≤◌, List, [], ◌∷◌, ◌++◌, length, get_or, take, map, sym, ap, subst, arith, add-one, add-zero, lt-ltb}
+use Rattle.std.proofs.Common.{◌≡◌, ◌∙◌, ℕ, suc, ◌+◌, ◌-◌, ◌<◌, ◌≤◌, List, [], ◌∷◌, ◌++◌, length, get_or, take, map, sym, ap, subst, arith, add-one, lt-ltb}
 use Rattle.std.specs.Prelude.{Vec, nat_lt, vec_len}
 use Rattle.std.specs.Global.{Global}
 use Rattle.std.specs.List.{Contains, flat_map}
 use Rattle.std.proofs.lemmas.Bool.{cond-true, cond-false, le-ltb}
 use Rattle.std.proofs.lemmas.Grind.{flat_map-append}
-use Rattle.std.proofs.lemmas.List.{append-nil, append_assoc, length-map, map-append, take_more}
+use Rattle.std.proofs.lemmas.List.{append-nil, length-map, take_more}
 use Rattle.std.proofs.lemmas.List.Elements.{Contains-get_or}
 use Rattle.std.proofs.lemmas.List.FromFn.{length-map-range_with_len}
 use Rattle.lab_model.specs.declared.label.Label.{Label}
 use Rattle.lab_model.specs.Film.{rungs_of, segments_of}
-use Rattle.lab_model.specs.Ladder.{rungs_below}
-use Rattle.lab_model.proofs.Rungs.{rungs_more}
-use Rattle.frontier_planner.specs.declared.label.Grid.{Grid}
+use Rattle.labels.specs.declared.label.Grid.{Grid}
 use Rattle.frontier_planner.specs.declared.grow.Layer.{Layer}
-use Rattle.frontier_planner.specs.Grown.{grown}
-use Rattle.frontier_planner.specs.Labels.{Task, next_label, start_label}
-use Rattle.frontier_planner.specs.Layers.{HoldPlan, chain_read, grown_labels, names_read}
-use Rattle.frontier_planner.specs.Read.{Chains, labels_before, labels_in, names_of, names_of_label, place_above}
-use Rattle.frontier_planner.proofs.Layers.{before_more, by_rung_count, by_rung_fewer, held_at}
-use Rattle.frontier_planner.proofs.Walks.{in_by_rung}
+use Rattle.labels.specs.Grown.{grown, grown_labels}
+use Rattle.player_core.specs.Scene.{Task}
+use Rattle.labels.specs.Labels.{next_label, start_label}
+use Rattle.frontier_planner.specs.Layers.{HoldPlan, chain_read, names_read}
+use Rattle.labels.specs.Read.{names_of, names_of_label, place_above}
+use Rattle.labels.proofs.Counted.{chain_within}
+use Rattle.frontier_planner.proofs.Layers.{held_at}
+use Rattle.labels.proofs.Walks.{in_by_rung}
 
 -- ---- lists that grow by one
 
 module _ {Y : Type 0} where
-  -- what stands for one rung more
-  pub rung_pushed : (base done : List Y) (h : ℕ → Y) (r : ℕ) (y : Y) → done ≡ base ++ map h (rungs_below r) → y ≡ h r → done ++ y ∷ [] ≡ base ++ map h (rungs_below (r + 1))
-  rung_pushed base done h r y so one =
-      ap (λ ys. ys ++ y ∷ []) so ∙ append_assoc base (map h (rungs_below r)) (y ∷ []) ∙ ap (λ x. base ++ (map h (rungs_below r) ++ x ∷ [])) one
-      ∙ ap (λ ys. base ++ ys) (sym (map-append h (rungs_below r) (r ∷ [])) ∙ ap (map h) (sym (rungs_more r)))
-
-  -- the lists of one number more
-  pub list_pushed : (h : ℕ → List Y) (n : ℕ) → flat_map h (rungs_below (n + 1)) ≡ flat_map h (rungs_below n) ++ h n
-  list_pushed h n = ap (flat_map h) (rungs_more n) ∙ flat_map-append h (rungs_below n) (n ∷ []) ∙ ap (λ ys. flat_map h (rungs_below n) ++ ys) (append-nil (h n))
-
   -- the lists of one label more
   pub label_pushed : (f : Label → List Y) (xs ys : List Label) (i : ℕ) (e : Label) (so more : List Y) → ys ≡ xs → i < length ys → so ≡ flat_map f (take i xs) → more ≡ so ++ f (get_or ys i e) → more ≡ flat_map f (take (i + 1) xs)
   label_pushed f xs ys i e so more same low old new =
@@ -41,30 +31,6 @@ module _ {Y : Type 0} where
       new ∙ ap (λ zs. zs ++ f (get_or ys i e)) old ∙ ap (λ zs. flat_map f (take i xs) ++ f (get_or zs i e)) same
       ∙ ap (λ zs. flat_map f (take i xs) ++ zs) (sym (append-nil (f (get_or xs i e)))) ∙ sym (flat_map-append f (take i xs) (get_or xs i e ∷ []))
       ∙ ap (flat_map f) (sym (take_more xs i e (omega (arith, long, low))))
-
--- ---- how many labels there are
-
--- no fewer labels stand before a later segment
-pub before_beyond : (g : Task) (chains : Chains) (i n : ℕ) → labels_before g chains i ≤ labels_before g chains (i + n)
-before_beyond g chains i zero = subst (λ m. labels_before g chains i ≤ labels_before g chains m) (sym (add-zero i)) (itself (labels_before g chains i))
-  where
-    itself : (n : ℕ) → n ≤ n
-    itself n = omega arith
-before_beyond g chains i (suc n) =
-    let before = before_beyond g chains i n in
-    let more = before_more g chains (i + n) in
-    let e : i + n + 1 ≡ i + suc n = omega arith in
-    subst (λ m. labels_before g chains i ≤ labels_before g chains m) e (omega (arith, before, more))
-
--- a chain has no more labels than all of them
-pub chain_within : (g : Task) (chains : Chains) (i q : ℕ) → i < segments_of g.film → q < rungs_of g.film → length (chains i q) ≤ labels_in g chains
-chain_within g chains i q low rung =
-    let one = by_rung_count (chains i) q in
-    let row = by_rung_fewer (chains i) (q + 1) (rungs_of g.film) (omega (arith, rung)) in
-    let more = before_more g chains i in
-    let e : i + 1 + (segments_of g.film - (i + 1)) ≡ segments_of g.film = omega (arith, low) in
-    let all = subst (λ m. labels_before g chains (i + 1) ≤ labels_before g chains m) e (before_beyond g chains (i + 1) (segments_of g.film - (i + 1))) in
-    omega (arith, one, row, more, all)
 
 -- ---- the chains of the layers
 

@@ -13,11 +13,11 @@ use Rattle.frontier_planner.specs.declared.blocks.Finder.{Finder}
 use Rattle.frontier_planner.specs.declared.blocks.Level.{Level}
 use Rattle.frontier_planner.specs.declared.staircase.Staircase.{Staircase}
 use Rattle.frontier_planner.specs.Blocks.{HaveFinders, IsFinder, IsLevel, IsOver, NoneBefore}
-use Rattle.frontier_planner.specs.Labels.{dominates}
-use Rattle.frontier_planner.specs.Read.{no_label}
+use Rattle.labels.specs.Labels.{dominates}
+use Rattle.labels.specs.Read.{no_label}
 use Rattle.frontier_planner.specs.Staircase.{IsRising}
 use Rattle.frontier_planner.specs.Sweep.{HasUnder}
-use Rattle.frontier_planner.proofs.Kept.{dominates_true}
+use Rattle.labels.proofs.Kept.{dominates_true}
 
 -- ---- a staircase over some labels
 

@@ -1,32 +1,33 @@
 -- What is read off coarse frontiers is a coarse plan, and on the grid 1, 1 the plan.
 use Rattle.std.proofs.Common.{◌≡◌, ◌∙◌, ℕ, suc, ◌-◌, ◌≤◌, List, Bool, length, sym, ap, subst, arith}
-use Rattle.std.specs.Prelude.{ℤ, Result, Ok, Err}
+use Rattle.std.specs.Prelude.{ℤ, Result, Ok, Err, IfOk}
 use Rattle.std.specs.Result.{IsErrAnd}
 use Rattle.std.specs.List.{Contains}
 use Rattle.lab_model.specs.declared.label.Label.{Label}
 use Rattle.lab_model.specs.Film.{rungs_of, segments_of}
-use Rattle.frontier_planner.specs.declared.label.Grid.{Grid}
+use Rattle.labels.specs.declared.label.Grid.{Grid}
 use Rattle.frontier_planner.specs.declared.grow.Frontiers.{Frontiers}
 use Rattle.frontier_planner.specs.declared.grow.Layer.{Layer}
 use Rattle.frontier_planner.specs.declared.plans.CoarsePlan.{CoarsePlan}
-use Rattle.frontier_planner.specs.declared.plans.Plan.{Plan}
+use Rattle.labels.specs.declared.plans.Plan.{Plan}
 use Rattle.frontier_planner.specs.declared.plans.PlanErr.{PlanErr}
 use Rattle.frontier_planner.specs.declared.plans.PlanErr.TheVariants as fault
-use Rattle.frontier_planner.specs.Labels.{Task}
-use Rattle.frontier_planner.specs.Frontier.{frontier}
-use Rattle.frontier_planner.specs.Grid.{exact}
-use Rattle.frontier_planner.specs.Grown.{grown}
-use Rattle.frontier_planner.specs.Layers.{CanPlan, FrontiersAnswer, HoldAll, HoldPlan, grown_labels, rungs_read}
-use Rattle.frontier_planner.specs.Parts.{CertificateParts, ChainParts, plan_parts}
-use Rattle.frontier_planner.specs.Read.{SpentAt, bound_of, certificate_of, chain_list, end_of_plan, has_table, labels_in, list_of_plan, list_value, starts_of}
-use Rattle.frontier_planner.specs.Valid.{IsValid}
-use Rattle.frontier_planner.specs.Best.{Settles}
-use Rattle.frontier_planner.specs.Planned.{CoarseAnswer, ExactAnswer, IsPlanOf, IsShortCertificate, IsShortValue, PlanAnswer, without_bound}
-use Rattle.frontier_planner.proofs.Accepts.{accepted}
-use Rattle.frontier_planner.proofs.ReadBack.{end_found, list_scores}
-use Rattle.frontier_planner.proofs.Same.{before_same, bound_same, certificate_same}
-use Rattle.frontier_planner.proofs.Short.{bound_short, certificate_short}
-use Rattle.frontier_planner.proofs.Sound.{coarse_settles, exact_agrees}
+use Rattle.player_core.specs.Scene.{IsTask, Task}
+use Rattle.labels.specs.Frontier.{frontier}
+use Rattle.labels.specs.Grid.{exact}
+use Rattle.labels.specs.Grown.{grown, CanPlan, grown_labels}
+use Rattle.frontier_planner.specs.Layers.{FrontiersAnswer, HoldAll, HoldPlan, rungs_read}
+use Rattle.labels.specs.Parts.{CertificateParts, ChainParts, plan_parts}
+use Rattle.labels.specs.Read.{SpentAt, bound_of, certificate_of, chain_list, end_of_plan, has_table, labels_in, list_of_plan, list_value, starts_of}
+use Rattle.labels.specs.Form.{HasSignedDigits, IsCertificate, score_digits}
+use Rattle.labels.specs.Valid.{IsValid}
+use Rattle.labels.specs.Best.{Settles}
+use Rattle.frontier_planner.specs.Planned.{CoarseAnswer, ExactAnswer, IsPlanOf, PlanAnswer, without_bound}
+use Rattle.labels.proofs.Accepts.{accepted}
+use Rattle.labels.proofs.ReadBack.{end_found, list_scores}
+use Rattle.labels.proofs.Same.{before_same, bound_same, certificate_same}
+use Rattle.labels.proofs.HasForm.{bound_short, certificate_form}
+use Rattle.labels.proofs.Sound.{coarse_settles, exact_agrees}
 
 module _ (d : Grid) (g : Task) (case : CanPlan d g) (budget : ℕ) where
   -- the list that is read from the end is the plan's
@@ -58,8 +59,8 @@ module _ (d : Grid) (g : Task) (case : CanPlan d g) (budget : ℕ) where
         bound = bound;
         settles = subst (Settles g p.rungs.items p.score) (sym bound) settles;
         valid = subst (IsValid g (plan_parts g.film p)) (sym bound) (subst (λ c. IsValid g c b) (sym parts) (accepted d case.grid g case.task));
-        short = subst IsShortCertificate (sym parts) (certificate_short d g case few);
-        short_bound = subst IsShortValue (sym bound) (bound_short d g case few);
+        form = subst IsCertificate (sym parts) (certificate_form d g case few);
+        short = subst (HasSignedDigits score_digits) (sym bound) (bound_short d g case few);
       }
 
   -- the parts of its certificate, one by one
@@ -99,8 +100,8 @@ module _ (g : Task) (case : CanPlan exact g) (budget : ℕ) where
         bound = sym same ∙ h.bound ∙ bound_same exact g (grown exact g) (frontier g) agree case.task;
         settles = subst (Settles g p.rungs.items p.score) same h.settles;
         valid = subst (IsValid g (plan_parts g.film p)) same h.valid;
-        short = h.short;
-        short_bound = subst IsShortValue same h.short_bound;
+        form = h.form;
+        short = subst (HasSignedDigits score_digits) same h.short;
       }
 
   -- and the budget is spent at the same segment
@@ -119,6 +120,13 @@ module _ (g : Task) (case : CanPlan exact g) (budget : ℕ) where
   plan_answer (Ok c) h = plan_is c.plan c.bound h
   plan_answer (Err (fault.BudgetSpent s)) h = spent_is s h
   plan_answer (Err fault.Memory) h = tt
+
+-- on a grid that is 1, 1 the bound is the score
+pub exact_bound : (d : Grid) (g : Task) → IsTask g → (budget : ℕ) (r : Result CoarsePlan PlanErr) → CoarseAnswer d g budget r → d ≡ exact → IfOk r (λ c. c.bound ≡ c.plan.score)
+exact_bound d g is budget (Ok c) h e =
+    let own = subst (λ x. IsPlanOf x g (grown x g) budget c.plan c.bound) e h in
+    own.bound ∙ sym (list_scores g is) ∙ sym (ap (λ (p : CertificateParts). p.score) own.parts)
+exact_bound d g is budget (Err x) h e = tt
 
 -- on a grid that is 1, 1
 pub exact_answer : (d : Grid) (g : Task) → CanPlan d g → (budget : ℕ) (r : Result CoarsePlan PlanErr) → CoarseAnswer d g budget r → ExactAnswer d g budget r

@@ -9,21 +9,22 @@ use Rattle.std.proofs.lemmas.Cmp.{eq_by_cmp_equiv}
 use Rattle.std.proofs.lemmas.Int.{ints}
 use Rattle.lab_model.specs.declared.label.Label.{Label}
 use Rattle.lab_model.specs.Film.{rungs_of, segments_of}
-use Rattle.frontier_planner.specs.declared.label.Grid.{Grid}
-use Rattle.frontier_planner.specs.Labels.{AreRungs, IsTask, Task, label_at, next_label}
-use Rattle.frontier_planner.specs.Near.{CanFollow}
-use Rattle.frontier_planner.specs.Frontier.{is_same}
-use Rattle.frontier_planner.specs.Grid.{rounded}
-use Rattle.frontier_planner.specs.Grown.{grown}
-use Rattle.frontier_planner.specs.Layers.{CanPlan, grown_labels, rungs_read}
-use Rattle.frontier_planner.specs.Read.{best_in, ends_higher, labels_of, leads_to, no_label, parent_of}
-use Rattle.frontier_planner.proofs.Follows.{label_follows}
-use Rattle.frontier_planner.proofs.Grown.{from_next, grown_covers}
-use Rattle.frontier_planner.proofs.Order.{label_total}
-use Rattle.frontier_planner.proofs.Path.{label_next}
-use Rattle.frontier_planner.proofs.ReadBack.{back_next, parent_found, some_label}
-use Rattle.frontier_planner.proofs.Reached.{label_reach, reach_follows}
-use Rattle.frontier_planner.proofs.Walks.{find_found, from_by_rung, in_by_rung}
+use Rattle.labels.specs.declared.label.Grid.{Grid}
+use Rattle.labels.specs.Labels.{AreRungs, label_at, next_label}
+use Rattle.player_core.specs.Scene.{IsTask, Task}
+use Rattle.labels.specs.Near.{CanFollow}
+use Rattle.labels.specs.Frontier.{is_same}
+use Rattle.labels.specs.Grid.{rounded}
+use Rattle.labels.specs.Grown.{grown, CanPlan, grown_labels}
+use Rattle.frontier_planner.specs.Layers.{rungs_read}
+use Rattle.labels.specs.Read.{best_in, ends_higher, labels_of, leads_to, no_label, parent_of}
+use Rattle.labels.proofs.Follows.{label_follows}
+use Rattle.labels.proofs.Grown.{from_next, grown_covers}
+use Rattle.labels.proofs.Order.{label_total}
+use Rattle.labels.proofs.Path.{label_next}
+use Rattle.labels.proofs.ReadBack.{back_next, parent_found, some_label}
+use Rattle.labels.proofs.Reached.{label_reach, reach_follows}
+use Rattle.labels.proofs.Walks.{find_found, from_by_rung, in_by_rung}
 
 -- ---- the end
 

@@ -12,7 +12,7 @@ use Rattle.std.proofs.lemmas.List.Kept.{AllPairs-cons}
 use Rattle.lab_model.specs.declared.label.Label.{Label}
 use Rattle.frontier_planner.specs.Staircase.{IsRising, IsStep}
 use Rattle.frontier_planner.specs.Sweep.{HasUnder}
-use Rattle.frontier_planner.proofs.Walks.{at_head, at_tail, first_or_rest}
+use Rattle.labels.proofs.Walks.{at_head, at_tail, first_or_rest}
 
 -- ---- the steps are parted by delay and by value
 

@@ -13,13 +13,13 @@ use Rattle.std.proofs.lemmas.List.{get_or-take, get_or_default, length-take-le}
 use Rattle.std.proofs.lemmas.List.Elements.{All-append, All-nil, All-cons, Contains-append_left, Contains-push, Contains-push_cases, recursion_from_All, All-from_recursion}
 use Rattle.std.proofs.lemmas.List.Sorted.{Contains-permutation, IsPermutation-sym, ranks_by, sorted_far}
 use Rattle.lab_model.specs.declared.label.Label.{Label}
-use Rattle.frontier_planner.specs.Covers.{HasAbove}
-use Rattle.frontier_planner.specs.Frontier.{label_cmp, undominated}
-use Rattle.frontier_planner.specs.Labels.{Dominates}
+use Rattle.labels.specs.Covers.{HasAbove}
+use Rattle.labels.specs.Frontier.{label_cmp, undominated}
+use Rattle.labels.specs.Labels.{Dominates}
 use Rattle.frontier_planner.specs.Staircase.{IsRising}
 use Rattle.frontier_planner.specs.Sweep.{HasUnder, sweep_cmp}
-use Rattle.frontier_planner.proofs.Kept.{dominates_both, dominates_itself, dominates_trans, undominated_is, undominated_same}
-use Rattle.frontier_planner.proofs.Walks.{at_head, at_tail, none_at}
+use Rattle.labels.proofs.Kept.{dominates_both, dominates_itself, dominates_trans, undominated_is, undominated_same}
+use Rattle.labels.proofs.Walks.{at_head, at_tail, none_at}
 
 -- the order of the sweep is total
 pub sweep_total : IsTotalOrder sweep_cmp

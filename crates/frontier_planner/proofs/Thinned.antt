@@ -10,24 +10,24 @@ use Rattle.std.proofs.lemmas.List.Elements.{Contains-append_left, Contains-get_o
 use Rattle.std.proofs.lemmas.List.Sorted.{Contains-permutation, IsPermutation-sym, ranks_by}
 use Rattle.lab_model.specs.declared.label.Label.{Label}
 use Rattle.lab_model.specs.Film.{rungs_of, segments_of}
-use Rattle.frontier_planner.specs.declared.label.Grid.{Grid}
-use Rattle.frontier_planner.specs.Frontier.{undominated}
-use Rattle.frontier_planner.specs.Grid.{rounded}
-use Rattle.frontier_planner.specs.Grown.{grown, successors}
-use Rattle.frontier_planner.specs.Labels.{Dominates, IsTask, Task, came_at, next_label, request_at}
-use Rattle.frontier_planner.specs.Layers.{CanPlan, grown_labels}
-use Rattle.frontier_planner.specs.Near.{CanFollow}
+use Rattle.labels.specs.declared.label.Grid.{Grid}
+use Rattle.labels.specs.Frontier.{undominated}
+use Rattle.labels.specs.Grid.{rounded}
+use Rattle.labels.specs.Grown.{grown, successors, CanPlan, grown_labels}
+use Rattle.labels.specs.Labels.{Dominates, came_at, next_label, request_at}
+use Rattle.player_core.specs.Scene.{IsTask, Task}
+use Rattle.labels.specs.Near.{CanFollow}
 use Rattle.frontier_planner.specs.Staircase.{IsRising}
 use Rattle.frontier_planner.specs.Sweep.{HasUnder, sweep_cmp}
 use Rattle.frontier_planner.specs.Thinned.{AreEnough, AreLeaders, CoversChange, LeadsBy, change_cost, waiting}
-use Rattle.frontier_planner.proofs.Follows.{in_reach, label_follows}
-use Rattle.frontier_planner.proofs.Grown.{grown_next}
-use Rattle.frontier_planner.proofs.Inherits.{came_in_order}
-use Rattle.frontier_planner.proofs.Kept.{dominates_itself, undominated_same}
-use Rattle.frontier_planner.proofs.Reached.{request_soon}
-use Rattle.frontier_planner.proofs.Rounds.{round_inherits}
+use Rattle.labels.proofs.Follows.{in_reach, label_follows}
+use Rattle.labels.proofs.Grown.{grown_next}
+use Rattle.labels.proofs.Inherits.{came_in_order}
+use Rattle.labels.proofs.Kept.{dominates_itself, undominated_same}
+use Rattle.labels.proofs.Reached.{request_soon}
+use Rattle.labels.proofs.Rounds.{round_inherits}
 use Rattle.frontier_planner.proofs.Sweep.{NotBefore, none_behind, sweep_total, times}
-use Rattle.frontier_planner.proofs.Walks.{from_map, in_map, none_at}
+use Rattle.labels.proofs.Walks.{from_map, in_map, none_at}
 
 -- ---- labels that wait
 

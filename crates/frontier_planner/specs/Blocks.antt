@@ -8,8 +8,8 @@ use Rattle.frontier_planner.specs.declared.blocks.Level.{Level}
 use Rattle.frontier_planner.specs.declared.grow.Layer.{Layer}
 use Rattle.frontier_planner.specs.declared.staircase.Staircase.{Staircase}
 use Rattle.frontier_planner.specs.Climbing.{IsClimbing}
-use Rattle.frontier_planner.specs.Labels.{dominates}
-use Rattle.frontier_planner.specs.Read.{no_label}
+use Rattle.labels.specs.Labels.{dominates}
+use Rattle.labels.specs.Read.{no_label}
 use Rattle.frontier_planner.specs.Staircase.{IsRising}
 use Rattle.frontier_planner.specs.Sweep.{HasUnder}
 

@@ -2,7 +2,7 @@
 use Rattle.std.specs.Prelude.{ℕ, ◌-◌, ◌≤◌, ◌<◌, ℤ, ◌≤ℤ◌, ◌<ℤ◌, List, length, slice_index_or}
 use Rattle.std.specs.List.{AllPairs}
 use Rattle.lab_model.specs.declared.label.Label.{Label}
-use Rattle.frontier_planner.specs.Read.{no_label}
+use Rattle.labels.specs.Read.{no_label}
 
 -- the second has no less time, delay and value
 abbrev pub ClimbsTo : Label → Label → Type 0

@@ -4,29 +4,19 @@ use Rattle.std.specs.Global.{Global}
 use Rattle.lab_model.specs.declared.label.Label.{Label}
 use Rattle.lab_model.specs.Ladder.{rungs_below}
 use Rattle.lab_model.specs.Film.{rungs_of, segments_of}
-use Rattle.frontier_planner.specs.declared.label.Grid.{Grid}
+use Rattle.labels.specs.declared.label.Grid.{Grid}
 use Rattle.frontier_planner.specs.declared.grow.Frontiers.{Frontiers}
 use Rattle.frontier_planner.specs.declared.grow.Layer.{Layer}
 use Rattle.frontier_planner.specs.declared.plans.PlanErr.{PlanErr}
 use Rattle.frontier_planner.specs.declared.plans.PlanErr.TheVariants as fault
-use Rattle.frontier_planner.specs.Labels.{IsTask, Task}
-use Rattle.frontier_planner.specs.Grid.{IsGrid}
-use Rattle.frontier_planner.specs.Grown.{grown}
-use Rattle.frontier_planner.specs.Parts.{ChainParts}
-use Rattle.frontier_planner.specs.Read.{SpentAt, chain_with_names, labels_in, labels_of, names_of_label, rungs_back}
-
--- the labels of the coarse frontiers of a segment, with their rungs
-abbrev pub grown_labels : Grid → Task → ℕ → List (ℕ × Label)
-grown_labels d g segment = labels_of g (grown d g) segment
+use Rattle.player_core.specs.Scene.{Task}
+use Rattle.labels.specs.Grown.{CanPlan, grown, grown_labels}
+use Rattle.labels.specs.Parts.{ChainParts}
+use Rattle.labels.specs.Read.{SpentAt, chain_with_names, labels_in, names_of_label, rungs_back}
 
 -- the rungs up to a label of a segment, read backwards through the coarse frontiers
 abbrev pub rungs_read : Grid → Task → ℕ → ℕ × Label → List ℕ
 rungs_read d g segment c = rungs_back d g (grown d g) segment c
-
--- a plan can be made of this task on this grid
-pub record CanPlan (d : Grid) (g : Task) : Type 0 where
-  pub task : IsTask g
-  pub grid : IsGrid d
 
 -- the chains of a segment, which vectors hold
 abbrev pub held : List (Vec Label Global) → List (List Label)

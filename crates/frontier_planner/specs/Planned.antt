@@ -1,49 +1,19 @@
 -- What the planner answers: a plan with all that makes it the best, or the segment at which the budget is spent.
-use Rattle.std.specs.Prelude.{◌≡◌, ℕ, ◌≤◌, ◌<◌, ℤ, List, length, Result, Ok, Err}
-use Rattle.std.specs.List.{All, sum_by}
-use Rattle.lab_model.specs.declared.label.Label.{Label}
-use Rattle.frontier_planner.specs.declared.label.Grid.{Grid}
+use Rattle.std.specs.Prelude.{◌≡◌, ℕ, ◌≤◌, ℤ, Result, Ok, Err}
+use Rattle.labels.specs.declared.label.Grid.{Grid}
 use Rattle.frontier_planner.specs.declared.plans.CoarsePlan.{CoarsePlan}
-use Rattle.frontier_planner.specs.declared.plans.Plan.{Plan}
+use Rattle.labels.specs.declared.plans.Plan.{Plan}
 use Rattle.frontier_planner.specs.declared.plans.PlanErr.{PlanErr}
 use Rattle.frontier_planner.specs.declared.plans.PlanErr.TheVariants as fault
-use Rattle.frontier_planner.specs.Labels.{Task}
-use Rattle.frontier_planner.specs.Near.{IsNear}
-use Rattle.frontier_planner.specs.Frontier.{frontier}
-use Rattle.frontier_planner.specs.Grid.{exact}
-use Rattle.frontier_planner.specs.Grown.{grown}
-use Rattle.frontier_planner.specs.Parts.{CertificateParts, ChainParts, plan_parts}
-use Rattle.frontier_planner.specs.Read.{Chains, SpentAt, bound_of, certificate_of, labels_in}
-use Rattle.frontier_planner.specs.Valid.{IsValid}
-use Rattle.frontier_planner.specs.Best.{Settles}
-
--- a label whose numbers have at most 18 digits
-pub record IsShort (l : Label) : Type 0 where
-  pub time : l.t < 1000000000000000000
-  pub delay : l.p < 1000000000000000000
-  pub value : IsNear 999999999999999999 l.v
-
--- a chain whose count and names have at most 7 digits, and whose labels are short
-pub record IsShortChain (c : ChainParts) : Type 0 where
-  pub count : length c.labels < 10000000
-  pub names : All (λ k. k < 10000000) c.names
-  pub labels : All IsShort c.labels
-
--- a number with at most 24 digits
-abbrev pub IsShortValue : ℤ → Type 0
-IsShortValue v = IsNear 999999999999999999999999 v
-
--- the number of labels in all chains
-abbrev pub label_count : List ChainParts → ℕ
-label_count chains = sum_by (λ (c : ChainParts). length c.labels) chains
-
--- a certificate whose numbers are no longer than its text may have them
-pub record IsShortCertificate (c : CertificateParts) : Type 0 where
-  pub score : IsShortValue c.score
-  pub plan : All (λ q. q < 100) c.plan
-  pub starts : All (λ k. k < 10000000) c.starts
-  pub chains : All IsShortChain c.chains
-  pub labels : label_count c.chains ≤ 1000000
+use Rattle.player_core.specs.Scene.{Task}
+use Rattle.labels.specs.Frontier.{frontier}
+use Rattle.labels.specs.Grid.{exact}
+use Rattle.labels.specs.Grown.{grown}
+use Rattle.labels.specs.Parts.{plan_parts}
+use Rattle.labels.specs.Form.{HasSignedDigits, IsCertificate, score_digits}
+use Rattle.labels.specs.Read.{Chains, SpentAt, bound_of, certificate_of, labels_in}
+use Rattle.labels.specs.Valid.{IsValid}
+use Rattle.labels.specs.Best.{Settles}
 
 -- the plan that is read off these chains of a task on a grid, within a budget, and a bound for all rung lists
 pub record IsPlanOf (d : Grid) (g : Task) (chains : Chains) (budget : ℕ) (p : Plan) (most : ℤ) : Type 0 where
@@ -58,9 +28,9 @@ pub record IsPlanOf (d : Grid) (g : Task) (chains : Chains) (budget : ℕ) (p : 
   pub settles : Settles g p.rungs.items p.score most
   -- the certificate proves it
   pub valid : IsValid g (plan_parts g.film p) most
-  -- its numbers and the bound are no longer than a text may have them
-  pub short : IsShortCertificate (plan_parts g.film p)
-  pub short_bound : IsShortValue most
+  -- the certificate has a text, and the bound no more digits than one may have
+  pub form : IsCertificate (plan_parts g.film p)
+  pub short : HasSignedDigits score_digits most
 
 -- what the planner answers for a task: the plan of its frontiers, whose score is the bound, or the segment at whose end they spend the budget
 abbrev pub PlanAnswer : Task → ℕ → Result Plan PlanErr → Type 0

@@ -4,8 +4,9 @@ use Rattle.std.specs.List.{Contains}
 use Rattle.lab_model.specs.declared.label.Label.{Label}
 use Rattle.lab_model.specs.Film.{rungs_of}
 use Rattle.lab_model.specs.Weighing.{change_of}
-use Rattle.frontier_planner.specs.Labels.{Dominates, Task, next_label, request_at}
-use Rattle.frontier_planner.specs.Near.{CanFollow}
+use Rattle.labels.specs.Labels.{Dominates, next_label, request_at}
+use Rattle.player_core.specs.Scene.{Task}
+use Rattle.labels.specs.Near.{CanFollow}
 
 -- a label with its rung as it waits for a segment: with the instant of its request in place of its finish time
 abbrev pub waiting : Task → ℕ → ℕ × Label → ℕ × Label

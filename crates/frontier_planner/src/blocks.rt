@@ -3,14 +3,14 @@
 ghost use Rattle.std.specs.Prelude.{◌≡◌, ℕ, ◌+◌, ◌*◌, ◌<◌, ◌≤◌, IfOk, length, slice_index_or};
 ghost use Rattle.std.specs.List.{All};
 ghost use Rattle.frontier_planner.specs.Blocks.{AreOver, HaveFinders, IsFinder, IsLevel, IsOver, NoneBefore};
-ghost use Rattle.frontier_planner.specs.Read.{place_above};
+ghost use Rattle.labels.specs.Read.{place_above};
 ghost use Rattle.frontier_planner.specs.Staircase.{IsRising};
 
 use crate::climb::climbs;
 use crate::grow::Layer;
-use crate::label::dominates;
 use crate::staircase::Staircase;
 use lab_model::Label;
+use labels::dominates;
 use std::alloc::{AllocError, Global};
 
 /// The staircases of the blocks of a chain.

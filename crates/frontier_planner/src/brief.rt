@@ -2,96 +2,129 @@
 
 ghost use Rattle.std.specs.Prelude.{◌≡◌, ◌-◌, ◌<◌, ◌≤◌};
 ghost use Rattle.lab_model.specs.Film.{rungs_of, segments_of};
-ghost use Rattle.lab_model.specs.Fit.{SetupFits};
-ghost use Rattle.frontier_planner.specs.Brief.{IsBrief, task_in};
-ghost use Rattle.frontier_planner.specs.Grid.{IsGrid};
-ghost use Rattle.frontier_planner.specs.Labels.{next_label, request_at, start_label, task_of};
-ghost use Rattle.frontier_planner.specs.Near.{CanFollow};
+ghost use Rattle.labels.specs.Grid.{IsGrid, rounded};
+ghost use Rattle.labels.specs.Labels.{end_value, next_label, request_at, start_label};
+ghost use Rattle.labels.specs.Near.{CanFollow, IsNear};
+ghost use Rattle.labels.specs.Read.{has_table};
+ghost use Rattle.frontier_planner.specs.Planning.{IsPlanning};
 
-use crate::label::{Grid, next_from, next_value, request_after, start_from};
-use lab_model::{Label, Manifest, Setup};
-use network_clock::Clock;
+use lab_model::{Label, Weights};
+use labels::{Grid, end_value, next_on, request_on, round_label, start_on, value_on};
+use player_core::Scene;
+use std::marker::Model;
 
-/// What is planned: a film on a network, with a setup that fits, and the grid on which labels are rounded.
-#[derive(Clone, Copy)]
+/// What is planned: a scene, and the grid on which labels are rounded.
+#[derive(Drop)]
 pub(crate) struct Brief<'a> {
-    pub(crate) film: &'a Manifest,
-    pub(crate) clock: &'a Clock,
-    pub(crate) setup: &'a Setup,
-    /// The media that is there at instant 0, at most 120000000 ms.
-    pub(crate) ahead: u32,
-    pub(crate) grid: Grid,
+    scene: Scene<'a>,
+    grid: Grid,
+}
+
+impl<'a> Model for Brief<'a> {
+    ghost use Rattle.labels.specs.Grown.{CanPlan};
+    ghost use Rattle.frontier_planner.specs.Planning.{Planning};
+
+    ghost Value = { Planning };
+
+    ghost view = { λ b. record { scene = b.scene; grid = b.grid } };
+
+    ghost invariant = { λ b. CanPlan b.grid b.scene };
 }
 
 impl<'a> Brief<'a> {
-    /// The brief of these: the setup fits the film, and the media ahead are at most 120000000 ms.
-    pub(crate) fn new(
-        film: &'a Manifest,
-        clock: &'a Clock,
-        setup: &'a Setup,
-        ahead: u32,
-        grid: Grid,
-    ) -> Brief<'a>
-        requires setup { SetupFits setup.now film.now }
-        requires ahead { ahead ≤ 120000000 }
-        requires grid { IsGrid grid }
-        ensures grid { result.grid ≡ grid }
-        ensures task { task_in result
-            ≡ task_of film.entry.now clock.entry.now setup.entry.now ahead }
-        ensures brief { IsBrief result }
+    /// The brief of a scene and a grid.
+    pub(crate) fn new(scene: Scene<'a>, grid: Grid) -> Brief<'a>
+        requires { IsGrid grid }
+        ensures value { result ≡ record { scene = scene.entry; grid = grid } }
+        ensures can { IsPlanning result }
     {
-        prove!(film.segments() > 0 && setup.weights.count() > 0 && !clock.periods().is_empty());
-        Brief {
-            film,
-            clock,
-            setup,
-            ahead,
-            grid,
-        }
+        prove!(scene.film().segments() > 0);
+        Brief { scene, grid }
+    }
+
+    /// The number of segments.
+    pub(crate) fn segments(&self) -> u16
+        ensures value { result ≡ segments_of self.now.scene.film }
+        ensures can { IsPlanning self.now }
+    {
+        self.scene.film().segments()
+    }
+
+    /// The number of rungs.
+    pub(crate) fn rungs(&self) -> u8
+        ensures value { result ≡ rungs_of self.now.scene.film }
+        ensures can { IsPlanning self.now }
+    {
+        self.scene.film().rungs()
+    }
+
+    /// Whether the setup has a utility table.
+    pub(crate) fn has_table(&self) -> bool
+        ensures { result ≡ has_table self.now.scene.setup }
+    {
+        self.scene.setup().weights.rows() != 0
+    }
+
+    /// The weights.
+    pub(crate) fn weights(&self) -> &Weights
+        ensures value { result.now ≡ self.now.scene.setup.weights }
+        ensures can { IsPlanning self.now }
+    {
+        &self.scene.setup().weights
+    }
+
+    /// The label on the grid. Its value lies within 9 * 10^17 of 0.
+    pub(crate) fn round(&self, label: Label) -> Label
+        requires { IsNear 900000000000000000 label.v }
+        ensures { result ≡ rounded self.now.grid label }
+    {
+        round_label(self.grid, label)
     }
 
     /// The label of segment 0 on a rung.
     pub(crate) fn start(&self, rung: u8) -> Label
-        requires brief { IsBrief self.now }
-        requires rung { rung < rungs_of self.now.film.now }
-        ensures { result ≡ start_label (task_in self.now) rung }
+        requires { rung < rungs_of self.now.scene.film }
+        ensures { result ≡ start_label self.now.scene rung }
     {
-        start_from(self.film, self.clock, self.setup, self.ahead, rung)
+        start_on(&self.scene, rung)
     }
 
     /// The successor, to segment `seg` on `rung`, of a label of the segment before with its rung.
     pub(crate) fn next(&self, seg: u16, old: (u8, Label), rung: u8) -> Label
-        requires brief { IsBrief self.now }
-        requires seg { (1 ≤ seg) × (seg < segments_of self.now.film.now) }
-        requires old_rung { old.0 < rungs_of self.now.film.now }
+        requires seg { (1 ≤ seg) × (seg < segments_of self.now.scene.film) }
+        requires old_rung { old.0 < rungs_of self.now.scene.film }
         requires old { CanFollow old.1 }
-        requires rung { rung < rungs_of self.now.film.now }
-        ensures { result ≡ next_label (task_in self.now) seg old.0 old.1 rung }
+        requires rung { rung < rungs_of self.now.scene.film }
+        ensures { result ≡ next_label self.now.scene seg old.0 old.1 rung }
     {
-        next_from(
-            self.film, self.clock, self.setup, self.ahead, seg, old.0, old.1, rung,
-        )
+        next_on(&self.scene, seg, old.0, old.1, rung)
     }
 
     /// The instant at which a segment is asked for after a label of the segment before.
     pub(crate) fn request(&self, seg: u16, old: Label) -> u64
-        requires brief { IsBrief self.now }
-        requires seg { seg < segments_of self.now.film.now }
+        requires seg { seg < segments_of self.now.scene.film }
         requires old { CanFollow old }
-        ensures { result ≡ request_at (task_in self.now) seg old }
+        ensures { result ≡ request_at self.now.scene seg old }
     {
-        request_after(self.film, self.setup, self.ahead, seg, old)
+        request_on(&self.scene, seg, old)
     }
 
     /// The value of the successor.
     pub(crate) fn next_value(&self, seg: u16, old: (u8, Label), rung: u8) -> i64
-        requires brief { IsBrief self.now }
-        requires seg { seg < segments_of self.now.film.now }
-        requires old_rung { old.0 < rungs_of self.now.film.now }
+        requires seg { seg < segments_of self.now.scene.film }
+        requires old_rung { old.0 < rungs_of self.now.scene.film }
         requires old { CanFollow old.1 }
-        requires rung { rung < rungs_of self.now.film.now }
-        ensures { result ≡ (next_label (task_in self.now) seg old.0 old.1 rung).v }
+        requires rung { rung < rungs_of self.now.scene.film }
+        ensures { result ≡ (next_label self.now.scene seg old.0 old.1 rung).v }
     {
-        next_value(self.film, self.setup, seg, old.0, old.1.v, rung)
+        value_on(&self.scene, seg, old.0, old.1.v, rung)
+    }
+
+    /// What a label comes to at the end, in thousandths of a point.
+    pub(crate) fn end_value(&self, last: Label) -> i128
+        requires { last.p ≤ 2000000000000000 }
+        ensures { result ≡ end_value self.now.scene last }
+    {
+        end_value(self.scene.setup(), last)
     }
 }

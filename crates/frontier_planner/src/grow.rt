@@ -4,19 +4,18 @@ ghost use Rattle.std.specs.Prelude.{◌≡◌, ℕ, ◌+◌, ◌-◌, ◌*◌, �
 ghost use Rattle.std.specs.List.Sorted.{IsSortedBy};
 ghost use Rattle.std.specs.Ordering.{is_lt};
 ghost use Rattle.lab_model.specs.Film.{rungs_of, segments_of};
-ghost use Rattle.frontier_planner.specs.Brief.{AreFollowed, IsBrief, task_in};
-ghost use Rattle.frontier_planner.specs.Frontier.{undominated};
-ghost use Rattle.frontier_planner.specs.Grid.{rounded};
-ghost use Rattle.frontier_planner.specs.Grown.{grown};
-ghost use Rattle.frontier_planner.specs.Labels.{next_label};
-ghost use Rattle.frontier_planner.specs.Layers.{LayerAnswer, FrontiersAnswer, grown_labels};
+ghost use Rattle.frontier_planner.specs.Brief.{AreFollowed};
+ghost use Rattle.labels.specs.Frontier.{undominated};
+ghost use Rattle.labels.specs.Grid.{rounded};
+ghost use Rattle.labels.specs.Grown.{grown, grown_labels};
+ghost use Rattle.labels.specs.Labels.{next_label};
+ghost use Rattle.frontier_planner.specs.Layers.{LayerAnswer, FrontiersAnswer};
 ghost use Rattle.frontier_planner.specs.Sweep.{sweep_cmp};
 
 use crate::brief::Brief;
-use crate::label::round_label;
 use crate::plans::PlanErr;
 use crate::staircase::Staircase;
-use crate::thin::thinned;
+use crate::thin::labels_to_follow;
 use lab_model::Label;
 use std::alloc::{AllocError, Global};
 use std::cmp::Ordering;
@@ -45,7 +44,7 @@ fn sweep(alloc: Global, labels: &[Label]) -> Result<Vec<Label>, AllocError>
 }
 
 /// The distinct labels of a list that no different one dominates, in order.
-fn undominated(alloc: Global, labels: Vec<Label>) -> Result<Vec<Label>, AllocError>
+fn undominated_labels(alloc: Global, labels: Vec<Label>) -> Result<Vec<Label>, AllocError>
     ensures { IfOk result (λ v. v.items ≡ undominated labels.items) }
 {
     let mut candidates = labels;
@@ -61,18 +60,18 @@ fn successors(
     followed: &[(u8, Label)],
     rung: u8,
 ) -> Result<Vec<Label>, AllocError>
-    requires brief { IsBrief brief.now }
-    requires seg { (1 ≤ seg) × (seg < segments_of brief.now.film.now) }
-    requires rung { rung < rungs_of brief.now.film.now }
+    requires seg { (1 ≤ seg) × (seg < segments_of brief.now.scene.film) }
+    requires rung { rung < rungs_of brief.now.scene.film }
     requires followed { AreFollowed brief.now seg followed.now }
     ensures { IfOk result (λ v. v.items ≡ map
-        (λ c. rounded brief.now.grid (next_label (task_in brief.now) seg c.0 c.1 rung))
+        (λ c. rounded brief.now.grid (next_label brief.now.scene seg c.0 c.1 rung))
         followed.now) }
 {
+    prove!(brief.segments() > 0);
     let mut made = Vec::with_capacity(alloc, followed.len())?;
     for old in followed {
         let next = brief.next(seg, *old, rung);
-        made.push(round_label(brief.grid, next))?;
+        made.push(brief.round(next))?;
     }
     Ok(made)
 }
@@ -85,40 +84,39 @@ fn frontier(
     followed: &[(u8, Label)],
     rung: u8,
 ) -> Result<Vec<Label>, AllocError>
-    requires brief { IsBrief brief.now }
-    requires seg { seg < segments_of brief.now.film.now }
-    requires rung { rung < rungs_of brief.now.film.now }
+    requires seg { seg < segments_of brief.now.scene.film }
+    requires rung { rung < rungs_of brief.now.scene.film }
     requires followed { 0 < seg → AreFollowed brief.now seg followed.now }
     ensures { IfOk result (λ v. v.items
-        ≡ grown brief.now.grid (task_in brief.now) seg rung) }
+        ≡ grown brief.now.grid brief.now.scene seg rung) }
 {
+    prove!(brief.segments() > 0);
     if seg == 0 {
         let start = brief.start(rung);
         let mut only = Vec::new(alloc);
-        only.push(round_label(brief.grid, start))?;
+        only.push(brief.round(start))?;
         return Ok(only);
     }
     let candidates = successors(alloc, brief, seg, followed, rung)?;
-    undominated(alloc, candidates)
+    undominated_labels(alloc, candidates)
 }
 
 /// Labels that are enough to follow to a segment, and none for segment 0.
-fn followed(
+fn followed_labels(
     alloc: Global,
     brief: &Brief,
     seg: u16,
     before: &[(u8, Label)],
 ) -> Result<Vec<(u8, Label)>, AllocError>
-    requires brief { IsBrief brief.now }
-    requires seg { seg < segments_of brief.now.film.now }
+    requires seg { seg < segments_of brief.now.scene.film }
     requires before { 0 < seg
-        → before.now ≡ grown_labels brief.now.grid (task_in brief.now) (seg - 1) }
+        → before.now ≡ grown_labels brief.now.grid brief.now.scene (seg - 1) }
     ensures { IfOk result (λ v. 0 < seg → AreFollowed brief.now seg v.items) }
 {
     if seg == 0 {
         return Ok(Vec::new(alloc));
     }
-    thinned(alloc, brief, seg, before)
+    labels_to_follow(alloc, brief, seg, before)
 }
 
 /// The frontiers of one segment.
@@ -150,16 +148,15 @@ fn grown_layer(
     before: &[(u8, Label)],
     left: u32,
 ) -> Result<Layer, PlanErr>
-    requires brief { IsBrief brief.now }
-    requires seg { seg < segments_of brief.now.film.now }
+    requires seg { seg < segments_of brief.now.scene.film }
     requires before { 0 < seg
-        → before.now ≡ grown_labels brief.now.grid (task_in brief.now) (seg - 1) }
-    ensures { LayerAnswer brief.now.grid (task_in brief.now) seg left result }
+        → before.now ≡ grown_labels brief.now.grid brief.now.scene (seg - 1) }
+    ensures { LayerAnswer brief.now.grid brief.now.scene seg left result }
 {
-    let followed = followed(alloc, brief, seg, before)?;
+    let followed = followed_labels(alloc, brief, seg, before)?;
     let mut labels = Vec::new(alloc);
     let mut chains = Vec::new(alloc);
-    for rung in 0..brief.film.rungs() {
+    for rung in 0..brief.rungs() {
         let chain = frontier(alloc, brief, seg, &followed, rung)?;
         if chain.len() > left as usize - labels.len() {
             return Err(PlanErr::BudgetSpent { segment: seg });
@@ -192,12 +189,11 @@ pub struct Frontiers {
 
 /// The frontiers of all segments, which may have as many labels as the budget.
 pub fn grown_frontiers(alloc: Global, brief: &Brief, budget: u32) -> Result<Frontiers, PlanErr>
-    requires { IsBrief brief.now }
-    ensures { FrontiersAnswer brief.now.grid (task_in brief.now) budget result }
+    ensures { FrontiersAnswer brief.now.grid brief.now.scene budget result }
 {
     let mut layers = Vec::new(alloc);
     let mut left = budget;
-    for seg in 0..brief.film.segments() {
+    for seg in 0..brief.segments() {
         let before = last_labels(&layers);
         let next = grown_layer(alloc, brief, seg, before, left)?;
         left -= next.labels.len() as u32;

@@ -4,31 +4,31 @@ ghost use Rattle.std.specs.Prelude.{◌≡◌, ℕ, ◌+◌, ◌-◌, ◌*◌, �
 ghost use Rattle.std.specs.List.{Contains, flat_map};
 ghost use Rattle.lab_model.specs.Film.{rungs_of, segments_of};
 ghost use Rattle.frontier_planner.specs.Blocks.{AreOver, IsFinder};
-ghost use Rattle.frontier_planner.specs.Brief.{CanGoOn, IsBrief, task_in};
-ghost use Rattle.frontier_planner.specs.Covers.{HasAbove};
-ghost use Rattle.frontier_planner.specs.Grown.{grown};
-ghost use Rattle.frontier_planner.specs.Labels.{next_label};
-ghost use Rattle.frontier_planner.specs.Layers.{HoldPlan, chain_read, chains_read, grown_labels, names_read};
-ghost use Rattle.frontier_planner.specs.Parts.{chain_parts};
-ghost use Rattle.frontier_planner.specs.Read.{chain_list, place_above, starts_of};
+ghost use Rattle.frontier_planner.specs.Brief.{CanGoOn};
+ghost use Rattle.labels.specs.Covers.{HasAbove};
+ghost use Rattle.labels.specs.Grown.{grown, grown_labels};
+ghost use Rattle.labels.specs.Labels.{next_label};
+ghost use Rattle.frontier_planner.specs.Layers.{HoldPlan, chain_read, chains_read, names_read};
+ghost use Rattle.labels.specs.Parts.{chain_parts};
+ghost use Rattle.labels.specs.Read.{chain_list, place_above, starts_of};
 
 use crate::blocks::{Finder, first_above, next_finders, place_from};
 use crate::brief::Brief;
 use crate::climb::place_of_value;
 use crate::grow::Layer;
-use crate::plans::Chain;
 use lab_model::Label;
+use labels::Chain;
 use std::alloc::{AllocError, Global};
 
 /// For each rung the first place of a label of segment 0 that dominates the start label.
 pub fn starts(alloc: Global, brief: &Brief, layers: &[Layer]) -> Result<Vec<u32>, AllocError>
-    requires { HoldPlan brief.now.grid (task_in brief.now) layers.now }
+    requires { HoldPlan brief.now.grid brief.now.scene layers.now }
     ensures { IfOk result (λ v. v.items
-        ≡ starts_of (task_in brief.now)
-        (grown brief.now.grid (task_in brief.now))) }
+        ≡ starts_of brief.now.scene
+        (grown brief.now.grid brief.now.scene)) }
 {
     let mut starts = Vec::new(alloc);
-    for rung in 0..brief.film.rungs() {
+    for rung in 0..brief.rungs() {
         let start = brief.start(rung);
         starts.push(place_from(&layers[0].chains[rung as usize], 0, start))?;
     }
@@ -46,16 +46,16 @@ fn name_of(
     finder: &Finder,
     hint: usize,
 ) -> u32
-    requires brief { IsBrief brief.now }
-    requires seg { seg + 1 < segments_of brief.now.film.now }
+    requires seg { seg + 1 < segments_of brief.now.scene.film }
     requires reached { CanGoOn brief.now reached rung }
     requires few { length chain.now ≤ 1000000 }
     requires finder { IsFinder chain.now finder.now }
     requires above { HasAbove chain.now
-        (next_label (task_in brief.now) (seg + 1) reached.0 reached.1 rung) }
+        (next_label brief.now.scene (seg + 1) reached.0 reached.1 rung) }
     ensures { result ≡ place_above chain.now
-        (next_label (task_in brief.now) (seg + 1) reached.0 reached.1 rung) }
+        (next_label brief.now.scene (seg + 1) reached.0 reached.1 rung) }
 {
+    prove!(brief.segments() > 0);
     if finder.climbs {
         let value = brief.next_value(seg + 1, reached, rung);
         return place_of_value(chain, hint, value) as u32;
@@ -80,16 +80,16 @@ fn name_label(
     reached: (u8, Label),
     names: &mut Vec<u32>,
 ) -> Result<(), AllocError>
-    requires layers { HoldPlan brief.now.grid (task_in brief.now) layers.now }
+    requires layers { HoldPlan brief.now.grid brief.now.scene layers.now }
     requires finders { AreOver layers.now (seg + 1) finders.now }
-    requires seg { seg + 1 < segments_of brief.now.film.now }
+    requires seg { seg + 1 < segments_of brief.now.scene.film }
     requires reached { Contains
-        (grown_labels brief.now.grid (task_in brief.now) seg) reached }
+        (grown_labels brief.now.grid brief.now.scene seg) reached }
     ensures { IfOk result (λ _. names.new.items
-        ≡ names.old.items ++ names_read brief.now.grid (task_in brief.now) seg reached) }
+        ≡ names.old.items ++ names_read brief.now.grid brief.now.scene seg reached) }
 {
     let next = &layers[seg as usize + 1].chains;
-    let rungs = brief.film.rungs();
+    let rungs = brief.rungs();
     for rung in 0..rungs {
         let hint = hint_in(names, rungs);
         let chain = &next[rung as usize];
@@ -109,13 +109,13 @@ fn names(
     seg: u16,
     rung: u8,
 ) -> Result<Vec<u32>, AllocError>
-    requires layers { HoldPlan brief.now.grid (task_in brief.now) layers.now }
+    requires layers { HoldPlan brief.now.grid brief.now.scene layers.now }
     requires finders { AreOver layers.now (seg + 1) finders.now }
-    requires seg { seg + 1 < segments_of brief.now.film.now }
-    requires rung { rung < rungs_of brief.now.film.now }
+    requires seg { seg + 1 < segments_of brief.now.scene.film }
+    requires rung { rung < rungs_of brief.now.scene.film }
     ensures { IfOk result (λ v. v.items
-        ≡ flat_map (λ l. names_read brief.now.grid (task_in brief.now) seg (rung, l))
-        (grown brief.now.grid (task_in brief.now) seg rung)) }
+        ≡ flat_map (λ l. names_read brief.now.grid brief.now.scene seg (rung, l))
+        (grown brief.now.grid brief.now.scene seg rung)) }
 {
     let mut names = Vec::new(alloc);
     for l in &layers[seg as usize].chains[rung as usize] {
@@ -133,15 +133,15 @@ fn named_chain(
     seg: u16,
     rung: u8,
 ) -> Result<Chain, AllocError>
-    requires layers { HoldPlan brief.now.grid (task_in brief.now) layers.now }
+    requires layers { HoldPlan brief.now.grid brief.now.scene layers.now }
     requires finders { AreOver layers.now (seg + 1) finders.now }
-    requires seg { seg < segments_of brief.now.film.now }
-    requires rung { rung < rungs_of brief.now.film.now }
+    requires seg { seg < segments_of brief.now.scene.film }
+    requires rung { rung < rungs_of brief.now.scene.film }
     ensures { IfOk result (λ c. chain_parts c
-        ≡ chain_read brief.now.grid (task_in brief.now) seg rung) }
+        ≡ chain_read brief.now.grid brief.now.scene seg rung) }
 {
     let labels = Vec::from_slice(alloc, &layers[seg as usize].chains[rung as usize])?;
-    let names = if seg + 1 < brief.film.segments() {
+    let names = if seg + 1 < brief.segments() {
         names(alloc, brief, layers, finders, seg, rung)?
     } else {
         Vec::new(alloc)
@@ -157,14 +157,14 @@ fn add_named(
     seg: u16,
     chains: &mut Vec<Chain>,
 ) -> Result<(), AllocError>
-    requires layers { HoldPlan brief.now.grid (task_in brief.now) layers.now }
-    requires seg { seg < segments_of brief.now.film.now }
+    requires layers { HoldPlan brief.now.grid brief.now.scene layers.now }
+    requires seg { seg < segments_of brief.now.scene.film }
     ensures { IfOk result (λ _. map chain_parts chains.new.items
         ≡ map chain_parts chains.old.items
-        ++ chains_read brief.now.grid (task_in brief.now) seg) }
+        ++ chains_read brief.now.grid brief.now.scene seg) }
 {
     let finders = next_finders(alloc, layers, seg)?;
-    for rung in 0..brief.film.rungs() {
+    for rung in 0..brief.rungs() {
         let chain = named_chain(alloc, brief, layers, &finders, seg, rung)?;
         chains.push(chain)?;
     }
@@ -173,13 +173,13 @@ fn add_named(
 
 /// The chains by segment, then rung, with their names.
 pub fn chains(alloc: Global, brief: &Brief, layers: &[Layer]) -> Result<Vec<Chain>, AllocError>
-    requires { HoldPlan brief.now.grid (task_in brief.now) layers.now }
+    requires { HoldPlan brief.now.grid brief.now.scene layers.now }
     ensures { IfOk result (λ v. map chain_parts v.items
-        ≡ chain_list (task_in brief.now)
-        (grown brief.now.grid (task_in brief.now))) }
+        ≡ chain_list brief.now.scene
+        (grown brief.now.grid brief.now.scene)) }
 {
     let mut chains = Vec::new(alloc);
-    for seg in 0..brief.film.segments() {
+    for seg in 0..brief.segments() {
         add_named(alloc, brief, layers, seg, &mut chains)?;
     }
     Ok(chains)

@@ -1,31 +1,30 @@
 //! The planner.
 
-ghost use Rattle.std.specs.Prelude.{◌≤◌};
+ghost use Rattle.std.specs.Prelude.{◌≡◌, ◌≤◌, IfOk};
 ghost use Rattle.lab_model.specs.Fit.{SetupFits};
 ghost use Rattle.player_core.specs.Available.{all_ahead};
-ghost use Rattle.frontier_planner.specs.Brief.{IsBrief, task_in};
-ghost use Rattle.frontier_planner.specs.Grid.{IsGrid};
-ghost use Rattle.frontier_planner.specs.Labels.{task_of};
+ghost use Rattle.labels.specs.Grid.{IsGrid, exact};
+ghost use Rattle.player_core.specs.Scene.{task_of};
 ghost use Rattle.frontier_planner.specs.Planned.{CoarseAnswer, ExactAnswer, PlanAnswer};
 
 use crate::brief::Brief;
 use crate::grow::{Frontiers, grown_frontiers};
-use crate::label::{Grid, end_value};
 use crate::names::{chains, starts};
-use crate::plans::{CoarsePlan, Plan, PlanErr};
+use crate::plans::{CoarsePlan, PlanErr};
 use crate::read::{best_end, rungs_to, value_of_list};
 use lab_model::{Manifest, Setup};
+use labels::{Grid, Plan};
 use network_clock::Clock;
+use player_core::Scene;
 use std::alloc::Global;
 
 /// The plan of a brief, whose frontiers may have as many labels as the budget.
 fn plan_of(alloc: Global, brief: &Brief, budget: u32) -> Result<CoarsePlan, PlanErr>
-    requires brief { IsBrief brief.now }
-    requires budget { (1 ≤ budget) × (budget ≤ 1000000) }
-    ensures { CoarseAnswer brief.now.grid (task_in brief.now) budget result }
+    requires { (1 ≤ budget) × (budget ≤ 1000000) }
+    ensures { CoarseAnswer brief.now.grid brief.now.scene budget result }
 {
-    let table = brief.setup.weights.rows() != 0;
-    let last = brief.film.segments() - 1;
+    let table = brief.has_table();
+    let last = brief.segments() - 1;
     let Frontiers { layers, labels } = grown_frontiers(alloc, brief, budget)?;
     let end = best_end(brief, &layers[last as usize].labels);
     let rungs = rungs_to(alloc, brief, &layers, last, end)?;
@@ -42,7 +41,7 @@ fn plan_of(alloc: Global, brief: &Brief, budget: u32) -> Result<CoarsePlan, Plan
     };
     Ok(CoarsePlan {
         plan,
-        bound: end_value(brief.setup, end.1),
+        bound: brief.end_value(end.1),
     })
 }
 
@@ -64,8 +63,10 @@ pub fn plan_from(
     requires budget { (1 ≤ budget) × (budget ≤ 1000000) }
     ensures coarse { CoarseAnswer grid (task_of m.now clock.now set.now ahead) budget result }
     ensures exact { ExactAnswer grid (task_of m.now clock.now set.now ahead) budget result }
+    ensures bound { grid ≡ exact → IfOk result (λ c. c.bound ≡ c.plan.score) }
 {
-    plan_of(alloc, &Brief::new(m, clock, set, ahead, grid), budget)
+    let scene = Scene::new(m, clock, set, ahead);
+    plan_of(alloc, &Brief::new(scene, grid), budget)
 }
 
 /// So many milliseconds of media ahead that all of a film is there at instant 0.

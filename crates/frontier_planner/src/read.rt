@@ -3,39 +3,37 @@
 ghost use Rattle.std.specs.Prelude.{◌≡◌, ℕ, ◌+◌, ◌-◌, ◌*◌, ◌<◌, ◌≤◌, IfOk, int_lt, length};
 ghost use Rattle.std.specs.List.{Contains, find};
 ghost use Rattle.lab_model.specs.Film.{segments_of};
-ghost use Rattle.frontier_planner.specs.Brief.{IsBrief, task_in};
-ghost use Rattle.frontier_planner.specs.Grown.{grown};
-ghost use Rattle.frontier_planner.specs.Labels.{AreRungs, value_at_end};
-ghost use Rattle.frontier_planner.specs.Layers.{HoldAll, grown_labels, rungs_read};
-ghost use Rattle.frontier_planner.specs.Read.{end_of_plan, leads_to, list_value};
+ghost use Rattle.labels.specs.Grown.{grown, grown_labels};
+ghost use Rattle.labels.specs.Labels.{AreRungs, end_value};
+ghost use Rattle.frontier_planner.specs.Layers.{HoldAll, rungs_read};
+ghost use Rattle.labels.specs.Read.{end_of_plan, leads_to, list_value};
 
 use crate::brief::Brief;
 use crate::grow::Layer;
-use crate::label::{end_value, round_label};
-use lab_model::{Label, Setup};
+use lab_model::Label;
 use std::alloc::{AllocError, Global};
 
 /// Whether the first label ends at more than the second.
-fn ends_higher(set: &Setup, a: Label, b: Label) -> bool
+fn ends_higher(brief: &Brief, a: Label, b: Label) -> bool
     requires a { a.p ≤ 2000000000000000 }
     requires b { b.p ≤ 2000000000000000 }
-    ensures { result ≡ int_lt (value_at_end set.now.weights b) (value_at_end set.now.weights a) }
+    ensures { result ≡ int_lt (end_value brief.now.scene b) (end_value brief.now.scene a) }
 {
-    end_value(set, a) > end_value(set, b)
+    brief.end_value(a) > brief.end_value(b)
 }
 
 /// The first of the labels of the last segment with the greatest end value, with its rung.
 pub fn best_end(brief: &Brief, last: &[(u8, Label)]) -> (u8, Label)
-    requires brief { IsBrief brief.now }
-    requires last { last.now
-        ≡ grown_labels brief.now.grid (task_in brief.now) (segments_of brief.now.film.now - 1) }
+    requires { last.now
+        ≡ grown_labels brief.now.grid brief.now.scene (segments_of brief.now.scene.film - 1) }
     ensures { result
-        ≡ end_of_plan (task_in brief.now)
-        (grown brief.now.grid (task_in brief.now)) }
+        ≡ end_of_plan brief.now.scene
+        (grown brief.now.grid brief.now.scene) }
 {
+    prove!(brief.segments() > 0);
     let mut best = last[0];
     for reached in last {
-        if ends_higher(brief.setup, reached.1, best.1) {
+        if ends_higher(brief, reached.1, best.1) {
             best = *reached;
         }
     }
@@ -49,18 +47,18 @@ fn parent(
     before: &[(u8, Label)],
     reached: (u8, Label),
 ) -> Option<(u8, Label)>
-    requires brief { IsBrief brief.now }
-    requires seg { (1 ≤ seg) × (seg < segments_of brief.now.film.now) }
+    requires seg { (1 ≤ seg) × (seg < segments_of brief.now.scene.film) }
     requires before { before.now
-        ≡ grown_labels brief.now.grid (task_in brief.now) (seg - 1) }
+        ≡ grown_labels brief.now.grid brief.now.scene (seg - 1) }
     requires reached { Contains
-        (grown_labels brief.now.grid (task_in brief.now) seg) reached }
+        (grown_labels brief.now.grid brief.now.scene seg) reached }
     ensures { result ≡ find
-        (λ b. leads_to brief.now.grid (task_in brief.now) seg b reached) before.now }
+        (λ b. leads_to brief.now.grid brief.now.scene seg b reached) before.now }
 {
+    prove!(brief.segments() > 0);
     for old in before {
         let next = brief.next(seg, *old, reached.0);
-        if round_label(brief.grid, next) == reached.1 {
+        if brief.round(next) == reached.1 {
             return Some(*old);
         }
     }
@@ -75,13 +73,12 @@ pub fn rungs_to(
     seg: u16,
     reached: (u8, Label),
 ) -> Result<Vec<u8>, AllocError>
-    requires brief { IsBrief brief.now }
-    requires seg { (seg < segments_of brief.now.film.now) × (seg < length layers.now) }
-    requires layers { HoldAll brief.now.grid (task_in brief.now) layers.now }
+    requires seg { (seg < segments_of brief.now.scene.film) × (seg < length layers.now) }
+    requires layers { HoldAll brief.now.grid brief.now.scene layers.now }
     requires reached { Contains
-        (grown_labels brief.now.grid (task_in brief.now) seg) reached }
+        (grown_labels brief.now.grid brief.now.scene seg) reached }
     ensures { IfOk result (λ v. v.items
-        ≡ rungs_read brief.now.grid (task_in brief.now) seg reached) }
+        ≡ rungs_read brief.now.grid brief.now.scene seg reached) }
 {
     if seg == 0 {
         let mut rungs = Vec::with_capacity(alloc, layers.len())?;
@@ -99,15 +96,15 @@ pub fn rungs_to(
 
 /// What the labels along a rung list end at.
 pub fn value_of_list(brief: &Brief, rungs: &[u8]) -> i128
-    requires brief { IsBrief brief.now }
-    requires rungs { AreRungs
-        (task_in brief.now) (segments_of brief.now.film.now) rungs.now }
-    ensures { result ≡ list_value (task_in brief.now) rungs.now }
+    requires { AreRungs
+        brief.now.scene (segments_of brief.now.scene.film) rungs.now }
+    ensures { result ≡ list_value brief.now.scene rungs.now }
 {
+    prove!(brief.segments() > 0);
     let mut label = brief.start(rungs[0]);
-    for seg in 1..brief.film.segments() {
+    for seg in 1..brief.segments() {
         let old_rung = rungs[seg as usize - 1];
         label = brief.next(seg, (old_rung, label), rungs[seg as usize]);
     }
-    end_value(brief.setup, label)
+    brief.end_value(label)
 }

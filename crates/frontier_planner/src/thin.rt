@@ -6,9 +6,9 @@ ghost use Rattle.std.specs.List.{All};
 ghost use Rattle.std.specs.List.Sorted.{IsPermutation, IsSortedBy};
 ghost use Rattle.std.specs.Ordering.{is_lt};
 ghost use Rattle.lab_model.specs.Film.{rungs_of, segments_of};
-ghost use Rattle.frontier_planner.specs.Brief.{AreFollowed, IsBrief, task_in};
-ghost use Rattle.frontier_planner.specs.Layers.{grown_labels};
-ghost use Rattle.frontier_planner.specs.Near.{CanFollow};
+ghost use Rattle.frontier_planner.specs.Brief.{AreFollowed};
+ghost use Rattle.labels.specs.Grown.{grown_labels};
+ghost use Rattle.labels.specs.Near.{CanFollow};
 ghost use Rattle.frontier_planner.specs.Sweep.{sweep_cmp};
 ghost use Rattle.frontier_planner.specs.Thinned.{AreLeaders, CoversChange, raised, waiting};
 
@@ -25,10 +25,9 @@ fn waiting_labels(
     seg: u16,
     before: &[(u8, Label)],
 ) -> Result<Vec<(u8, Label)>, AllocError>
-    requires brief { IsBrief brief.now }
-    requires seg { (1 ≤ seg) × (seg < segments_of brief.now.film.now) }
+    requires seg { (1 ≤ seg) × (seg < segments_of brief.now.scene.film) }
     requires before { All (λ c. CanFollow c.1) before.now }
-    ensures { IfOk result (λ v. v.items ≡ map (waiting (task_in brief.now) seg) before.now) }
+    ensures { IfOk result (λ v. v.items ≡ map (waiting brief.now.scene seg) before.now) }
 {
     let mut waits = Vec::with_capacity(alloc, before.len())?;
     for old in before {
@@ -54,21 +53,20 @@ fn put_in_order(labels: &mut Vec<(u8, Label)>)
 
 /// What a change of rung costs at a segment at most: 0 to 10^12 thousandths of a point.
 fn dearest_change(brief: &Brief, seg: u16) -> u64
-    requires brief { IsBrief brief.now }
-    requires seg { seg < segments_of brief.now.film.now }
-    ensures most { CoversChange (task_in brief.now) seg result }
+    requires { seg < segments_of brief.now.scene.film }
+    ensures most { CoversChange brief.now.scene seg result }
     ensures limit { result ≤ 1000000000000 }
 {
-    let weights = &brief.setup.weights;
+    let weights = brief.weights();
     let mut top = 0;
-    for rung in 0..brief.film.rungs() {
+    for rung in 0..brief.rungs() {
         top = weights.utility(seg, rung).max(top);
     }
     weights.switch() as u64 * top as u64
 }
 
 /// The label with so much more value.
-fn raised(label: Label, slack: u64) -> Label
+fn with_slack(label: Label, slack: u64) -> Label
     requires label { CanFollow label }
     requires slack { slack ≤ 1000000000000 }
     ensures { result ≡ raised slack label }
@@ -95,7 +93,7 @@ fn leaders(
     let mut staircase = Staircase::new(alloc);
     for reached in labels {
         let label = reached.1;
-        if !staircase.covers(raised(label, slack)) {
+        if !staircase.covers(with_slack(label, slack)) {
             kept.push(*reached)?;
             if !staircase.covers(label) {
                 staircase.add(label)?;
@@ -106,18 +104,18 @@ fn leaders(
 }
 
 /// Labels that are enough to follow to a segment, in place of all labels of the segment before.
-pub fn thinned(
+pub fn labels_to_follow(
     alloc: Global,
     brief: &Brief,
     seg: u16,
     before: &[(u8, Label)],
 ) -> Result<Vec<(u8, Label)>, AllocError>
-    requires brief { IsBrief brief.now }
-    requires seg { (1 ≤ seg) × (seg < segments_of brief.now.film.now) }
+    requires seg { (1 ≤ seg) × (seg < segments_of brief.now.scene.film) }
     requires before { before.now
-        ≡ grown_labels brief.now.grid (task_in brief.now) (seg - 1) }
+        ≡ grown_labels brief.now.grid brief.now.scene (seg - 1) }
     ensures { IfOk result (λ v. AreFollowed brief.now seg v.items) }
 {
+    prove!(brief.segments() > 0);
     let mut waits = waiting_labels(alloc, brief, seg, before)?;
     put_in_order(&mut waits);
     leaders(alloc, &waits, dearest_change(brief, seg))

@@ -1,7 +1,7 @@
 -- What bytes of JSON, a key of an object and a number within its range stand for, or what is wrong.
-use Rattle.std.specs.Prelude.{◌≡◌, ℕ, ◌&&◌, List, Option, Some, None, Result, Ok, Err, if◌then◌else◌, nat_le, is_some}
+use Rattle.std.specs.Prelude.{◌≡◌, ℕ, ◌&&◌, List, [], ◌∷◌, Option, Some, None, Result, Ok, Err, if◌then◌else◌, nat_le, is_some, option_map}
 use Rattle.std.specs.Str.{is_utf8}
-use Rattle.serde_json.specs.Data.{Data, Num, Items}
+use Rattle.serde_json.specs.Data.{Data, Num, Items, no_items, item}
 use Rattle.serde_json.specs.Read.{read}
 use Rattle.serde_json.specs.Find.{as_array, as_i64, as_number, as_object, as_u64, get}
 use Rattle.json_fields.specs.declared.Fault.{Fault}
@@ -9,21 +9,10 @@ use Rattle.json_fields.specs.declared.Fault.TheVariants as fault
 use Rattle.json_fields.specs.declared.ReadErr.{ReadErr}
 use Rattle.json_fields.specs.declared.ReadErr.TheVariants as errors
 
-infixl 10 ◌>>=◌
--- what follows a step that went well; a step's fault ends it
-abbrev pub ◌>>=◌ : {A B E : Type 0} → Result A E → (A → Result B E) → Result B E
-(Ok x) >>= f = f x
-(Err e) >>= f = Err e
-
 -- the value, or this fault where there is none
 abbrev pub or_fault : {A E : Type 0} → E → Option A → Result A E
 or_fault e (Some x) = Ok x
 or_fault e None = Err e
-
--- what `f` makes of a good answer's value
-abbrev pub map_ok : {A B E : Type 0} → (A → B) → Result A E → Result B E
-map_ok f (Ok x) = Ok (f x)
-map_ok f (Err e) = Err e
 
 -- the value that serde_json makes of the bytes; none where it refuses them
 abbrev pub json_of : List ℕ → Option Data
@@ -37,9 +26,14 @@ value_of bytes = or_fault fault.NotJson (json_of bytes)
 abbrev pub object_of : Data → Result Data Fault
 object_of d = if is_some (as_object d) then Ok d else Err fault.WrongKind
 
+-- the members, one by one
+abbrev pub members_of : Items → List Data
+members_of no_items = []
+members_of (item d ds) = d ∷ members_of ds
+
 -- the members of a list
-abbrev pub list_of : Data → Result Items Fault
-list_of d = or_fault fault.WrongKind (as_array d)
+abbrev pub list_of : Data → Result (List Data) Fault
+list_of d = or_fault fault.WrongKind (option_map members_of (as_array d))
 
 -- the value under a key of an object
 abbrev pub member_of : List ℕ → Data → Result Data Fault
@@ -54,23 +48,32 @@ abbrev pub whole_of : ℕ → ℕ → Num → Option ℕ → Result ℕ Fault
 whole_of least most x (Some n) = in_range least most n
 whole_of least most x None = if is_some (as_i64 x) then Err fault.OutOfRange else Err fault.NotWhole
 
+-- the tests of a number that was found: that it is whole, and its range
+abbrev pub number_found : ℕ → ℕ → Option Num → Result ℕ Fault
+number_found least most (Some x) = whole_of least most x (as_u64 x)
+number_found least most None = Err fault.WrongKind
+
 -- the tests of a number: its kind, that it is whole, and its range
 abbrev pub number_of : ℕ → ℕ → Data → Result ℕ Fault
-number_of least most d = do
-  x ← or_fault fault.WrongKind (as_number d)
-  whole_of least most x (as_u64 x)
+number_of least most d = number_found least most (as_number d)
+
+-- the number that a member is, if there is the member
+abbrev pub member_number : ℕ → ℕ → Result Data Fault → Result ℕ Fault
+member_number least most (Ok d) = number_of least most d
+member_number least most (Err f) = Err f
 
 -- the number under a key of an object
 abbrev pub number_at : List ℕ → ℕ → ℕ → Data → Result ℕ Fault
-number_at key least most d = do
-  v ← member_of key d
-  number_of least most v
+number_at key least most d = member_number least most (member_of key d)
+
+-- the list that a member is, if there is the member
+abbrev pub member_list : Result Data Fault → Result (List Data) Fault
+member_list (Ok d) = list_of d
+member_list (Err f) = Err f
 
 -- the list under a key of an object
-abbrev pub list_at : List ℕ → Data → Result Items Fault
-list_at key d = do
-  v ← member_of key d
-  list_of v
+abbrev pub list_at : List ℕ → Data → Result (List Data) Fault
+list_at key d = member_list (member_of key d)
 
 -- a call answered the value, as `seen` sees it, or the fault
 abbrev pub Answers : {X Y E : Type 0} → (X → Y) → Result X E → Result Y E → Type 0

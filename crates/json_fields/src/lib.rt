@@ -6,8 +6,8 @@
 //! them, is out of range.
 #![tactic(auto)]
 
-ghost use Rattle.std.specs.Prelude.{◌≡◌, ◌≤◌, IfOk};
-ghost use Rattle.serde_json.specs.View.{view, items_view};
+ghost use Rattle.std.specs.Prelude.{◌≡◌, ◌≤◌, IfOk, map};
+ghost use Rattle.serde_json.specs.View.{view};
 ghost use Rattle.json_fields.specs.Fields.{list_at, list_of, member_of, number_at, number_of, object_of, value_of, Answers, Reads};
 
 use serde_json::{Category, Value};
@@ -63,8 +63,9 @@ pub fn object_from(value: &Value) -> Result<&Value, Fault>
 }
 
 /// The members of a list; of another value `WrongKind`.
+#[tactic(auto, using(crate::proofs::Members::members_view))]
 pub fn list_from(value: &Value) -> Result<&[Value], Fault>
-    ensures { Answers (λ v. items_view v.now) result (list_of (view value.now)) }
+    ensures { Answers (λ v. map view v.now) result (list_of (view value.now)) }
 {
     match value.as_array() {
         Some(values) => Ok(values),
@@ -114,7 +115,7 @@ pub fn number_under(object: &Value, key: &str, least: u32, most: u32) -> Result<
 
 /// The members of the list under a key of an object; else `MissingKey` or `WrongKind`.
 pub fn list_under<'a>(object: &'a Value, key: &str) -> Result<&'a [Value], Fault>
-    ensures { Answers (λ v. items_view v.now) result (list_at key.now (view object.now)) }
+    ensures { Answers (λ v. map view v.now) result (list_at key.now (view object.now)) }
 {
     list_from(member_from(object, key)?)
 }

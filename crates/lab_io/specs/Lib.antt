@@ -4,3 +4,4 @@ pub mod Memory
 pub mod Edge
 pub mod Piece
 pub mod Number
+pub mod Batch

@@ -5,7 +5,7 @@ ghost use Rattle.lab_io.specs.Edge.{FileCalls, file_shelved};
 ghost use Rattle.lab_io.specs.Memory.{one_more, told_calls};
 ghost use Rattle.lab_io.specs.Shelf.{Fetches, fetched_as};
 
-use crate::memory::{note_call, raised};
+use crate::memory::{note_call, one_more};
 use crate::{FetchErr, Shelf};
 use std::alloc::Global;
 use std::io::{ErrorKind, Read};
@@ -42,10 +42,10 @@ impl<'r, R: Files> FileShelf<'r, R> {
 }
 
 // The count after a call.
-pub(crate) fn counted(failures: u64, failed: bool) -> u64
+pub(crate) fn failures_after(failures: u64, failed: bool) -> u64
     ensures { result ≡ (if failed then one_more failures else failures) }
 {
-    if failed { raised(failures) } else { failures }
+    if failed { one_more(failures) } else { failures }
 }
 
 // Why a file was not fetched, by the kind of the error.
@@ -97,7 +97,7 @@ impl<'r, R: Files> Shelf for FileShelf<'r, R> {
         } else {
             Err(FetchErr::Memory)
         };
-        self.failures = counted(self.failures, answer.is_err());
+        self.failures = failures_after(self.failures, answer.is_err());
         answer
     }
 }

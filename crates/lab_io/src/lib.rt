@@ -5,6 +5,7 @@ ghost use Rattle.std.specs.Prelude.{◌≡◌, [], IsOk, IsErrOf};
 ghost use Rattle.lab_io.specs.Shelf.{Fetches, Shelved, fetched_as};
 ghost use Rattle.lab_io.specs.Sink.{Puts, Seen};
 
+mod batch;
 mod files;
 mod memory;
 mod streams;
@@ -12,6 +13,7 @@ mod streams;
 mod tests;
 mod text;
 
+pub use batch::Batch;
 pub use files::FileShelf;
 pub use memory::{MemShelf, MemSink, SureSink};
 use std::alloc::Global;

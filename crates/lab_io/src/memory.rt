@@ -9,7 +9,7 @@ use std::alloc::Global;
 use std::marker::Model;
 
 // Counts stay at their last value.
-pub(crate) fn raised(count: u64) -> u64
+pub(crate) fn one_more(count: u64) -> u64
     ensures { result ≡ one_more count }
 {
     count.saturating_add(1)
@@ -125,13 +125,13 @@ impl Shelf for MemShelf {
         if !note_call(alloc, &mut self.asked, name, most) {
             return Err(FetchErr::Memory);
         }
-        self.calls = raised(self.calls);
+        self.calls = one_more(self.calls);
         if stands_in(&self.failing, self.calls) {
-            self.failed = raised(self.failed);
+            self.failed = one_more(self.failed);
             return Err(FetchErr::Failed);
         }
         let Some(file) = file_named(&self.files, name) else {
-            self.lacking = raised(self.lacking);
+            self.lacking = one_more(self.lacking);
             return Err(FetchErr::Failed);
         };
         first_bytes(alloc, file, most)
@@ -211,16 +211,16 @@ impl Sink for MemSink {
         ensures empty { bytes.now ≡ [] → IsOk result }
         ensures exact { MemPuts self.old bytes.now self.new result }
     {
-        self.calls = raised(self.calls);
+        self.calls = one_more(self.calls);
         if bytes.is_empty() {
             return Ok(());
         }
         if stands_in(&self.failing, self.calls) {
-            self.faults = raised(self.faults);
+            self.faults = one_more(self.faults);
             return Err(PutErr::Failed);
         }
         if !append(&mut self.written, bytes) {
-            self.wants = raised(self.wants);
+            self.wants = one_more(self.wants);
             return Err(PutErr::Memory);
         }
         Ok(())
@@ -274,7 +274,7 @@ impl Sink for SureSink {
             return Ok(());
         }
         if !append(&mut self.written, bytes) {
-            self.wants = raised(self.wants);
+            self.wants = one_more(self.wants);
             return Err(PutErr::Memory);
         }
         Ok(())

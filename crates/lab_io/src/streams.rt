@@ -5,7 +5,7 @@ ghost use Rattle.lab_io.specs.Edge.{Stream, StreamPuts, Takes, Waits, stream_see
 ghost use Rattle.lab_io.specs.Memory.{one_more};
 ghost use Rattle.lab_io.specs.Sink.{Puts};
 
-use crate::files::counted;
+use crate::files::failures_after;
 use crate::{PutErr, Sink};
 use arrayvec::ArrayVec;
 use std::io::{ErrorKind, Write};
@@ -124,7 +124,7 @@ impl<W: Write + Drop> Sink for StreamSink<W> {
             return Ok(());
         }
         let done = self.take_piece(bytes) && (!bytes.ends_with(b"\n") || self.finish_line());
-        self.failures = counted(self.failures, !done);
+        self.failures = failures_after(self.failures, !done);
         if done { Ok(()) } else { Err(PutErr::Failed) }
     }
 }

@@ -1,6 +1,6 @@
 // Each public call once, at numbers and failures taken from the rules by hand.
 use crate::{
-    FetchErr, MemShelf, MemSink, Piece, PutErr, Shelf, Sink, SureSink, put_fields, put_line,
+    Batch, FetchErr, MemShelf, MemSink, Piece, PutErr, Shelf, Sink, SureSink, put_fields, put_line,
     put_number, put_pieces, put_text,
 };
 use std::test::Fail;
@@ -72,5 +72,29 @@ fn numbers_and_words(rt: HostRuntime) -> Result<(), Fail> {
     let text = "0;-1;18446744073709551615;-18446744073709551616;\
         170141183460469231731687303715884105727;-170141183460469231731687303715884105728; end\nV4stall 12 ms\n";
     assert_eq!(rt; out.written(), text.as_bytes());
+    Ok(())
+}
+
+#[test]
+fn a_batch_that_fills(rt: HostRuntime) -> Result<(), Fail> {
+    let mut out = SureSink::new(rt.alloc());
+    let mut plain = SureSink::new(rt.alloc());
+    let mut batch = Batch::new();
+    for n in -500i64..1500 {
+        batch.put_number(&mut out, n)?;
+        batch.put_text(&mut out, " ")?;
+        put_pieces(
+            &mut plain,
+            &[Piece::Number(i128::from(n)), Piece::Word(" ")],
+        )?;
+    }
+    let long = "x".repeat(rt.alloc(), 5000)?;
+    batch.put_text(&mut out, &long)?;
+    put_text(&mut plain, &long)?;
+    batch.put_text(&mut out, "y")?;
+    put_text(&mut plain, "y")?;
+    assert!(rt; out.written() != plain.written());
+    batch.finish(&mut out)?;
+    assert_eq!(rt; out.written(), plain.written());
     Ok(())
 }

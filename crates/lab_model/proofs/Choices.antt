@@ -1,5 +1,5 @@
 -- Each rule chooses a rung of the film that it is asked about.
-use Rattle.std.proofs.Common.{ℕ, zero, suc, ◌-◌, ◌<◌, ◌≤◌, List, [], ◌∷◌, length, get_or, Bool, cond, Some, None, find, ltb, sym, ◌∙◌, ap, add-one, arith}
+use Rattle.std.proofs.Common.{ℕ, zero, suc, ◌-◌, ◌<◌, ◌≤◌, List, [], ◌∷◌, get_or, Bool, cond, Some, find, sym, ◌∙◌, ap, add-one, arith}
 use Rattle.std.specs.List.{All, fold, flat_map}
 use Rattle.std.specs.Option.{unwrap_or}
 use Rattle.std.specs.Prelude.{ℤ, int_lt, min, map, slice_index}

@@ -4,7 +4,7 @@ use Rattle.std.proofs.lemmas.List.{get_or-take, get_or-drop, get_or_default, len
 use Rattle.std.proofs.lemmas.Nat.{row_fits}
 use Rattle.std.proofs.lemmas.Bool.{cond_both}
 use Rattle.std.proofs.lemmas.Bool.Decides.{nat_tests}
-use Rattle.lab_model.specs.Film.{IsWithin}
+use Rattle.lab_model.specs.Film.{IsWithin, most_rungs}
 use Rattle.lab_model.specs.Row.{AreWeights, IsRow, row_of}
 use Rattle.lab_model.specs.Weighing.{HasUtility, IsWeighing, Weighing, row_no, utility_of, weighing}
 
@@ -72,7 +72,7 @@ row_alone us row low =
     ap (λ m. take (m + length us - m) (drop m us)) first ∙ take_all (0 + length us - 0) us (omega arith)
 
 -- a row of 1 to 16 utilities and three weights within their limits are weights
-pub weighing_within : (us : List ℕ) (switch stall startup : ℕ) → IsWithin 1 16 (length us) → IsRow us → AreWeights switch stall startup → IsWeighing (weighing us switch stall startup)
+pub weighing_within : (us : List ℕ) (switch stall startup : ℕ) → IsWithin 1 most_rungs (length us) → IsRow us → AreWeights switch stall startup → IsWeighing (weighing us switch stall startup)
 weighing_within us switch stall startup few is weights = record {
   utilities = record {
     count_fits = few;

@@ -7,6 +7,14 @@ use Rattle.std.specs.List.Sorted.{IsStrictlyIncreasing}
 abbrev pub IsWithin : ℕ → ℕ → ℕ → Type 0
 IsWithin low high n = (low ≤ n) × (n ≤ high)
 
+-- the most segments of a film
+abbrev pub most_segments : ℕ
+most_segments = 2000
+
+-- the most rungs of a ladder
+abbrev pub most_rungs : ℕ
+most_rungs = 16
+
 -- a manifest: the segment duration in ms, the bitrate of each rung in kbps, the sizes in bits, segment by segment and in each rung by rung
 pub record Film : Type 0 where
   pub seg_ms : ℕ
@@ -36,9 +44,9 @@ size_of f segment rung = slice_index f.sizes (segment * rungs_of f + rung)
 -- the limits of a manifest
 pub record IsFilm (f : Film) : Type 0 where
   pub seg_ms : IsWithin 1 60000 f.seg_ms
-  pub rungs : IsWithin 1 16 (rungs_of f)
+  pub rungs : IsWithin 1 most_rungs (rungs_of f)
   pub rising : IsStrictlyIncreasing f.bitrates
   pub bitrates : All (IsWithin 1 10000000) f.bitrates
   pub whole : length f.sizes ≡ segments_of f * rungs_of f
-  pub segments : IsWithin 1 2000 (segments_of f)
+  pub segments : IsWithin 1 most_segments (segments_of f)
   pub sizes : All (IsWithin 1 200000000) f.sizes

@@ -16,3 +16,5 @@ pub mod Mpc
 pub mod Choice
 pub mod Reading
 pub mod Kinds
+pub mod Steps
+pub mod OptionSteps

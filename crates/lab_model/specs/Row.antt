@@ -1,7 +1,7 @@
 -- Rows of utilities, and the three weights beside them, within their limits.
 use Rattle.std.specs.Prelude.{◌≡◌, ℕ, ◌+◌, ◌*◌, ◌<◌, ◌≤◌, List, length, max, slice_index}
 use Rattle.std.specs.List.{All, slice_range}
-use Rattle.lab_model.specs.Film.{IsWithin}
+use Rattle.lab_model.specs.Film.{IsWithin, most_rungs, most_segments}
 
 -- a row of utilities within its limits: each is 0 to 1000000, and along the rungs they do not fall
 pub record IsRow (row : List ℕ) : Type 0 where
@@ -18,8 +18,8 @@ AreRows utilities count rows = (row : ℕ) → row < rows → IsRow (row_of util
 
 -- the utilities of weights: `rows` rows of 1 to 16, at most 2000 of them, or where `rows` is 0 one row that is every segment's
 pub record AreUtilities (utilities : List ℕ) (count rows : ℕ) : Type 0 where
-  pub count_fits : IsWithin 1 16 count
-  pub rows_fit : rows ≤ 2000
+  pub count_fits : IsWithin 1 most_rungs count
+  pub rows_fit : rows ≤ most_segments
   pub whole : length utilities ≡ max rows 1 * count
   pub each : AreRows utilities count (max rows 1)
 

@@ -16,13 +16,18 @@ mod weights;
 pub use context::{Context, NoMemory, Played, Seek};
 pub use fault::{InputFault, Key, Kind, Refusal};
 pub use label::Label;
-pub use manifest::Manifest;
+pub use manifest::{
+    MOST_BITRATE_KBPS, MOST_RUNGS, MOST_SEGMENT_BITS, MOST_SEGMENT_MS, MOST_SEGMENTS, Manifest,
+};
 pub use number::{ceil_div, cmp_fraction, floor_mean, harmonic};
 pub use rule::Rule;
 pub use sample::Sample;
-pub use setup::Setup;
-pub use trace::{Period, Trace};
-pub use weights::Weights;
+pub use setup::{MOST_BUFFER_MS, Setup};
+pub use trace::{
+    MOST_BANDWIDTH_KBPS, MOST_CYCLE_MS, MOST_DURATION_MS, MOST_LATENCY_MS, MOST_PERIODS, Period,
+    Trace,
+};
+pub use weights::{MOST_UTILITY, MOST_WEIGHT, Weights};
 
 #[cfg(test)]
 mod tests;

@@ -4,9 +4,24 @@ ghost use Rattle.std.specs.Prelude.{◌≡◌, ℕ, ◌+◌, ◌*◌, ◌/◌, �
 ghost use Rattle.std.specs.List.{All};
 ghost use Rattle.std.specs.List.Sorted.{IsStrictlyIncreasing};
 ghost use Rattle.lab_model.specs.Ladder.{greatest_rung};
-ghost use Rattle.lab_model.specs.Film.{IsFilm, IsWithin, bitrate_of, film, rungs_of, segments_of, size_of};
+ghost use Rattle.lab_model.specs.Film.{IsFilm, IsWithin, bitrate_of, film, most_rungs, most_segments, rungs_of, segments_of, size_of};
 
 use std::marker::Model;
+
+/// The longest segment, in milliseconds.
+pub const MOST_SEGMENT_MS: u32 = 60_000;
+
+/// The greatest bitrate, in kbps.
+pub const MOST_BITRATE_KBPS: u32 = 10_000_000;
+
+/// The largest segment, in bits.
+pub const MOST_SEGMENT_BITS: u32 = 200_000_000;
+
+/// The most segments of a film.
+pub const MOST_SEGMENTS: usize = 2000;
+
+/// The most rungs of a ladder.
+pub const MOST_RUNGS: usize = 16;
 
 /// A manifest within its limits: a segment duration of 1 to 60000 ms, 1 to 16 strictly rising bitrates
 /// of 1 to 10000000 kbps, and 1 to 2000 segments with sizes of 1 to 200000000 bits on each rung.
@@ -51,31 +66,31 @@ fn is_rising(numbers: &[u32]) -> bool
 }
 
 fn is_ladder(bitrates: &[u32]) -> bool
-    ensures { IsTrue result ↔ (IsWithin 1 16 (length bitrates.now)
+    ensures { IsTrue result ↔ (IsWithin 1 most_rungs (length bitrates.now)
         × IsStrictlyIncreasing bitrates.now × All (IsWithin 1 10000000) bitrates.now) }
 {
     !bitrates.is_empty()
-        && bitrates.len() <= 16
+        && bitrates.len() <= MOST_RUNGS
         && is_rising(bitrates)
-        && are_within(1, 10_000_000, bitrates)
+        && are_within(1, MOST_BITRATE_KBPS, bitrates)
 }
 
 fn are_rows(sizes: &[u32], rungs: usize) -> bool
-    requires { IsWithin 1 16 rungs }
+    requires { IsWithin 1 most_rungs rungs }
     ensures { IsTrue result ↔ ((length sizes.now ≡ length sizes.now / rungs * rungs)
-        × IsWithin 1 2000 (length sizes.now / rungs) × All (IsWithin 1 200000000) sizes.now) }
+        × IsWithin 1 most_segments (length sizes.now / rungs) × All (IsWithin 1 200000000) sizes.now) }
 {
     let segments = sizes.len() / rungs;
     sizes.len() % rungs == 0
         && 1 <= segments
-        && segments <= 2000
-        && are_within(1, 200_000_000, sizes)
+        && segments <= MOST_SEGMENTS
+        && are_within(1, MOST_SEGMENT_BITS, sizes)
 }
 
 fn is_film(seg_ms: u32, bitrates: &[u32], sizes: &[u32]) -> bool
     ensures { IsTrue result ↔ IsFilm (film seg_ms bitrates.now sizes.now) }
 {
-    is_within(1, 60_000, seg_ms) && is_ladder(bitrates) && are_rows(sizes, bitrates.len())
+    is_within(1, MOST_SEGMENT_MS, seg_ms) && is_ladder(bitrates) && are_rows(sizes, bitrates.len())
 }
 
 impl Manifest {

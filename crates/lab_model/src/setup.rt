@@ -18,7 +18,7 @@ pub struct Setup {
 }
 
 /// The most media that a player may hold ahead, in milliseconds.
-const MOST_BUFFER_MS: u32 = 10_000_000;
+pub const MOST_BUFFER_MS: u32 = 10_000_000;
 
 impl Setup {
     /// Whether the buffer is between the segment duration and 10000000 ms.

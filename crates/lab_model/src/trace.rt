@@ -17,6 +17,21 @@ pub struct Period {
     pub latency: u32,
 }
 
+/// The longest period, in milliseconds.
+pub const MOST_DURATION_MS: u32 = 10_000_000;
+
+/// The greatest bandwidth, in kbps.
+pub const MOST_BANDWIDTH_KBPS: u32 = 10_000_000;
+
+/// The greatest latency, in milliseconds.
+pub const MOST_LATENCY_MS: u32 = 10_000;
+
+/// The most periods of a trace.
+pub const MOST_PERIODS: usize = 100_000;
+
+/// The longest cycle, in milliseconds.
+pub const MOST_CYCLE_MS: u32 = 100_000_000;
+
 /// A trace within its limits: 1 to 100000 periods, a cycle of at most 100000000 ms, and at least one bit
 /// per millisecond of the cycle on the mean. After the last period the first comes again.
 #[derive(Drop)]
@@ -40,9 +55,9 @@ fn is_period(p: &Period) -> bool
     ensures { IsTrue result ↔ IsPeriod p.now }
 {
     1 <= p.duration_ms
-        && p.duration_ms <= 10_000_000
-        && p.bandwidth <= 10_000_000_000
-        && p.latency <= 10_000
+        && p.duration_ms <= MOST_DURATION_MS
+        && p.bandwidth <= 1000 * u64::from(MOST_BANDWIDTH_KBPS)
+        && p.latency <= MOST_LATENCY_MS
 }
 
 fn are_periods(periods: &[Period]) -> bool
@@ -78,11 +93,11 @@ fn capacity_of(periods: &[Period]) -> u64
 fn is_trace(periods: &[Period]) -> bool
     ensures { IsTrue result ↔ IsTrace periods.now }
 {
-    if periods.is_empty() || periods.len() > 100_000 || !are_periods(periods) {
+    if periods.is_empty() || periods.len() > MOST_PERIODS || !are_periods(periods) {
         return false;
     }
     let cycle = duration_of(periods);
-    cycle <= 100_000_000 && 1000 * cycle <= capacity_of(periods)
+    cycle <= u64::from(MOST_CYCLE_MS) && 1000 * cycle <= capacity_of(periods)
 }
 
 impl Trace {

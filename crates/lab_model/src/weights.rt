@@ -2,10 +2,11 @@
 
 ghost use Rattle.std.specs.Prelude.{◌≡◌, ℕ, ◌+◌, ◌*◌, ◌<◌, ◌≤◌, ◌↔◌, IfSome, IfNone, IsTrue, length, max, slice_index};
 ghost use Rattle.std.specs.List.{All};
-ghost use Rattle.lab_model.specs.Film.{IsWithin};
+ghost use Rattle.lab_model.specs.Film.{IsWithin, most_rungs, most_segments};
 ghost use Rattle.lab_model.specs.Row.{AreRows, AreUtilities, AreWeights, IsRow};
 ghost use Rattle.lab_model.specs.Weighing.{HasUtility, IsWeighing, change_of, row_no, table_weighing, utility_of, weighing};
 
+use crate::manifest::{MOST_RUNGS, MOST_SEGMENTS};
 use std::marker::Model;
 
 /// Utilities by segment and rung, and the weights of switches, stalls and startup. The utilities of a segment
@@ -44,19 +45,16 @@ impl Model for Weights {
     }) };
 }
 
-/// The most utilities of a row.
-const MOST_RUNGS: usize = 16;
+/// The greatest utility, in points.
+pub const MOST_UTILITY: u32 = 1_000_000;
 
-/// The most rows of a table.
-const MOST_ROWS: usize = 2000;
-
-/// The greatest utility, and the greatest weight.
-const GREATEST: u32 = 1_000_000;
+/// The greatest weight.
+pub const MOST_WEIGHT: u32 = 1_000_000;
 
 fn are_small(row: &[u32]) -> bool
     ensures { IsTrue result ↔ All (λ u. u ≤ 1000000) row.now }
 {
-    row.iter().all(|u| *u <= GREATEST)
+    row.iter().all(|u| *u <= MOST_UTILITY)
 }
 
 fn never_falls(row: &[u32]) -> bool
@@ -79,8 +77,8 @@ fn is_row(row: &[u32]) -> bool
 
 fn are_rows(utilities: &[u32], count: usize, rows: usize) -> bool
     requires whole { length utilities.now ≡ rows * count }
-    requires few { count ≤ 16 }
-    requires most { rows ≤ 2000 }
+    requires few { count ≤ most_rungs }
+    requires most { rows ≤ most_segments }
     ensures { IsTrue result ↔ AreRows utilities.now count rows }
 {
     for row in 0..rows {
@@ -92,9 +90,9 @@ fn are_rows(utilities: &[u32], count: usize, rows: usize) -> bool
 }
 
 fn has_shape(len: usize, count: usize, rows: usize) -> bool
-    ensures { IsTrue result ↔ (IsWithin 1 16 count × (rows ≤ 2000) × (len ≡ max rows 1 * count)) }
+    ensures { IsTrue result ↔ (IsWithin 1 most_rungs count × (rows ≤ most_segments) × (len ≡ max rows 1 * count)) }
 {
-    1 <= count && count <= MOST_RUNGS && rows <= MOST_ROWS && len == rows.max(1) * count
+    1 <= count && count <= MOST_RUNGS && rows <= MOST_SEGMENTS && len == rows.max(1) * count
 }
 
 fn are_utilities(utilities: &[u32], count: usize, rows: usize) -> bool
@@ -106,7 +104,7 @@ fn are_utilities(utilities: &[u32], count: usize, rows: usize) -> bool
 fn are_weights(switch: u32, stall: u32, startup: u32) -> bool
     ensures { IsTrue result ↔ AreWeights switch stall startup }
 {
-    switch <= GREATEST && stall <= GREATEST && startup <= GREATEST
+    switch <= MOST_WEIGHT && stall <= MOST_WEIGHT && startup <= MOST_WEIGHT
 }
 
 impl Weights {

@@ -1,11 +1,11 @@
 -- A manifest that was read is a film.
 use Rattle.std.proofs.Common.{◌≡◌, ℕ, List, length, Ok, refl, subst}
 use Rattle.serde_json.specs.Data.{Data}
-use Rattle.json_fields.proofs.Answers.{then_ok}
+use Rattle.lab_model.proofs.Steps.{then_ok}
 use Rattle.lab_model.specs.Film.{Film, IsFilm, film}
 use Rattle.manifest_reader.specs.Manifest.{bitrates_of, film_of, manifest_of, seg_ms_of, sizes_of, whole_of}
 use Rattle.manifest_reader.proofs.Limits.{parts-film}
-use Rattle.json_fields.specs.Fields.{◌>>=◌}
+use Rattle.lab_model.specs.Steps.{◌>>=◌}
 
 film_of-limits : (d : Data) (f : Film) → film_of d ≡ Ok f → IsFilm f
 film_of-limits d f h =

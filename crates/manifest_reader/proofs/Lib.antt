@@ -1,4 +1,3 @@
-pub mod Refusals
 pub mod Rising
 pub mod Sizes
 pub mod Limits

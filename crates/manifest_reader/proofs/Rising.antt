@@ -2,13 +2,15 @@
 use Rattle.std.proofs.Common.{◌≡◌, ◌+◌, ◌<◌, ℕ, zero, suc, nat_lt, List, [], ◌∷◌, Option, Some, None, Ok, get_or, refl, subst, add-one, arith}
 use Rattle.std.proofs.lemmas.Bool.Decides.{nat_tests}
 use Rattle.std.specs.List.Sorted.{IsStrictlyIncreasing}
-use Rattle.serde_json.specs.Data.{Data, Items, no_items, item}
-use Rattle.json_fields.specs.Fields.{◌>>=◌, number_of}
-use Rattle.json_fields.specs.Each.{each_after}
-use Rattle.json_fields.proofs.Answers.{test_ok, then_ok}
+use Rattle.serde_json.specs.Data.{Data}
+use Rattle.json_fields.specs.Fields.{number_of}
+use Rattle.lab_model.specs.Steps.{◌>>=◌}
+use Rattle.reader_faults.specs.Each.{each_after}
+use Rattle.lab_model.proofs.Steps.{test_ok, then_ok}
 use Rattle.lab_model.specs.declared.fault.Kind.TheVariants as kind
 use Rattle.lab_model.specs.declared.fault.Key.TheVariants as key
-use Rattle.manifest_reader.specs.Faults.{placed, refusal}
+use Rattle.lab_model.specs.Reading.{refusal}
+use Rattle.reader_faults.specs.Faults.{value_at}
 use Rattle.manifest_reader.specs.Manifest.{above, bitrate_in}
 
 -- above the one before, where there is one
@@ -25,20 +27,20 @@ Rises before (x ∷ xs) = IsAbove before x × Rises (Some x) xs
 pub above-ok : (before : Option ℕ) (column m n : ℕ) → above before column m ≡ Ok n → IsAbove before n × (m ≡ n)
 above-ok None column m n h = (tt, cc)
 above-ok (Some b) column m n h =
-    let t = test_ok (nat_lt b m) m n (refusal kind.Order key.Bitrates 0 column) h in
-    (grind (arith, nat_tests, t.0, t.1), t.1)
+    let t = test_ok (nat_lt b m) (Ok m) n (refusal kind.Order key.Bitrates 0 column) h in
+    let same : m ≡ n = cc in (grind (arith, nat_tests, t.0, same), same)
 
 -- a bitrate that was read is greater than the one before it
 pub bitrate_in-above : (before : Option ℕ) (column : ℕ) (d : Data) (n : ℕ) → bitrate_in before column d ≡ Ok n → IsAbove before n
 bitrate_in-above before column d n h =
-    let m = then_ok (placed key.Bitrates 0 column (number_of 1 10000000 d)) (above before column) n h in
+    let m = then_ok (value_at key.Bitrates 0 column (number_of 1 10000000 d)) (above before column) n h in
     (above-ok before column m.0 n m.2).0
 
 -- of bitrates that were read, each is greater than the one before it
-pub each-rises : (before : Option ℕ) (column : ℕ) (ds : Items) (xs : List ℕ) → each_after bitrate_in before column ds ≡ Ok xs → Rises before xs
+pub each-rises : (before : Option ℕ) (column : ℕ) (ds : List Data) (xs : List ℕ) → each_after bitrate_in before column ds ≡ Ok xs → Rises before xs
 unfolding each_after
-each-rises before column no_items xs h = let e : [] ≡ xs = cc in subst (Rises before) e tt
-each-rises before column (item d ds) xs h =
+each-rises before column [] xs h = let e : [] ≡ xs = cc in subst (Rises before) e tt
+each-rises before column (d ∷ ds) xs h =
     let one = then_ok (bitrate_in before column d) (λ x. each_after bitrate_in (Some x) (column + 1) ds >>= (λ ys. Ok (x ∷ ys))) xs h in
     let rest = then_ok (each_after bitrate_in (Some one.0) (column + 1) ds) (λ ys. Ok (one.0 ∷ ys)) xs one.2 in
     let e : one.0 ∷ rest.0 ≡ xs = cc in

@@ -6,74 +6,29 @@
 //! keys are passed over. The keys are tested in this order, and each list from its first member on.
 #![tactic(auto)]
 
-ghost use Rattle.std.specs.Prelude.{◌≡◌, ◌∷◌, ◌++◌, [], ◌≤◌, IfOk, IfErr, OnOk, None, length};
-ghost use Rattle.serde_json.specs.View.{view, items_view};
+ghost use Rattle.std.specs.Prelude.{◌≡◌, ◌∷◌, ◌++◌, [], ◌≤◌, IfOk, IfErr, OnOk, None, length, map};
+ghost use Rattle.serde_json.specs.View.{view};
 ghost use Rattle.std.specs.List.{concat};
-ghost use Rattle.json_fields.specs.Fields.{map_ok};
-ghost use Rattle.json_fields.specs.Each.{each_after, each_of};
-ghost use Rattle.manifest_reader.specs.Faults.{kind_of, placed, refusal, Gives};
-ghost use Rattle.manifest_reader.specs.Manifest.{bitrate_in, bitrates_of, counted, counted_list, film_of, manifest_of, row_in, row_members, seg_ms_of, shaped, size_in, sizes_of, whole_of};
+ghost use Rattle.lab_model.specs.Film.{most_rungs, most_segments};
+ghost use Rattle.lab_model.specs.Reading.{Gives};
+ghost use Rattle.lab_model.specs.Steps.{map_ok};
+ghost use Rattle.reader_faults.specs.Each.{each_after, each_from};
+ghost use Rattle.manifest_reader.specs.Manifest.{bitrate_in, bitrates_of, members_at, film_of, manifest_of, row_in, row_members, seg_ms_of, row_of_width, size_in, sizes_of, whole_of};
 
-use json_fields::{Fault, ReadErr};
-use lab_model::{InputFault, Key, Kind, Manifest, Refusal};
+use lab_model::{
+    InputFault, Key, Kind, MOST_BITRATE_KBPS, MOST_RUNGS, MOST_SEGMENT_BITS, MOST_SEGMENT_MS,
+    MOST_SEGMENTS, Manifest,
+};
+use reader_faults::{members_within, refusal, value_at, whole_value};
 use serde_json::Value;
 use std::alloc::Global;
-
-/// The most bitrates of a manifest.
-const MOST_BITRATES: usize = 16;
-/// The most segments of a manifest.
-const MOST_SEGMENTS: usize = 2000;
-
-/// What a fault of a value is called.
-fn kind_of(fault: Fault) -> Kind
-    ensures { result ≡ kind_of fault }
-{
-    match fault {
-        Fault::NotJson => Kind::NotJson,
-        Fault::MissingKey => Kind::MissingKey,
-        Fault::WrongKind => Kind::WrongKind,
-        Fault::NotWhole => Kind::NotWhole,
-        Fault::OutOfRange => Kind::OutOfRange,
-    }
-}
-
-/// A refusal at a key, a row and a column.
-fn refused(kind: Kind, key: Key, row: u32, column: u32) -> InputFault
-    ensures { result ≡ InputFault.Refused (refusal kind key row column) }
-{
-    InputFault::Refused(Refusal {
-        kind,
-        key,
-        row,
-        column,
-    })
-}
-
-/// The value, or its fault with its place.
-fn placed<T: Drop>(
-    answer: Result<T, Fault>,
-    key: Key,
-    row: u32,
-    column: u32,
-) -> Result<T, InputFault>
-    ensures { Gives (λ x. x) result (placed key row column answer) }
-{
-    match answer {
-        Ok(value) => Ok(value),
-        Err(fault) => Err(refused(kind_of(fault), key, row, column)),
-    }
-}
 
 /// The object that the bytes are.
 fn whole_object(alloc: Global, bytes: &[u8]) -> Result<Value, InputFault>
     ensures { Gives view result (whole_of bytes.now) }
 {
-    let value = match json_fields::json_value(alloc, bytes) {
-        Ok(value) => value,
-        Err(ReadErr::Memory) => return Err(InputFault::Memory),
-        Err(ReadErr::Fault(fault)) => return Err(refused(kind_of(fault), Key::Whole, 0, 0)),
-    };
-    placed(json_fields::object_from(&value), Key::Whole, 0, 0)?;
+    let value = whole_value(alloc, bytes)?;
+    value_at(json_fields::object_from(&value), Key::Whole, 0, 0)?;
     Ok(value)
 }
 
@@ -81,63 +36,49 @@ fn whole_object(alloc: Global, bytes: &[u8]) -> Result<Value, InputFault>
 fn seg_ms_of(object: &Value) -> Result<u32, InputFault>
     ensures { Gives (λ n. n) result (seg_ms_of (view object.now)) }
 {
-    placed(
-        json_fields::number_under(object, "segment_duration_ms", 1, 60_000),
+    value_at(
+        json_fields::number_under(object, "segment_duration_ms", 1, MOST_SEGMENT_MS),
         Key::SegmentDuration,
         0,
         0,
     )
 }
 
-/// A list, if it has 1 to `most` members.
-fn counted(values: &[Value], key: Key, most: usize) -> Result<&[Value], InputFault>
-    ensures list { Gives (λ v. items_view v.now) result (counted key most (items_view values.now)) }
-    ensures most { IfOk result (λ v. length v.now ≤ most) }
-{
-    if values.is_empty() {
-        return Err(refused(Kind::Empty, key, 0, 0));
-    }
-    if values.len() > most {
-        return Err(refused(Kind::OutOfRange, key, 0, 0));
-    }
-    Ok(values)
-}
-
 /// The list of 1 to `most` members under a key.
-fn counted_list<'a>(
+fn members_at<'a>(
     object: &'a Value,
     name: &str,
     key: Key,
     most: usize,
 ) -> Result<&'a [Value], InputFault>
-    ensures list { Gives (λ v. items_view v.now) result
-        (counted_list key name.now most (view object.now)) }
+    ensures list { Gives (λ v. map view v.now) result
+        (members_at key name.now most (view object.now)) }
     ensures most { IfOk result (λ v. length v.now ≤ most) }
 {
-    let values = placed(json_fields::list_under(object, name), key, 0, 0)?;
-    counted(values, key, most)
+    let values = value_at(json_fields::list_under(object, name), key, 0, 0)?;
+    members_within(values, key, most)
 }
 
 /// The bitrate in a column, which is greater than the one before.
 fn bitrate_in(value: &Value, before: Option<u32>, column: u32) -> Result<u32, InputFault>
     ensures { Gives (λ n. n) result (bitrate_in before column (view value.now)) }
 {
-    let bitrate = placed(
-        json_fields::number_from(value, 1, 10_000_000),
+    let bitrate = value_at(
+        json_fields::number_from(value, 1, MOST_BITRATE_KBPS),
         Key::Bitrates,
         0,
         column,
     )?;
     match before {
-        Some(before) if bitrate <= before => Err(refused(Kind::Order, Key::Bitrates, 0, column)),
+        Some(before) if bitrate <= before => Err(refusal(Kind::Order, Key::Bitrates, 0, column)),
         _ => Ok(bitrate),
     }
 }
 
 /// The rising bitrates of a list.
 fn rising_bitrates(alloc: Global, values: &[Value]) -> Result<Vec<u32>, InputFault>
-    requires { length values.now ≤ 2000 }
-    ensures { Gives (λ v. v.items) result (each_after bitrate_in None 1 (items_view values.now)) }
+    requires { length values.now ≤ most_segments }
+    ensures { Gives (λ v. v.items) result (each_after bitrate_in None 1 (map view values.now)) }
 {
     let mut bitrates = Vec::new(alloc);
     let mut before = None;
@@ -153,7 +94,7 @@ fn rising_bitrates(alloc: Global, values: &[Value]) -> Result<Vec<u32>, InputFau
 fn bitrates_of(alloc: Global, object: &Value) -> Result<Vec<u32>, InputFault>
     ensures { Gives (λ v. v.items) result (bitrates_of (view object.now)) }
 {
-    let values = counted_list(object, "bitrates_kbps", Key::Bitrates, MOST_BITRATES)?;
+    let values = members_at(object, "bitrates_kbps", Key::Bitrates, MOST_RUNGS)?;
     rising_bitrates(alloc, values)
 }
 
@@ -161,8 +102,8 @@ fn bitrates_of(alloc: Global, object: &Value) -> Result<Vec<u32>, InputFault>
 fn size_in(value: &Value, row: u32, column: u32) -> Result<u32, InputFault>
     ensures { Gives (λ n. n) result (size_in row column (view value.now)) }
 {
-    placed(
-        json_fields::number_from(value, 1, 200_000_000),
+    value_at(
+        json_fields::number_from(value, 1, MOST_SEGMENT_BITS),
         Key::SegmentSizes,
         row,
         column,
@@ -171,9 +112,9 @@ fn size_in(value: &Value, row: u32, column: u32) -> Result<u32, InputFault>
 
 /// Appends the sizes of a row.
 fn push_sizes(sizes: &mut Vec<u32>, values: &[Value], row: u32) -> Result<(), InputFault>
-    requires { length values.now ≤ 16 }
+    requires { length values.now ≤ most_rungs }
     ensures { Gives (λ _. sizes.new.items) result
-        (map_ok (λ xs. sizes.old.items ++ xs) (each_of (size_in row) (items_view values.now))) }
+        (map_ok (λ xs. sizes.old.items ++ xs) (each_from (size_in row) 1 (map view values.now))) }
 {
     for (i, value) in values.iter().enumerate() {
         let size = size_in(value, row, i as u32 + 1)?;
@@ -183,29 +124,29 @@ fn push_sizes(sizes: &mut Vec<u32>, values: &[Value], row: u32) -> Result<(), In
 }
 
 /// A list, if it has a member for each rung.
-fn shaped(values: &[Value], rungs: usize, row: u32) -> Result<&[Value], InputFault>
-    ensures list { Gives (λ v. items_view v.now) result (shaped rungs row (items_view values.now)) }
+fn row_of_width(values: &[Value], rungs: usize, row: u32) -> Result<&[Value], InputFault>
+    ensures list { Gives (λ v. map view v.now) result (row_of_width rungs row (map view values.now)) }
     ensures count { IfOk result (λ v. length v.now ≡ rungs) }
 {
     if values.len() == rungs {
         Ok(values)
     } else {
-        Err(refused(Kind::Shape, Key::SegmentSizes, row, 0))
+        Err(refusal(Kind::Shape, Key::SegmentSizes, row, 0))
     }
 }
 
 /// The members of a row, one for each rung.
 fn row_members(value: &Value, rungs: usize, row: u32) -> Result<&[Value], InputFault>
-    ensures list { Gives (λ v. items_view v.now) result (row_members rungs row (view value.now)) }
+    ensures list { Gives (λ v. map view v.now) result (row_members rungs row (view value.now)) }
     ensures count { IfOk result (λ v. length v.now ≡ rungs) }
 {
-    let values = placed(json_fields::list_from(value), Key::SegmentSizes, row, 0)?;
-    shaped(values, rungs, row)
+    let values = value_at(json_fields::list_from(value), Key::SegmentSizes, row, 0)?;
+    row_of_width(values, rungs, row)
 }
 
 /// Appends a row, which is a list of a size for each rung.
 fn push_row(sizes: &mut Vec<u32>, value: &Value, rungs: usize, row: u32) -> Result<(), InputFault>
-    requires { rungs ≤ 16 }
+    requires { rungs ≤ most_rungs }
     ensures { Gives (λ _. sizes.new.items) result
         (map_ok (λ xs. sizes.old.items ++ xs) (row_in rungs row (view value.now))) }
 {
@@ -215,10 +156,10 @@ fn push_row(sizes: &mut Vec<u32>, value: &Value, rungs: usize, row: u32) -> Resu
 
 /// The sizes of a list of rows, one row after the other.
 fn all_sizes(alloc: Global, values: &[Value], rungs: usize) -> Result<Vec<u32>, InputFault>
-    requires count { length values.now ≤ 2000 }
-    requires rungs { rungs ≤ 16 }
+    requires count { length values.now ≤ most_segments }
+    requires rungs { rungs ≤ most_rungs }
     ensures { Gives (λ v. v.items) result
-        (map_ok concat (each_of (row_in rungs) (items_view values.now))) }
+        (map_ok concat (each_from (row_in rungs) 1 (map view values.now))) }
 {
     let mut sizes = Vec::new(alloc);
     for (i, value) in values.iter().enumerate() {
@@ -229,10 +170,10 @@ fn all_sizes(alloc: Global, values: &[Value], rungs: usize) -> Result<Vec<u32>, 
 
 /// The sizes, segment by segment and in each rung by rung.
 fn sizes_of(alloc: Global, object: &Value, rungs: usize) -> Result<Vec<u32>, InputFault>
-    requires { rungs ≤ 16 }
+    requires { rungs ≤ most_rungs }
     ensures { Gives (λ v. v.items) result (sizes_of rungs (view object.now)) }
 {
-    let values = counted_list(
+    let values = members_at(
         object,
         "segment_sizes_bits",
         Key::SegmentSizes,

@@ -35,7 +35,7 @@ impl Model for Tally {
         (record { utilities = t.utilities; changes = t.changes; last = t.last; count = t.count }) };
 }
 
-fn weighed(w: &Weights, changes: u64, stall_ms: u64, startup_ms: u64) -> u128
+fn penalty(w: &Weights, changes: u64, stall_ms: u64, startup_ms: u64) -> u128
     requires changes { changes ≤ 40000000000 }
     requires stall { stall_ms ≤ 1000000000000000 }
     requires startup { startup_ms ≤ 1000000000000000 }
@@ -87,7 +87,7 @@ impl Tally {
         ensures { (ps : List Played) → StandsFor w.now ps self.now
             → result ≡ score_of w.now ps stall_ms startup_ms }
     {
-        1000 * self.utilities as i128 - weighed(w, self.changes, stall_ms, startup_ms) as i128
+        1000 * self.utilities as i128 - penalty(w, self.changes, stall_ms, startup_ms) as i128
     }
 }
 

@@ -1,23 +1,22 @@
 -- Seeks that were read keep their limits.
 use Rattle.std.proofs.Common.{◌≡◌, ◌+◌, ◌<◌, ◌≤◌, ℕ, zero, suc, nat_lt, List, [], ◌∷◌, length, Option, Some, None, Result, Ok, Err, subst, arith}
 use Rattle.std.proofs.lemmas.Bool.Decides.{nat_tests}
-use Rattle.csv_records.specs.declared.number.Fault.{Fault}
 use Rattle.csv_records.specs.Table.{Fields, Table, table_of}
 use Rattle.csv_records.specs.Field.{field_in, whole_number}
-use Rattle.csv_records.specs.Each.{◌>>=◌, each_after}
-use Rattle.csv_records.proofs.Digits.{whole-within}
-use Rattle.csv_records.proofs.Each.{each_all, each_most, test_err, test_ok, then_ok}
+use Rattle.lab_model.specs.Steps.{◌>>=◌}
+use Rattle.reader_faults.proofs.Ranges.{whole_number-within}
+use Rattle.reader_faults.specs.Each.{each_after}
+use Rattle.reader_faults.specs.Faults.{field_at}
+use Rattle.reader_faults.proofs.Each.{each_all, each_most}
+use Rattle.reader_faults.proofs.Places.{field_at-ok}
+use Rattle.lab_model.proofs.Steps.{test_err, test_ok, then_ok}
 use Rattle.lab_model.specs.declared.context.Seek.{Seek}
 use Rattle.lab_model.specs.declared.fault.Kind.TheVariants as kind
 use Rattle.lab_model.specs.declared.fault.Key.{Key}
 use Rattle.lab_model.specs.declared.fault.Key.TheVariants as key
-use Rattle.seek_script.specs.Faults.{placed, refusal}
-use Rattle.seek_script.specs.Script.{behind_header, below, counted, ended, instant_in, later, seek, seek_in, seeks_in, seeks_of, target_in}
+use Rattle.lab_model.specs.Reading.{refusal}
+use Rattle.seek_script.specs.Script.{behind_header, below, row_within, seeks_to_end, instant_in, later, seek, seek_in, seeks_in, seeks_of, target_in}
 use Rattle.lab_model.specs.Seeks.{SeeksFit, seek_no}
-
-placed-ok : (k : Key) (row column : ℕ) (r : Result ℕ Fault) (n : ℕ) → placed k row column r ≡ Ok n → r ≡ Ok n
-placed-ok k row column (Ok m) n h = cc
-placed-ok k row column (Err f) n h = absurd cc
 
 -- an instant is behind that of the seek before
 abbrev IsLater : Option Seek → ℕ → Type 0
@@ -32,7 +31,7 @@ later-ok (Some before) row at_ms n h =
 
 target-ok : (segments row : ℕ) (r : List (List ℕ)) (to : ℕ) → target_in segments row r ≡ Ok to → to < segments
 target-ok segments row r to h =
-    let n = then_ok (placed key.SeekTo row 2 (whole_number 0 65535 (field_in 1 r))) (below segments row) to h in
+    let n = then_ok (field_at key.SeekTo row 2 (whole_number 0 65535 (field_in 1 r))) (below segments row) to h in
     let t = test_ok (nat_lt n.0 segments) (Ok n.0) to (refusal kind.OutOfRange key.SeekTo row 2) n.2 in
     let same : n.0 ≡ to = cc in
     grind (arith, nat_tests, t.0, same)
@@ -49,14 +48,14 @@ keeps-of segments before row at_ms to a b c d = record { few = a; instant = b; b
 
 keeps : (segments : ℕ) (before : Option Seek) (row : ℕ) (r : List (List ℕ)) (s : Seek) → seek_in segments before row r ≡ Ok s → Keeps segments before row s
 keeps segments before row r s h =
-    let a = then_ok (counted row) (λ _. instant_in row r >>= (λ at_ms. later before row at_ms >>= (λ _. target_in segments row r >>= (λ to. Ok (seek at_ms to))))) s h in
+    let a = then_ok (row_within row) (λ _. instant_in row r >>= (λ at_ms. later before row at_ms >>= (λ _. target_in segments row r >>= (λ to. Ok (seek at_ms to))))) s h in
     let b = then_ok (instant_in row r) (λ at_ms. later before row at_ms >>= (λ _. target_in segments row r >>= (λ to. Ok (seek at_ms to)))) s a.2 in
     let c = then_ok (later before row b.0) (λ _. target_in segments row r >>= (λ to. Ok (seek b.0 to))) s b.2 in
     let d = then_ok (target_in segments row r) (λ to. Ok (seek b.0 to)) s c.2 in
     let same : seek b.0 d.0 ≡ s = cc in
     let t = test_err (nat_lt 17 row) (Ok row) a.0 (refusal kind.OutOfRange key.Whole row 0) a.1 in
     let few : row ≤ 17 = grind (arith, nat_tests, t.0) in
-    let instant = whole-within 0 1000000000 (field_in 0 r) b.0 (placed-ok key.SeekAt row 1 (whole_number 0 1000000000 (field_in 0 r)) b.0 b.1) in
+    let instant = whole_number-within 0 1000000000 (field_in 0 r) b.0 (field_at-ok key.SeekAt row 1 (whole_number 0 1000000000 (field_in 0 r)) b.0 b.1) in
     subst (Keeps segments before row) same (keeps-of segments before row b.0 d.0 few instant.1 (later-ok before row b.0 c.0 c.1) (target-ok segments row r d.0 d.1))
 
 -- each seek is behind the one before
@@ -93,9 +92,9 @@ each-within segments rs xs h = record {
   targets = each_all (λ s. s.to < segments) (seek_in segments) None 2 rs xs (λ b p r s e. (keeps segments b p r s e).target) h;
 }
 
-ended-ok : (uneven : Option ℕ) (seeks xs : List Seek) → ended uneven seeks ≡ Ok xs → seeks ≡ xs
-ended-ok None seeks xs h = cc
-ended-ok (Some row) seeks xs h = absurd cc
+seeks_to_end-ok : (uneven : Option ℕ) (seeks xs : List Seek) → seeks_to_end uneven seeks ≡ Ok xs → seeks ≡ xs
+seeks_to_end-ok None seeks xs h = cc
+seeks_to_end-ok (Some row) seeks xs h = absurd cc
 
 -- the seeks of a script keep their limits
 pub within : (bytes : List ℕ) (segments : ℕ) (xs : List Seek) → seeks_of bytes segments ≡ Ok xs → SeeksFit xs segments
@@ -104,6 +103,6 @@ within bytes segments xs h = go (table_of bytes) h
   where
     go : (t : Table) → seeks_in segments t ≡ Ok xs → SeeksFit xs segments
     go t e =
-        let rs = then_ok (behind_header t.rows) (λ rs. each_after (seek_in segments) None 2 rs >>= ended t.uneven) xs e in
-        let seeks = then_ok (each_after (seek_in segments) None 2 rs.0) (ended t.uneven) xs rs.2 in
-        subst (λ ys. SeeksFit ys segments) (ended-ok t.uneven seeks.0 xs seeks.2) (each-within segments rs.0 seeks.0 seeks.1)
+        let rs = then_ok (behind_header t.rows) (λ rs. each_after (seek_in segments) None 2 rs >>= seeks_to_end t.uneven) xs e in
+        let seeks = then_ok (each_after (seek_in segments) None 2 rs.0) (seeks_to_end t.uneven) xs rs.2 in
+        subst (λ ys. SeeksFit ys segments) (seeks_to_end-ok t.uneven seeks.0 xs seeks.2) (each-within segments rs.0 seeks.0 seeks.1)

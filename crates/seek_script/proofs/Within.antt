@@ -2,12 +2,12 @@
 use Rattle.std.proofs.Common.{◌≡◌, ℕ, true, nat_lt, List, refl, arith}
 use Rattle.std.proofs.lemmas.Bool.Decides.{nat_tests}
 use Rattle.csv_records.specs.Table.{table_within}
-use Rattle.csv_records.proofs.Each.{EndsAt}
-use Rattle.csv_records.proofs.Within.{reads_within}
+use Rattle.reader_faults.proofs.Each.{EndsAt}
+use Rattle.reader_faults.proofs.Within.{reads_within}
 use Rattle.lab_model.specs.declared.fault.Kind.TheVariants as kind
 use Rattle.lab_model.specs.declared.fault.Key.TheVariants as key
-use Rattle.seek_script.specs.Faults.{refusal}
-use Rattle.seek_script.specs.Script.{behind_header, ended, is_header, seek_in, seeks_in, seeks_of}
+use Rattle.lab_model.specs.Reading.{refusal}
+use Rattle.seek_script.specs.Script.{behind_header, seeks_to_end, is_header, seek_in, seeks_in, seeks_of}
 
 -- no seek is read behind the row 17
 last_row : (segments : ℕ) → EndsAt 17 (seek_in segments)
@@ -17,4 +17,4 @@ last_row segments before row r late = let past : nat_lt 17 row ≡ true = grind 
 pub seeks_within : (bytes : List ℕ) (segments : ℕ) → seeks_in segments (table_within 18 bytes) ≡ seeks_of bytes segments
 unfolding seeks_of
 seeks_within bytes segments =
-    reads_within behind_header is_header (refusal kind.Shape key.Header 1 0) (seek_in segments) 17 ended (λ r rs. refl) (last_row segments) (omega arith) bytes
+    reads_within behind_header is_header (refusal kind.Shape key.Header 1 0) (seek_in segments) 17 seeks_to_end (λ r rs. refl) (last_row segments) (omega arith) bytes

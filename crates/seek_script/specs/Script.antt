@@ -2,12 +2,14 @@
 use Rattle.std.specs.Prelude.{ℕ, ◌==◌, ◌&&◌, Bool, List, [], ◌∷◌, length, Option, Some, None, Result, Ok, Err, codes, if◌then◌else◌, nat_lt}
 use Rattle.csv_records.specs.Table.{Fields, Table, table_of}
 use Rattle.csv_records.specs.Field.{field_in, is_named, whole_number}
-use Rattle.csv_records.specs.Each.{◌>>=◌, each_after}
+use Rattle.lab_model.specs.Steps.{◌>>=◌}
 use Rattle.lab_model.specs.declared.context.Seek.{Seek}
 use Rattle.lab_model.specs.declared.fault.Refusal.{Refusal}
 use Rattle.lab_model.specs.declared.fault.Kind.TheVariants as kind
 use Rattle.lab_model.specs.declared.fault.Key.TheVariants as key
-use Rattle.seek_script.specs.Faults.{placed, refusal}
+use Rattle.lab_model.specs.Reading.{refusal}
+use Rattle.reader_faults.specs.Each.{each_after}
+use Rattle.reader_faults.specs.Faults.{field_at}
 
 -- the record is the two fields `at_ms` and `to_segment`
 abbrev pub is_header : Fields → Bool
@@ -19,12 +21,12 @@ behind_header [] = Err (refusal kind.Empty key.Whole 0 0)
 behind_header (r ∷ rs) = if is_header r then Ok rs else Err (refusal kind.Shape key.Header 1 0)
 
 -- a row of one of the 16 records behind the header
-abbrev pub counted : ℕ → Result ℕ Refusal
-counted row = if nat_lt 17 row then Err (refusal kind.OutOfRange key.Whole row 0) else Ok row
+abbrev pub row_within : ℕ → Result ℕ Refusal
+row_within row = if nat_lt 17 row then Err (refusal kind.OutOfRange key.Whole row 0) else Ok row
 
 -- an instant in ms, up to 1000000000
 abbrev pub instant_in : ℕ → Fields → Result ℕ Refusal
-instant_in row r = placed key.SeekAt row 1 (whole_number 0 1000000000 (field_in 0 r))
+instant_in row r = field_at key.SeekAt row 1 (whole_number 0 1000000000 (field_in 0 r))
 
 -- it is later than the seek before
 abbrev pub later : Option Seek → ℕ → ℕ → Result ℕ Refusal
@@ -38,7 +40,7 @@ below segments row to = if nat_lt to segments then Ok to else Err (refusal kind.
 -- the segment that is sought
 abbrev pub target_in : ℕ → ℕ → Fields → Result ℕ Refusal
 target_in segments row r = do
-  to ← placed key.SeekTo row 2 (whole_number 0 65535 (field_in 1 r))
+  to ← field_at key.SeekTo row 2 (whole_number 0 65535 (field_in 1 r))
   below segments row to
 
 -- the seek to a segment at an instant
@@ -48,23 +50,23 @@ seek at_ms to = record { at_ms = at_ms; to = to }
 -- the seek in a row, behind the one before
 abbrev pub seek_in : ℕ → Option Seek → ℕ → Fields → Result Seek Refusal
 seek_in segments before row r = do
-  _ ← counted row
+  _ ← row_within row
   at_ms ← instant_in row r
   _ ← later before row at_ms
   to ← target_in segments row r
   Ok (seek at_ms to)
 
 -- the seeks, if no uneven record stands behind theirs
-abbrev pub ended : Option ℕ → List Seek → Result (List Seek) Refusal
-ended None seeks = Ok seeks
-ended (Some row) seeks = Err (refusal kind.NotCsv key.SeekRow row 0)
+abbrev pub seeks_to_end : Option ℕ → List Seek → Result (List Seek) Refusal
+seeks_to_end None seeks = Ok seeks
+seeks_to_end (Some row) seeks = Err (refusal kind.NotCsv key.SeekRow row 0)
 
 -- the seeks of a table, in a film of so many segments
 abbrev pub seeks_in : ℕ → Table → Result (List Seek) Refusal
 seeks_in segments t = do
   rs ← behind_header t.rows
   seeks ← each_after (seek_in segments) None 2 rs
-  ended t.uneven seeks
+  seeks_to_end t.uneven seeks
 
 -- the seeks that the bytes are, in a film of so many segments
 unfoldable pub seeks_of : List ℕ → ℕ → Result (List Seek) Refusal

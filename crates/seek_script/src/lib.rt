@@ -5,7 +5,6 @@
 //! count. Records are tested one after the other, each whole before the next is read.
 #![tactic(auto)]
 
-mod fault;
 mod script;
 #[cfg(test)]
 mod tests;

@@ -2,16 +2,16 @@
 
 ghost use Rattle.std.specs.Prelude.{◌≡◌, ◌∷◌, ◌++◌, ◌+◌, ◌≤◌, ◌<◌, [], None, IfOk, IfErr, IfSome, OnOk, length, map};
 ghost use Rattle.csv.specs.Records.{fields_of};
-ghost use Rattle.csv_records.specs.Each.{each_after};
 ghost use Rattle.csv_records.specs.Table.{table_in, table_of};
+ghost use Rattle.lab_model.specs.Reading.{Gives};
 ghost use Rattle.lab_model.specs.Seeks.{SeeksFit};
-ghost use Rattle.seek_script.specs.Faults.{Gives};
-ghost use Rattle.seek_script.specs.Script.{behind_header, below, counted, instant_in, is_header, later, seek_in, seeks_in, seeks_of, target_in};
+ghost use Rattle.reader_faults.specs.Each.{each_after};
+ghost use Rattle.seek_script.specs.Script.{behind_header, below, row_within, instant_in, is_header, later, seek_in, seeks_in, seeks_of, target_in};
 
-use crate::fault::{placed, refused};
 use csv::ByteRecord;
 use csv_records::{Records, field_in, is_named, records_of, whole_number};
 use lab_model::{InputFault, Key, Kind, Seek};
+use reader_faults::{field_at, refusal};
 use std::alloc::Global;
 
 /// The row of the last record of the longest script: the header and 16 seeks.
@@ -36,22 +36,22 @@ fn behind_header(rows: &[ByteRecord]) -> Result<&[ByteRecord], InputFault>
     ensures count { IfOk result (λ v. length rows.now ≡ length v.now + 1) }
 {
     match rows {
-        [] => Err(refused(Kind::Empty, Key::Whole, 0, 0)),
+        [] => Err(refusal(Kind::Empty, Key::Whole, 0, 0)),
         [header, later @ ..] => if is_header(header) {
             Ok(later)
         } else {
-            Err(refused(Kind::Shape, Key::Header, 1, 0))
+            Err(refusal(Kind::Shape, Key::Header, 1, 0))
         },
     }
 }
 
 /// A row, if it is one of the 16 behind the header.
-fn counted(row: u32) -> Result<u32, InputFault>
-    ensures row { Gives (λ n. n) result (counted row) }
+fn row_within(row: u32) -> Result<u32, InputFault>
+    ensures row { Gives (λ n. n) result (row_within row) }
     ensures few { OnOk result (row ≤ 17) }
 {
     if row > LAST_ROW {
-        return Err(refused(Kind::OutOfRange, Key::Whole, row, 0));
+        return Err(refusal(Kind::OutOfRange, Key::Whole, row, 0));
     }
     Ok(row)
 }
@@ -60,7 +60,7 @@ fn counted(row: u32) -> Result<u32, InputFault>
 fn instant_in(fields: &ByteRecord, row: u32) -> Result<u32, InputFault>
     ensures { Gives (λ n. n) result (instant_in row (fields_of fields.now)) }
 {
-    placed(
+    field_at(
         whole_number(field_in(fields, 0), 0, LAST_INSTANT),
         Key::SeekAt,
         row,
@@ -76,7 +76,7 @@ fn later(before: Option<Seek>, row: u32, at_ms: u32) -> Result<u32, InputFault>
         Some(seek) => if seek.at_ms < u64::from(at_ms) {
             Ok(at_ms)
         } else {
-            Err(refused(Kind::Order, Key::SeekAt, row, 1))
+            Err(refusal(Kind::Order, Key::SeekAt, row, 1))
         },
         None => Ok(at_ms),
     }
@@ -89,7 +89,7 @@ fn below(segments: u16, row: u32, to: u32) -> Result<u16, InputFault>
     if to < u32::from(segments) {
         Ok(to as u16)
     } else {
-        Err(refused(Kind::OutOfRange, Key::SeekTo, row, 2))
+        Err(refusal(Kind::OutOfRange, Key::SeekTo, row, 2))
     }
 }
 
@@ -97,7 +97,7 @@ fn below(segments: u16, row: u32, to: u32) -> Result<u16, InputFault>
 fn target_in(fields: &ByteRecord, row: u32, segments: u16) -> Result<u16, InputFault>
     ensures { Gives (λ n. n) result (target_in segments row (fields_of fields.now)) }
 {
-    let to = placed(
+    let to = field_at(
         whole_number(field_in(fields, 1), 0, u32::from(u16::MAX)),
         Key::SeekTo,
         row,
@@ -116,7 +116,7 @@ fn seek_in(
     ensures seek { Gives (λ s. s) result (seek_in segments before row (fields_of fields.now)) }
     ensures few { OnOk result (row ≤ 17) }
 {
-    counted(row)?;
+    row_within(row)?;
     let at_ms = instant_in(fields, row)?;
     later(before, row, at_ms)?;
     let to = target_in(fields, row, segments)?;
@@ -150,7 +150,7 @@ fn seeks_in(alloc: Global, records: &Records, segments: u16) -> Result<Vec<Seek>
     let rows = behind_header(&records.rows)?;
     let seeks = all_seeks(alloc, rows, segments)?;
     match records.uneven {
-        Some(row) => Err(refused(Kind::NotCsv, Key::SeekRow, row as u32, 0)),
+        Some(row) => Err(refusal(Kind::NotCsv, Key::SeekRow, row as u32, 0)),
         None => Ok(seeks),
     }
 }

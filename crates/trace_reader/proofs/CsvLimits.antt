@@ -2,24 +2,22 @@
 use Rattle.std.proofs.Common.{◌≡◌, ◌≤◌, ◌+◌, ℕ, nat_lt, List, [], ◌∷◌, length, Option, Some, None, Result, Ok, Err, subst, arith}
 use Rattle.std.specs.List.{All}
 use Rattle.std.proofs.lemmas.Bool.Decides.{nat_tests}
-use Rattle.csv_records.specs.declared.number.Fault.{Fault}
 use Rattle.csv_records.specs.Table.{Table}
 use Rattle.csv_records.specs.Field.{field_in, thousandths, whole_number}
-use Rattle.csv_records.specs.Each.{◌>>=◌, each_from}
-use Rattle.csv_records.proofs.Digits.{thousandths-within, whole-within}
-use Rattle.csv_records.proofs.Each.{each_all, each_most, test_err, then_ok}
+use Rattle.lab_model.specs.Steps.{◌>>=◌}
+use Rattle.reader_faults.proofs.Ranges.{thousandths-within, whole_number-within}
+use Rattle.reader_faults.specs.Each.{each_from}
+use Rattle.reader_faults.proofs.Each.{each_all, each_most}
+use Rattle.reader_faults.proofs.Places.{field_at-ok}
+use Rattle.lab_model.proofs.Steps.{test_err, then_ok}
 use Rattle.lab_model.specs.Cycle.{IsPeriod}
 use Rattle.lab_model.specs.Film.{IsWithin}
 use Rattle.lab_model.specs.declared.trace.Period.{Period}
 use Rattle.lab_model.specs.declared.fault.Kind.TheVariants as kind
 use Rattle.lab_model.specs.declared.fault.Key.{Key}
 use Rattle.lab_model.specs.declared.fault.Key.TheVariants as key
-use Rattle.trace_reader.specs.Faults.{refusal}
-use Rattle.trace_reader.specs.TraceCsv.{bandwidth_in, behind_header, counted_row, duration_in, ended, latency_in, period, period_in_row, placed_field, table_periods}
-
-placed-ok : (k : Key) (row column : ℕ) (r : Result ℕ Fault) (n : ℕ) → placed_field k row column r ≡ Ok n → r ≡ Ok n
-placed-ok k row column (Ok m) n h = cc
-placed-ok k row column (Err f) n h = absurd cc
+use Rattle.lab_model.specs.Reading.{refusal}
+use Rattle.trace_reader.specs.TraceCsv.{bandwidth_in, behind_header, row_within, duration_in, periods_to_end, latency_in, period, period_in_row, table_periods}
 
 -- what a period that was read keeps
 record Keeps (row : ℕ) (p : Period) : Type 0 where
@@ -31,22 +29,22 @@ keeps-of row duration_ms bandwidth latency few a b c = record { few = few; limit
 
 keeps : (row : ℕ) (r : List (List ℕ)) (p : Period) → period_in_row row r ≡ Ok p → Keeps row p
 keeps row r p h =
-    let a = then_ok (counted_row row) (λ _. duration_in row r >>= (λ x. bandwidth_in row r >>= (λ y. latency_in row r >>= (λ z. Ok (period x y z))))) p h in
+    let a = then_ok (row_within row) (λ _. duration_in row r >>= (λ x. bandwidth_in row r >>= (λ y. latency_in row r >>= (λ z. Ok (period x y z))))) p h in
     let b = then_ok (duration_in row r) (λ x. bandwidth_in row r >>= (λ y. latency_in row r >>= (λ z. Ok (period x y z)))) p a.2 in
     let c = then_ok (bandwidth_in row r) (λ y. latency_in row r >>= (λ z. Ok (period b.0 y z))) p b.2 in
     let d = then_ok (latency_in row r) (λ z. Ok (period b.0 c.0 z)) p c.2 in
     let same : period b.0 c.0 d.0 ≡ p = cc in
     let t = test_err (nat_lt 100001 row) (Ok row) a.0 (refusal kind.OutOfRange key.Whole row 0) a.1 in
     let few : row ≤ 100001 = grind (arith, nat_tests, t.0) in
-    let duration = whole-within 1 10000000 (field_in 0 r) b.0 (placed-ok key.Duration row 1 (whole_number 1 10000000 (field_in 0 r)) b.0 b.1) in
-    let bandwidth = thousandths-within 0 10000000 (field_in 1 r) c.0 (placed-ok key.Bandwidth row 2 (thousandths 0 10000000 (field_in 1 r)) c.0 c.1) in
-    let latency = whole-within 0 10000 (field_in 2 r) d.0 (placed-ok key.Latency row 3 (whole_number 0 10000 (field_in 2 r)) d.0 d.1) in
+    let duration = whole_number-within 1 10000000 (field_in 0 r) b.0 (field_at-ok key.Duration row 1 (whole_number 1 10000000 (field_in 0 r)) b.0 b.1) in
+    let bandwidth = thousandths-within 0 10000000 (field_in 1 r) c.0 (field_at-ok key.Bandwidth row 2 (thousandths 0 10000000 (field_in 1 r)) c.0 c.1) in
+    let latency = whole_number-within 0 10000 (field_in 2 r) d.0 (field_at-ok key.Latency row 3 (whole_number 0 10000 (field_in 2 r)) d.0 d.1) in
     subst (Keeps row) same (keeps-of row b.0 c.0 d.0 few duration bandwidth.1 latency.1)
 
-ended-ok : (uneven : Option ℕ) (ps qs : List Period) → ended uneven ps ≡ Ok qs → (ps ≡ qs) × (1 ≤ length qs)
-ended-ok None [] qs h = absurd cc
-ended-ok None (p ∷ ps) qs h = let e : p ∷ ps ≡ qs = cc in (e, subst (λ (xs : List Period). 1 ≤ length xs) e (omega arith))
-ended-ok (Some row) ps qs h = absurd cc
+periods_to_end-ok : (uneven : Option ℕ) (ps qs : List Period) → periods_to_end uneven ps ≡ Ok qs → (ps ≡ qs) × (1 ≤ length qs)
+periods_to_end-ok None [] qs h = absurd cc
+periods_to_end-ok None (p ∷ ps) qs h = let e : p ∷ ps ≡ qs = cc in (e, subst (λ (xs : List Period). 1 ≤ length xs) e (omega arith))
+periods_to_end-ok (Some row) ps qs h = absurd cc
 
 -- the periods of a table keep their limits
 record Limits (ps : List Period) : Type 0 where
@@ -55,9 +53,9 @@ record Limits (ps : List Period) : Type 0 where
 
 limits : (t : Table) (qs : List Period) → table_periods t ≡ Ok qs → Limits qs
 limits t qs h =
-    let rs = then_ok (behind_header t.rows) (λ rs. each_from period_in_row 2 rs >>= ended t.uneven) qs h in
-    let ps = then_ok (each_from period_in_row 2 rs.0) (ended t.uneven) qs rs.2 in
-    let last = ended-ok t.uneven ps.0 qs ps.2 in
+    let rs = then_ok (behind_header t.rows) (λ rs. each_from period_in_row 2 rs >>= periods_to_end t.uneven) qs h in
+    let ps = then_ok (each_from period_in_row 2 rs.0) (periods_to_end t.uneven) qs rs.2 in
+    let last = periods_to_end-ok t.uneven ps.0 qs ps.2 in
     let most : length ps.0 + 2 ≤ 100001 + 1 = each_most (λ (_ : Option Period). period_in_row) 100001 None 2 rs.0 ps.0 (λ b p r s e. (keeps p r s e).few) ps.1 (omega arith) in
     let all : All IsPeriod ps.0 = each_all IsPeriod (λ (_ : Option Period). period_in_row) None 2 rs.0 ps.0 (λ b p r s e. (keeps p r s e).limits) ps.1 in
     let count : length qs ≤ 100000 = subst (λ (xs : List Period). length xs ≤ 100000) last.0 (omega (arith, most)) in

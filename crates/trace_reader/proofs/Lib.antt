@@ -1,4 +1,3 @@
-pub mod Refusals
 pub mod Limits
 pub mod CsvLimits
 pub mod Within

@@ -2,42 +2,32 @@
 use Rattle.std.proofs.Common.{◌≡◌, ◌==◌, ℕ, cond, nat_lt, List, length, Option, None, Result, Ok, Err, codes, sym, subst, arith}
 use Rattle.std.specs.List.{All}
 use Rattle.std.proofs.lemmas.Bool.Decides.{nat_tests}
-use Rattle.serde_json.specs.Data.{Data, Items}
-use Rattle.serde_json.specs.Events.{items_len}
-use Rattle.json_fields.specs.declared.Fault.{Fault}
-use Rattle.json_fields.specs.Fields.{◌>>=◌, list_of, number_at, object_of}
-use Rattle.json_fields.specs.Each.{each_of}
-use Rattle.json_fields.proofs.Answers.{number_at-within, test_err, then_ok}
-use Rattle.json_fields.proofs.Each.{each_all, each_count}
+use Rattle.serde_json.specs.Data.{Data}
+use Rattle.json_fields.specs.Fields.{list_of, number_at, object_of}
+use Rattle.lab_model.specs.Steps.{◌>>=◌}
+use Rattle.lab_model.proofs.Steps.{then_ok}
+use Rattle.reader_faults.specs.Each.{each_from}
+use Rattle.reader_faults.proofs.Places.{members_within-ok, value_at-ok}
+use Rattle.reader_faults.proofs.Ranges.{number_at-within}
+use Rattle.reader_faults.proofs.Each.{each_all, each_count}
 use Rattle.lab_model.specs.Cycle.{IsPeriod}
 use Rattle.lab_model.specs.Film.{IsWithin}
 use Rattle.lab_model.specs.declared.trace.Period.{Period}
 use Rattle.lab_model.specs.declared.fault.Kind.TheVariants as kind
 use Rattle.lab_model.specs.declared.fault.Key.{Key}
 use Rattle.lab_model.specs.declared.fault.Key.TheVariants as key
-use Rattle.trace_reader.specs.Faults.{placed, refusal}
-use Rattle.trace_reader.specs.Trace.{counted, field_of, fields_of, members_of, period, period_in, periods_of}
-
-placed-ok : {A : Type 0} (k : Key) (row column : ℕ) (r : Result A Fault) (x : A) → placed k row column r ≡ Ok x → r ≡ Ok x
-placed-ok k row column (Ok y) x h = cc
-placed-ok k row column (Err f) x h = absurd cc
-
-counted-within : (ds found : Items) → counted ds ≡ Ok found → IsWithin 1 100000 (items_len found)
-counted-within ds found h =
-    let some = test_err (items_len ds == 0) (cond (nat_lt 100000 (items_len ds)) (Err (refusal kind.OutOfRange key.Whole 0 0)) (Ok ds)) found (refusal kind.Empty key.Whole 0 0) h in
-    let few = test_err (nat_lt 100000 (items_len ds)) (Ok ds) found (refusal kind.OutOfRange key.Whole 0 0) some.1 in
-    let same : ds ≡ found = cc in
-    subst (λ (xs : Items). IsWithin 1 100000 (items_len xs)) same (grind (arith, nat_tests, some.0), grind (arith, nat_tests, few.0))
+use Rattle.reader_faults.specs.Faults.{members_within, value_at}
+use Rattle.trace_reader.specs.Trace.{field_of, fields_of, members_of, period, period_in, periods_of}
 
 -- 1 to 100000 periods were read
 pub periods_of-count : (d : Data) (ps : List Period) → periods_of d ≡ Ok ps → IsWithin 1 100000 (length ps)
 periods_of-count d ps h =
-    let ds = then_ok (members_of d) (λ ds. each_of period_in ds) ps h in
-    let members = then_ok (placed key.Whole 0 0 (list_of d)) counted ds.0 ds.1 in
-    subst (IsWithin 1 100000) (sym (each_count (λ (_ : Option Period). period_in) None 1 ds.0 ps ds.2)) (counted-within members.0 ds.0 members.2)
+    let ds = then_ok (members_of d) (λ ds. each_from period_in 1 ds) ps h in
+    let members = then_ok (value_at key.Whole 0 0 (list_of d)) (members_within key.Whole 100000) ds.0 ds.1 in
+    subst (IsWithin 1 100000) (sym (each_count (λ (_ : Option Period). period_in) None 1 ds.0 ps ds.2)) (members_within-ok key.Whole 100000 members.0 ds.0 members.2).1
 
 field_of-within : (k : Key) (name : List ℕ) (least most row : ℕ) (d : Data) (n : ℕ) → field_of k name least most row d ≡ Ok n → IsWithin least most n
-field_of-within k name least most row d n h = number_at-within name least most d n (placed-ok k row 0 (number_at name least most d) n h)
+field_of-within k name least most row d n h = number_at-within name least most d n (value_at-ok k row 0 (number_at name least most d) n h)
 
 period-limits : (duration_ms bandwidth_kbps latency : ℕ) → IsWithin 1 10000000 duration_ms → IsWithin 0 10000000 bandwidth_kbps → IsWithin 0 10000 latency → IsPeriod (period duration_ms bandwidth_kbps latency)
 period-limits duration_ms bandwidth_kbps latency a b c = record { duration = a; bandwidth = omega (arith, b.1); latency = c.1 }
@@ -51,10 +41,10 @@ fields_of-limits row d p h =
     subst IsPeriod same (period-limits a.0 b.0 c.0 (field_of-within key.Duration (codes "duration_ms") 1 10000000 row d a.0 a.1) (field_of-within key.Bandwidth (codes "bandwidth_kbps") 0 10000000 row d b.0 b.1) (field_of-within key.Latency (codes "latency_ms") 0 10000 row d c.0 c.1))
 
 period_in-limits : (row : ℕ) (d : Data) (p : Period) → period_in row d ≡ Ok p → IsPeriod p
-period_in-limits row d p h = let o = then_ok (placed key.Period row 0 (object_of d)) (fields_of row) p h in fields_of-limits row o.0 p o.2
+period_in-limits row d p h = let o = then_ok (value_at key.Period row 0 (object_of d)) (fields_of row) p h in fields_of-limits row o.0 p o.2
 
 -- each of them keeps its limits
 pub periods_of-periods : (d : Data) (ps : List Period) → periods_of d ≡ Ok ps → All IsPeriod ps
 periods_of-periods d ps h =
-    let ds = then_ok (members_of d) (λ ds. each_of period_in ds) ps h in
+    let ds = then_ok (members_of d) (λ ds. each_from period_in 1 ds) ps h in
     each_all IsPeriod (λ (_ : Option Period). period_in) None 1 ds.0 ps (λ (_ : Option Period). period_in-limits) ds.2

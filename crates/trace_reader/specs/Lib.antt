@@ -1,4 +1,3 @@
-pub mod Faults
 pub mod Cycle
 pub mod Trace
 pub mod TraceCsv

@@ -1,26 +1,20 @@
 -- What the bytes of a trace stand for: its periods, or the first test that fails.
 use Rattle.std.specs.Prelude.{ℕ, ◌*◌, ◌==◌, List, Result, Ok, Err, codes, if◌then◌else◌, nat_lt}
-use Rattle.serde_json.specs.Data.{Data, Items}
-use Rattle.serde_json.specs.Events.{items_len}
-use Rattle.json_fields.specs.Fields.{◌>>=◌, list_of, number_at, object_of, value_of}
-use Rattle.json_fields.specs.Each.{each_of}
+use Rattle.serde_json.specs.Data.{Data}
+use Rattle.json_fields.specs.Fields.{list_of, number_at, object_of, value_of}
+use Rattle.lab_model.specs.Steps.{◌>>=◌}
 use Rattle.lab_model.specs.declared.trace.Period.{Period}
 use Rattle.lab_model.specs.declared.fault.Refusal.{Refusal}
 use Rattle.lab_model.specs.declared.fault.Kind.TheVariants as kind
 use Rattle.lab_model.specs.declared.fault.Key.{Key}
 use Rattle.lab_model.specs.declared.fault.Key.TheVariants as key
-use Rattle.trace_reader.specs.Faults.{placed, refusal}
-use Rattle.trace_reader.specs.Cycle.{cycled}
-
--- a list of 1 to 100000 members
-abbrev pub counted : Items → Result Items Refusal
-counted ds =
-    if items_len ds == 0 then Err (refusal kind.Empty key.Whole 0 0)
-    else (if nat_lt 100000 (items_len ds) then Err (refusal kind.OutOfRange key.Whole 0 0) else Ok ds)
+use Rattle.reader_faults.specs.Each.{each_from}
+use Rattle.reader_faults.specs.Faults.{members_within, value_at}
+use Rattle.trace_reader.specs.Cycle.{good_cycle}
 
 -- the number under a key of a period
 abbrev pub field_of : Key → List ℕ → ℕ → ℕ → ℕ → Data → Result ℕ Refusal
-field_of k name least most row d = placed k row 0 (number_at name least most d)
+field_of k name least most row d = value_at k row 0 (number_at name least most d)
 
 -- the period of these numbers, the bandwidth in kbps
 abbrev pub period : ℕ → ℕ → ℕ → Period
@@ -37,29 +31,29 @@ fields_of row d = do
 -- the period in a row
 abbrev pub period_in : ℕ → Data → Result Period Refusal
 period_in row d = do
-  o ← placed key.Period row 0 (object_of d)
+  o ← value_at key.Period row 0 (object_of d)
   fields_of row o
 
--- the members of the list that the bytes are
-abbrev pub members_of : Data → Result Items Refusal
+-- the members of the list that the bytes are, 1 to 100000
+abbrev pub members_of : Data → Result (List Data) Refusal
 members_of d = do
-  ds ← placed key.Whole 0 0 (list_of d)
-  counted ds
+  ds ← value_at key.Whole 0 0 (list_of d)
+  members_within key.Whole 100000 ds
 
 -- the periods of a list
 abbrev pub periods_of : Data → Result (List Period) Refusal
 periods_of d = do
   ds ← members_of d
-  each_of period_in ds
+  each_from period_in 1 ds
 
 -- the trace that a value is
 abbrev pub trace_of : Data → Result (List Period) Refusal
 trace_of d = do
   periods ← periods_of d
-  cycled periods
+  good_cycle periods
 
 -- the trace that the bytes of a JSON text are
 unfoldable pub trace_json : List ℕ → Result (List Period) Refusal
 trace_json bytes = do
-  d ← placed key.Whole 0 0 (value_of bytes)
+  d ← value_at key.Whole 0 0 (value_of bytes)
   trace_of d

@@ -7,43 +7,26 @@
 
 ghost use Rattle.std.specs.Prelude.{◌≡◌, ◌+◌, ◌^◌, ◌≤◌, ◌<◌, IfOk, IfSome, OnOk, length, map};
 ghost use Rattle.csv.specs.Records.{fields_of};
-ghost use Rattle.csv_records.specs.Each.{each_from};
 ghost use Rattle.csv_records.specs.Table.{table_in, table_of};
-ghost use Rattle.trace_reader.specs.Faults.{Gives};
-ghost use Rattle.trace_reader.specs.TraceCsv.{bandwidth_in, behind_header, counted_row, duration_in, ended, field_kind, is_header, latency_in, period_in_row, placed_field, table_periods, table_trace, trace_csv_of};
+ghost use Rattle.lab_model.specs.Reading.{Gives};
+ghost use Rattle.reader_faults.specs.Each.{each_from};
+ghost use Rattle.trace_reader.specs.TraceCsv.{bandwidth_in, behind_header, row_within, duration_in, is_header, latency_in, period_in_row, periods_to_end, table_periods, table_trace, trace_csv_of};
 
 use crate::cycle::whole_trace;
-use crate::fault::refused;
 use csv::ByteRecord;
-use csv_records::{Fault, Records, field_in, is_named, records_of, thousandths, whole_number};
-use lab_model::{InputFault, Key, Kind, Period, Trace};
+use csv_records::{Records, field_in, is_named, records_of, thousandths, whole_number};
+use lab_model::{
+    InputFault, Key, Kind, MOST_BANDWIDTH_KBPS, MOST_DURATION_MS, MOST_LATENCY_MS, MOST_PERIODS,
+    Period, Trace,
+};
+use reader_faults::{field_at, refusal};
 use std::alloc::Global;
 
 /// The row of the last record of the longest trace: the header and 100000 periods.
-const LAST_ROW: u32 = 100_001;
+const LAST_ROW: u32 = MOST_PERIODS as u32 + 1;
 
 /// How many records are read: those of the longest trace, and the one behind them.
 const MOST_RECORDS: usize = LAST_ROW as usize + 1;
-
-/// The longest period, in milliseconds.
-const MOST_DURATION_MS: u32 = 10_000_000;
-
-/// The greatest bandwidth, in kbps.
-const MOST_BANDWIDTH_KBPS: u32 = 10_000_000;
-
-/// The greatest latency, in milliseconds.
-const MOST_LATENCY_MS: u32 = 10_000;
-
-/// What a fault of a field is called.
-fn field_kind(fault: Fault) -> Kind
-    ensures { result ≡ field_kind fault }
-{
-    match fault {
-        Fault::NotWhole => Kind::NotWhole,
-        Fault::WrongKind => Kind::WrongKind,
-        Fault::OutOfRange => Kind::OutOfRange,
-    }
-}
 
 fn is_header(fields: &ByteRecord) -> bool
     ensures { result ≡ is_header (fields_of fields.now) }
@@ -61,22 +44,22 @@ fn behind_header(rows: &[ByteRecord]) -> Result<&[ByteRecord], InputFault>
     ensures count { IfOk result (λ v. length rows.now ≡ length v.now + 1) }
 {
     match rows {
-        [] => Err(refused(Kind::Empty, Key::Whole, 0, 0)),
+        [] => Err(refusal(Kind::Empty, Key::Whole, 0, 0)),
         [header, later @ ..] => if is_header(header) {
             Ok(later)
         } else {
-            Err(refused(Kind::Shape, Key::Header, 1, 0))
+            Err(refusal(Kind::Shape, Key::Header, 1, 0))
         },
     }
 }
 
 /// A row, if it is one of the 100000 behind the header.
-fn counted_row(row: u32) -> Result<u32, InputFault>
-    ensures row { Gives (λ n. n) result (counted_row row) }
+fn row_within(row: u32) -> Result<u32, InputFault>
+    ensures row { Gives (λ n. n) result (row_within row) }
     ensures few { OnOk result (row ≤ 100001) }
 {
     if row > LAST_ROW {
-        return Err(refused(Kind::OutOfRange, Key::Whole, row, 0));
+        return Err(refusal(Kind::OutOfRange, Key::Whole, row, 0));
     }
     Ok(row)
 }
@@ -85,30 +68,24 @@ fn counted_row(row: u32) -> Result<u32, InputFault>
 fn duration_in(fields: &ByteRecord, row: u32) -> Result<u32, InputFault>
     ensures { Gives (λ n. n) result (duration_in row (fields_of fields.now)) }
 {
-    match whole_number(field_in(fields, 0), 1, MOST_DURATION_MS) {
-        Ok(duration_ms) => Ok(duration_ms),
-        Err(fault) => Err(refused(field_kind(fault), Key::Duration, row, 1)),
-    }
+    let answer = whole_number(field_in(fields, 0), 1, MOST_DURATION_MS);
+    field_at(answer, Key::Duration, row, 1)
 }
 
 /// The bandwidth of a period, in thousandths of a kbps.
 fn bandwidth_in(fields: &ByteRecord, row: u32) -> Result<u64, InputFault>
     ensures { Gives (λ n. n) result (bandwidth_in row (fields_of fields.now)) }
 {
-    match thousandths(field_in(fields, 1), 0, MOST_BANDWIDTH_KBPS) {
-        Ok(bandwidth) => Ok(bandwidth),
-        Err(fault) => Err(refused(field_kind(fault), Key::Bandwidth, row, 2)),
-    }
+    let answer = thousandths(field_in(fields, 1), 0, MOST_BANDWIDTH_KBPS);
+    field_at(answer, Key::Bandwidth, row, 2)
 }
 
 /// The latency of a period, in milliseconds.
 fn latency_in(fields: &ByteRecord, row: u32) -> Result<u32, InputFault>
     ensures { Gives (λ n. n) result (latency_in row (fields_of fields.now)) }
 {
-    match whole_number(field_in(fields, 2), 0, MOST_LATENCY_MS) {
-        Ok(latency) => Ok(latency),
-        Err(fault) => Err(refused(field_kind(fault), Key::Latency, row, 3)),
-    }
+    let answer = whole_number(field_in(fields, 2), 0, MOST_LATENCY_MS);
+    field_at(answer, Key::Latency, row, 3)
 }
 
 /// The period in a row.
@@ -116,7 +93,7 @@ fn period_in_row(fields: &ByteRecord, row: u32) -> Result<Period, InputFault>
     ensures period { Gives (λ p. p) result (period_in_row row (fields_of fields.now)) }
     ensures few { OnOk result (row ≤ 100001) }
 {
-    counted_row(row)?;
+    row_within(row)?;
     let duration_ms = duration_in(fields, row)?;
     let bandwidth = bandwidth_in(fields, row)?;
     let latency = latency_in(fields, row)?;
@@ -142,15 +119,15 @@ fn all_rows(alloc: Global, rows: &[ByteRecord]) -> Result<Vec<Period>, InputFaul
 }
 
 /// The periods, if no uneven record stands behind theirs and there are some.
-fn ended(periods: Vec<Period>, uneven: Option<u64>) -> Result<Vec<Period>, InputFault>
+fn periods_to_end(periods: Vec<Period>, uneven: Option<u64>) -> Result<Vec<Period>, InputFault>
     requires { IfSome uneven (λ row. row < 2 ^ 32) }
-    ensures { Gives (λ v. v.items) result (ended uneven periods.items) }
+    ensures { Gives (λ v. v.items) result (periods_to_end uneven periods.items) }
 {
     if let Some(row) = uneven {
-        return Err(refused(Kind::NotCsv, Key::Period, row as u32, 0));
+        return Err(refusal(Kind::NotCsv, Key::Period, row as u32, 0));
     }
     if periods.is_empty() {
-        return Err(refused(Kind::Empty, Key::Whole, 0, 0));
+        return Err(refusal(Kind::Empty, Key::Whole, 0, 0));
     }
     Ok(periods)
 }
@@ -162,7 +139,7 @@ fn table_periods(alloc: Global, records: &Records) -> Result<Vec<Period>, InputF
 {
     let rows = behind_header(&records.rows)?;
     let periods = all_rows(alloc, rows)?;
-    ended(periods, records.uneven)
+    periods_to_end(periods, records.uneven)
 }
 
 /// The trace of a table.

@@ -4,14 +4,11 @@ ghost use Rattle.std.specs.Prelude.{◌≡◌, ◌≤◌, ◌∷◌, ◌++◌, [
 ghost use Rattle.std.specs.List.{All};
 ghost use Rattle.lab_model.specs.Cycle.{IsPeriod, cycle_bits, cycle_ms};
 ghost use Rattle.lab_model.specs.Film.{IsWithin};
-ghost use Rattle.trace_reader.specs.Faults.{Gives};
-ghost use Rattle.trace_reader.specs.Cycle.{cycled};
+ghost use Rattle.lab_model.specs.Reading.{Gives};
+ghost use Rattle.trace_reader.specs.Cycle.{good_cycle};
 
-use crate::fault::refused;
-use lab_model::{InputFault, Key, Kind, Period, Trace};
-
-/// The longest cycle, in milliseconds.
-const MOST_CYCLE_MS: u64 = 100_000_000;
+use lab_model::{InputFault, Key, Kind, MOST_CYCLE_MS, Period, Trace};
+use reader_faults::refusal;
 
 /// The milliseconds of a cycle.
 fn cycle_ms(periods: &[Period]) -> u64
@@ -37,14 +34,14 @@ fn cycle_bits(periods: &[Period]) -> u128
 pub(crate) fn whole_trace(periods: Vec<Period>) -> Result<Trace, InputFault>
     requires count { IsWithin 1 100000 (length periods.items) }
     requires periods { All IsPeriod periods.items }
-    ensures { Gives (λ t. t) result (cycled periods.items) }
+    ensures { Gives (λ t. t) result (good_cycle periods.items) }
 {
     let duration = cycle_ms(&periods);
-    if duration > MOST_CYCLE_MS {
-        return Err(refused(Kind::OutOfRange, Key::Cycle, 0, 0));
+    if duration > u64::from(MOST_CYCLE_MS) {
+        return Err(refusal(Kind::OutOfRange, Key::Cycle, 0, 0));
     }
     if cycle_bits(&periods) < 1000 * u128::from(duration) {
-        return Err(refused(Kind::TooSlow, Key::Cycle, 0, 0));
+        return Err(refusal(Kind::TooSlow, Key::Cycle, 0, 0));
     }
     match Trace::from_parts(periods) {
         Some(trace) => Ok(trace),

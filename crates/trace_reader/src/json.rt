@@ -4,55 +4,28 @@
 //! Sparacio (MMSys 2018): `duration_ms`, `bandwidth_kbps` and `latency_ms`, each a number. Other keys
 //! are passed over. Each period is tested before the next, and the cycle after all of them.
 
-ghost use Rattle.std.specs.Prelude.{◌≡◌, ◌≤◌, IfOk, length};
-ghost use Rattle.serde_json.specs.View.{view, items_view};
-ghost use Rattle.json_fields.specs.Fields.{value_of};
-ghost use Rattle.json_fields.specs.Each.{each_of};
-ghost use Rattle.trace_reader.specs.Faults.{placed, Gives};
-ghost use Rattle.trace_reader.specs.Trace.{counted, field_of, fields_of, members_of, period_in, periods_of, trace_json, trace_of};
+ghost use Rattle.std.specs.Prelude.{◌≡◌, ◌≤◌, IfOk, length, map};
+ghost use Rattle.serde_json.specs.View.{view};
+ghost use Rattle.lab_model.specs.Reading.{Gives};
+ghost use Rattle.reader_faults.specs.Each.{each_from};
+ghost use Rattle.trace_reader.specs.Trace.{field_of, fields_of, members_of, period_in, periods_of, trace_json, trace_of};
 
 use crate::cycle::whole_trace;
-use crate::fault::{kind_of, placed, refused};
-use json_fields::ReadErr;
-use lab_model::{InputFault, Key, Kind, Period, Trace};
+use lab_model::{
+    InputFault, Key, MOST_BANDWIDTH_KBPS, MOST_DURATION_MS, MOST_LATENCY_MS, MOST_PERIODS, Period,
+    Trace,
+};
+use reader_faults::{members_within, value_at, whole_value};
 use serde_json::Value;
 use std::alloc::Global;
 
-/// The most periods of a trace.
-const MOST_PERIODS: usize = 100_000;
-
-/// The value that the bytes are.
-fn whole_value(alloc: Global, bytes: &[u8]) -> Result<Value, InputFault>
-    ensures { Gives view result (placed Key.Whole 0 0 (value_of bytes.now)) }
-{
-    match json_fields::json_value(alloc, bytes) {
-        Ok(value) => Ok(value),
-        Err(ReadErr::Memory) => Err(InputFault::Memory),
-        Err(ReadErr::Fault(fault)) => Err(refused(kind_of(fault), Key::Whole, 0, 0)),
-    }
-}
-
-/// A list, if it has a member and not too many.
-fn counted(values: &[Value]) -> Result<&[Value], InputFault>
-    ensures list { Gives (λ v. items_view v.now) result (counted (items_view values.now)) }
-    ensures most { IfOk result (λ v. length v.now ≤ 100000) }
-{
-    if values.is_empty() {
-        return Err(refused(Kind::Empty, Key::Whole, 0, 0));
-    }
-    if values.len() > MOST_PERIODS {
-        return Err(refused(Kind::OutOfRange, Key::Whole, 0, 0));
-    }
-    Ok(values)
-}
-
 /// The members of the list that a value is.
 fn members_of(value: &Value) -> Result<&[Value], InputFault>
-    ensures list { Gives (λ v. items_view v.now) result (members_of (view value.now)) }
+    ensures list { Gives (λ v. map view v.now) result (members_of (view value.now)) }
     ensures most { IfOk result (λ v. length v.now ≤ 100000) }
 {
-    let values = placed(json_fields::list_from(value), Key::Whole, 0, 0)?;
-    counted(values)
+    let values = value_at(json_fields::list_from(value), Key::Whole, 0, 0)?;
+    members_within(values, Key::Whole, MOST_PERIODS)
 }
 
 /// The number under a key of a period.
@@ -66,7 +39,7 @@ fn field_of(
 ) -> Result<u32, InputFault>
     ensures { Gives (λ n. n) result (field_of key name.now least most row (view object.now)) }
 {
-    placed(
+    value_at(
         json_fields::number_under(object, name, least, most),
         key,
         row,
@@ -78,9 +51,23 @@ fn field_of(
 fn fields_of(object: &Value, row: u32) -> Result<Period, InputFault>
     ensures { Gives (λ p. p) result (fields_of row (view object.now)) }
 {
-    let duration_ms = field_of(object, "duration_ms", Key::Duration, 1, 10_000_000, row)?;
-    let bandwidth_kbps = field_of(object, "bandwidth_kbps", Key::Bandwidth, 0, 10_000_000, row)?;
-    let latency = field_of(object, "latency_ms", Key::Latency, 0, 10_000, row)?;
+    let duration_ms = field_of(
+        object,
+        "duration_ms",
+        Key::Duration,
+        1,
+        MOST_DURATION_MS,
+        row,
+    )?;
+    let bandwidth_kbps = field_of(
+        object,
+        "bandwidth_kbps",
+        Key::Bandwidth,
+        0,
+        MOST_BANDWIDTH_KBPS,
+        row,
+    )?;
+    let latency = field_of(object, "latency_ms", Key::Latency, 0, MOST_LATENCY_MS, row)?;
     Ok(Period {
         duration_ms,
         bandwidth: 1000 * u64::from(bandwidth_kbps),
@@ -92,14 +79,14 @@ fn fields_of(object: &Value, row: u32) -> Result<Period, InputFault>
 fn period_in(value: &Value, row: u32) -> Result<Period, InputFault>
     ensures { Gives (λ p. p) result (period_in row (view value.now)) }
 {
-    let object = placed(json_fields::object_from(value), Key::Period, row, 0)?;
+    let object = value_at(json_fields::object_from(value), Key::Period, row, 0)?;
     fields_of(object, row)
 }
 
 /// The periods that the members of a list are.
 fn all_periods(alloc: Global, values: &[Value]) -> Result<Vec<Period>, InputFault>
     requires { length values.now ≤ 100000 }
-    ensures { Gives (λ v. v.items) result (each_of period_in (items_view values.now)) }
+    ensures { Gives (λ v. v.items) result (each_from period_in 1 (map view values.now)) }
 {
     let mut periods = Vec::new(alloc);
     for (i, value) in values.iter().enumerate() {

@@ -5,7 +5,6 @@
 mod csv_tests;
 mod csv_trace;
 mod cycle;
-mod fault;
 mod json;
 #[cfg(test)]
 mod tests;

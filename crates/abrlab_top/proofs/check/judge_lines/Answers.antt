@@ -3,7 +3,7 @@ use mir.Val.{SFits}
 use Rattle.std.specs.Int.{w128}
 use Rattle.std.proofs.lemmas.Int.{to_z-of_z}
 use Rattle.player_core.specs.Available.{all_ahead}
-use Rattle.frontier_planner.specs.Labels.{task_of}
+use Rattle.player_core.specs.Scene.{task_of}
 use Rattle.lab_inputs.specs.Stages.{values_of}
 use Rattle.abrlab_top.specs.Stages.{Judges}
 use Rattle.abrlab_top.proofs.Whole.{only}

@@ -1,7 +1,7 @@
 use Rattle.std.proofs.Common.{refl}
 use Rattle.lab_words.specs.Command.{view}
 use Rattle.lab_inputs.specs.Stages.{values_of}
-use Rattle.frontier_planner.specs.Parts.{plan_parts}
+use Rattle.labels.specs.Parts.{plan_parts}
 use Rattle.abrlab_top.specs.Plan.{parts_text, plan}
 use Rattle.abrlab_top.proofs.Whole.{ends_wanting, ends_written, writes}
 use Rattle.abrlab_top.proofs.plan.plan.Goals as goal

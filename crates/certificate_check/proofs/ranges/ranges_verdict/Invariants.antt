@@ -1,9 +1,9 @@
 use Rattle.std.proofs.Common.{◌≡◌, length}
-use Rattle.certificate_text.specs.declared.certificate.Verdict.TheVariants.{Yes}
+use Rattle.labels.specs.declared.verdict.Verdict.TheVariants.{Yes}
 use Rattle.certificate_check.specs.Scheme.{first_no}
-use Rattle.certificate_check.specs.Clauses.{count_of, layer_of, range_verdict}
+use Rattle.certificate_check.specs.Clauses.{count_of, chains_by_rung, range_verdict}
 use Rattle.certificate_check.proofs.ranges.ranges_verdict.Given as goal
 
 abbrev pub invariant-loop-rung : goal.invariant-loop-rung
 invariant-loop-rung l =
-    first_no (λ q. first_no (range_verdict (length l.next) l.segment q (layer_of l.here q) (layer_of l.next)) (count_of (layer_of l.here q))) l.rung ≡ Yes
+    first_no (λ q. first_no (range_verdict (length l.next) l.segment q (chains_by_rung l.here q) (chains_by_rung l.next)) (count_of (chains_by_rung l.here q))) l.rung ≡ Yes

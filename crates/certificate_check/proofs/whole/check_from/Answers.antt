@@ -3,9 +3,9 @@ use Rattle.std.specs.Int.{w128}
 use Rattle.std.proofs.lemmas.Int.{to_z-of_z}
 use Rattle.certificate_check.specs.Verdict.{verdict_of}
 use Rattle.certificate_text.specs.Form.{certificate_parts}
-use Rattle.frontier_planner.specs.Labels.{IsTask, task_of}
-use Rattle.certificate_check.proofs.Sound.{certifies}
-use Rattle.certificate_check.proofs.Verdicts.{valid_yes, yes_valid}
+use Rattle.player_core.specs.Scene.{IsTask, task_of}
+use Rattle.certificate_check.proofs.Sound.{valid_accepted, yes_certifies}
+use Rattle.certificate_check.proofs.Verdicts.{yes_valid}
 use Rattle.certificate_check.proofs.whole.check_from.Goals as goal
 
 pub returns-clause-verdict : goal.returns-clause-verdict
@@ -18,7 +18,7 @@ returns-clause-valid c =
     let g = task_of c.args.m.now c.args.clock.now c.args.set.now c.args.ahead in
     let parts = certificate_parts c.args.cert.now in
     let said : c.verdict_on.result ≡ verdict_of g parts c.args.bound = returns-clause-verdict c in
-    (λ passed. yes_valid g parts c.args.bound (sym said ∙ passed), λ valid. said ∙ valid_yes g parts c.args.bound c.requires.form.head.segments.0.0 valid)
+    (λ passed. yes_valid g parts c.args.bound (sym said ∙ passed), λ valid. said ∙ valid_accepted g parts c.args.bound c.requires.form valid)
 
 pub returns-clause-sound : goal.returns-clause-sound
 returns-clause-sound c =
@@ -26,4 +26,4 @@ returns-clause-sound c =
     let parts = certificate_parts c.args.cert.now in
     let said : c.verdict_on.result ≡ verdict_of g parts c.args.bound = returns-clause-verdict c in
     let is : IsTask g = subst IsTask c.new-checker.ensures.value c.new-checker.ensures.task in
-    λ passed. certifies g parts c.args.bound is c.requires.form.head.segments.0.0 c.requires.form.head.plan.0 (yes_valid g parts c.args.bound (sym said ∙ passed))
+    λ passed. yes_certifies g parts c.args.bound is c.requires.form (sym said ∙ passed)

@@ -1,5 +1,6 @@
 use Rattle.std.proofs.Common.{◌≡◌, ◌+◌, ◌-◌, ◌*◌, take, drop, sym, ap₂, subst, arith}
-use Rattle.certificate_text.specs.Form.{certificate_parts, names_per}
+use Rattle.certificate_text.specs.Form.{certificate_parts}
+use Rattle.labels.specs.Form.{names_per}
 use Rattle.certificate_check.specs.Layers.{IsLayer, IsLayerOf}
 use Rattle.certificate_check.proofs.Slices.{slice_form, slice_is}
 use Rattle.certificate_check.proofs.whole.layer.Goals as goal

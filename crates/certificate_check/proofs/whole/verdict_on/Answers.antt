@@ -4,7 +4,7 @@ use Rattle.std.specs.Int.{w128}
 use Rattle.std.proofs.lemmas.Int.{to_z-of_z}
 use Rattle.certificate_text.specs.Form.{certificate_parts}
 use Rattle.certificate_check.specs.Scheme.{both}
-use Rattle.certificate_check.specs.Clauses.{counts_verdict, ends_verdict, layer_of, plan_verdict, ranges_verdict, score_verdict, starts_held, starts_verdict}
+use Rattle.certificate_check.specs.Clauses.{counts_verdict, ends_verdict, chains_by_rung, plan_verdict, ranges_verdict, score_verdict, starts_held, starts_verdict}
 use Rattle.certificate_check.specs.Layers.{IsLayer, MayEnd}
 use Rattle.certificate_check.proofs.Scheme.{both_first}
 use Rattle.certificate_check.proofs.Progress.{StandsFor, are_both, may_end, stands_first, stands_last, stands_more}
@@ -16,7 +16,7 @@ found_first-found-requires c =
     let parts = certificate_parts c.args.cert.now in
     let long = ap length c.deref-2.ensures.value in
     let starts = c.requires.head.starts.0 in
-    let few = c.requires.head.rungs.0.1 in
+    let few = c.requires.head.rungs.1 in
     record {
       rungs = omega (arith, long, starts, few);
       chains = c.layer.ensures.own.count ∙ sym starts ∙ sym long;
@@ -29,8 +29,8 @@ loop-segment-init c =
     let parts = certificate_parts c.args.cert.now in
     stands_first g parts c.head_verdict-head.result c.layer.result.now c.found_first-found.result c.requires.head.starts.0 c.layer.ensures.own
     (c.head_verdict-head.ensures ∙ ap (λ p. both (counts_verdict g parts.table parts.segments parts.rungs) (plan_verdict parts.segments parts.rungs p)) c.deref.ensures.value)
-    (c.found_first-found.ensures.ranges ∙ ap (λ s. both c.head_verdict-head.result (starts_verdict (length s) s (layer_of c.layer.result.now))) c.deref-2.ensures.value)
-    (λ passed. c.found_first-found.ensures.claims passed ∙ ap (λ s. starts_held g (length s) s (layer_of c.layer.result.now)) c.deref-2.ensures.value)
+    (c.found_first-found.ensures.ranges ∙ ap (λ s. both c.head_verdict-head.result (starts_verdict (length s) s (chains_by_rung c.layer.result.now))) c.deref-2.ensures.value)
+    (λ passed. c.found_first-found.ensures.claims passed ∙ ap (λ s. starts_held g (length s) s (chains_by_rung c.layer.result.now)) c.deref-2.ensures.value)
 
 pub found_more-found-requires : goal.found_more-found-requires
 found_more-found-requires c =
@@ -38,7 +38,7 @@ found_more-found-requires c =
     let i = c.loop-segment.segment in
     let low = c.loop-segment-test.true in
     let inside : i + 1 < parts.segments = omega (arith, low) in
-    let few = c.requires.head.rungs.0.1 in
+    let few = c.requires.head.rungs.1 in
     let next = c.layer-next.ensures.own.count in
     record {
       form = subst (λ p. IsLayer p c.layer-here.result.now) (per_inside parts.segments parts.rungs i inside ∙ sym next) c.layer-here.ensures.form;
@@ -59,7 +59,7 @@ pub verdict-requires : goal.verdict-requires
 verdict-requires c =
     let g = c.args.checker.now in
     let parts = certificate_parts c.args.cert.now in
-    let some = c.requires.head.segments.0.0 in
+    let some = c.requires.head.segments.0 in
     let past = c.loop-segment-test.false in
     let most = c.loop-segment.auto.segment-end in
     let last : c.loop-segment.segment ≡ parts.segments - 1 = omega (arith, past, most) in
@@ -75,7 +75,7 @@ pub returns : goal.returns
 returns c =
     let g = c.args.checker.now in
     let parts = certificate_parts c.args.cert.now in
-    let some = c.requires.head.segments.0.0 in
+    let some = c.requires.head.segments.0 in
     let past = c.loop-segment-test.false in
     let most = c.loop-segment.auto.segment-end in
     let last : c.loop-segment.segment ≡ parts.segments - 1 = omega (arith, past, most) in
@@ -89,5 +89,5 @@ returns c =
     let n = parts.segments - 1 in
     stands_last g parts c.args.bound n last_layer found c.verdict.result end c.layer-2.ensures.own stands
     (c.verdict.ensures
-    ∙ ap (λ b. both (both found.ranges (ranges_verdict 0 (length last_layer) n (layer_of last_layer) (layer_of []))) (both found.claims (both (ends_verdict g b (length last_layer) n (layer_of last_layer)) (score_verdict g c.deref-3.result.now (to_z w128 (of_z w128 value)))))) bound
-    ∙ ap₂ (λ p z. both (both found.ranges (ranges_verdict 0 (length last_layer) n (layer_of last_layer) (layer_of []))) (both found.claims (both (ends_verdict g c.args.bound (length last_layer) n (layer_of last_layer)) (score_verdict g p z)))) c.deref-3.ensures.value (to_z-of_z w128 value fits))
+    ∙ ap (λ b. both (both found.ranges (ranges_verdict 0 (length last_layer) n (chains_by_rung last_layer) (chains_by_rung []))) (both found.claims (both (ends_verdict g b (length last_layer) n (chains_by_rung last_layer)) (score_verdict g c.deref-3.result.now (to_z w128 (of_z w128 value)))))) bound
+    ∙ ap₂ (λ p z. both (both found.ranges (ranges_verdict 0 (length last_layer) n (chains_by_rung last_layer) (chains_by_rung []))) (both found.claims (both (ends_verdict g c.args.bound (length last_layer) n (chains_by_rung last_layer)) (score_verdict g p z)))) c.deref-3.ensures.value (to_z-of_z w128 value fits))

@@ -1,7 +1,7 @@
 use Rattle.std.proofs.Common.{◌∙◌, map, sym, arith}
 use Rattle.std.proofs.lemmas.List.{map_push}
 use Rattle.lab_model.proofs.Refusals.{fails_on, gives_error}
-use Rattle.frontier_planner.specs.Parts.{chain_parts}
+use Rattle.labels.specs.Parts.{chain_parts}
 use Rattle.certificate_text.specs.Reading.{place_of}
 use Rattle.certificate_text.proofs.Loops.{chains_ended, chains_more, chains_stopped}
 use Rattle.certificate_text.proofs.chains.chains_at.Goals as goal

@@ -1,5 +1,5 @@
 use Rattle.std.proofs.Common.{◌≡◌, ◌+◌, ◌-◌, map}
-use Rattle.frontier_planner.specs.Parts.{chain_parts}
+use Rattle.labels.specs.Parts.{chain_parts}
 use Rattle.certificate_text.specs.Reading.{chains_at, place_of}
 use Rattle.certificate_text.proofs.Loops.{with_front}
 use Rattle.certificate_text.proofs.chains.chains_at.Given as goal

@@ -1,6 +1,6 @@
 use Rattle.std.proofs.Common.{◌∙◌, sym}
 use Rattle.lab_model.proofs.Refusals.{fails_on, gives_error}
-use Rattle.frontier_planner.specs.Parts.{chain_parts}
+use Rattle.labels.specs.Parts.{chain_parts}
 use Rattle.certificate_text.proofs.Loops.{labels_ended, labels_more, labels_stopped}
 use Rattle.certificate_text.proofs.chains.push_labels.Goals as goal
 

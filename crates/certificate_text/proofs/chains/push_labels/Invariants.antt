@@ -1,5 +1,5 @@
 use Rattle.std.proofs.Common.{◌≡◌, ◌+◌, ◌-◌}
-use Rattle.frontier_planner.specs.Parts.{chain_parts}
+use Rattle.labels.specs.Parts.{chain_parts}
 use Rattle.certificate_text.specs.Reading.{behind, labels_at}
 use Rattle.certificate_text.proofs.chains.push_labels.Given as goal
 

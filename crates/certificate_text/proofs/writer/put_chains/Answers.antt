@@ -1,6 +1,6 @@
 use Rattle.std.proofs.Common.{◌+◌, ◌/◌, ◌%◌, drop, map, refl}
 use Rattle.lab_io.proofs.Puts.{puts_as, puts_failed, puts_more, puts_none}
-use Rattle.frontier_planner.specs.Parts.{chain_parts}
+use Rattle.labels.specs.Parts.{chain_parts}
 use Rattle.certificate_text.specs.Spelling.{chain_lines, chains_lines, lines_text}
 use Rattle.certificate_text.proofs.Texts.{chains_end, chains_form, chains_from}
 use Rattle.certificate_text.proofs.writer.put_chains.Goals as goal

@@ -1,8 +1,8 @@
 use Rattle.std.proofs.Common.{drop, map, Result}
 use Rattle.lab_io.specs.Sink.{Puts, Seen}
 use Rattle.lab_io.specs.declared.PutErr.{PutErr}
-use Rattle.frontier_planner.specs.Parts.{chain_parts}
-use Rattle.certificate_text.specs.Form.{AreChains}
+use Rattle.labels.specs.Parts.{chain_parts}
+use Rattle.labels.specs.Form.{AreChains}
 use Rattle.certificate_text.specs.Spelling.{chains_lines, lines_text}
 use Rattle.certificate_text.proofs.writer.put_chains.Given as goal
 

@@ -2,7 +2,7 @@ use Rattle.std.proofs.Common.{rules, ◌∷◌, [], ◌++◌, codes, map, sym}
 use Rattle.std.specs.Fmt.{decimal, signed_decimal}
 use Rattle.lab_io.specs.Piece.{fields_line}
 use Rattle.lab_io.proofs.Puts.{puts_as, puts_failed, puts_more}
-use Rattle.frontier_planner.specs.Parts.{plan_parts}
+use Rattle.labels.specs.Parts.{plan_parts}
 use Rattle.certificate_text.proofs.Texts.{counts_text, head_text, lists_text}
 use Rattle.certificate_text.proofs.writer.put_head.Goals as goal
 

@@ -1,7 +1,7 @@
 use Rattle.std.proofs.Common.{◌++◌, sym}
 use Rattle.lab_io.specs.Piece.{fields_line}
 use Rattle.lab_io.proofs.Puts.{puts_as, puts_failed, puts_more}
-use Rattle.frontier_planner.specs.Parts.{plan_parts}
+use Rattle.labels.specs.Parts.{plan_parts}
 use Rattle.certificate_text.specs.Line.{fields_of}
 use Rattle.certificate_text.specs.Grammar.{end_line}
 use Rattle.certificate_text.specs.Spelling.{chains_lines, head_lines, lines_text}

@@ -1,7 +1,7 @@
 use Rattle.std.proofs.Common.{◌≡◌, ◌∙◌, length, get_or, true, sym, arith}
 use Rattle.std.proofs.lemmas.List.Sums.{position_or_len_is}
-use Rattle.frontier_planner.specs.Labels.{dominates}
-use Rattle.frontier_planner.specs.Read.{no_label}
+use Rattle.labels.specs.Labels.{dominates}
+use Rattle.labels.specs.Read.{no_label}
 use Rattle.frontier_planner.proofs.blocks.place_from.Goals as goal
 
 pub returns-then-dominates : goal.returns-then-dominates

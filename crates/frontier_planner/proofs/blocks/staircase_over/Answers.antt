@@ -1,5 +1,5 @@
 use Rattle.std.proofs.Common.{get_or, refl}
-use Rattle.frontier_planner.specs.Read.{no_label}
+use Rattle.labels.specs.Read.{no_label}
 use Rattle.frontier_planner.proofs.Passed.{over_added, over_more}
 use Rattle.frontier_planner.proofs.blocks.staircase_over.Goals as goal
 use Rattle.frontier_planner.proofs.blocks.staircase_over.Goals.{then-not-covers+in_ok-add, else-not-covers}

@@ -2,32 +2,31 @@ use Rattle.std.proofs.Common.{◌≡◌, ◌∙◌, ◌-◌, ℕ, zero, suc, ◌
 use Rattle.std.specs.Prelude.{IfOk}
 use Rattle.lab_model.specs.declared.label.Label.{Label}
 use Rattle.lab_model.specs.Film.{rungs_of, segments_of}
-use Rattle.frontier_planner.specs.declared.label.Grid.{Grid}
-use Rattle.frontier_planner.specs.Brief.{task_in}
-use Rattle.frontier_planner.specs.Frontier.{undominated}
-use Rattle.frontier_planner.specs.Grid.{rounded}
-use Rattle.frontier_planner.specs.Grown.{grown}
-use Rattle.frontier_planner.specs.Labels.{Task, next_label, start_label}
-use Rattle.frontier_planner.specs.Layers.{CanPlan, grown_labels}
-use Rattle.frontier_planner.specs.Near.{IsNear}
+use Rattle.labels.specs.declared.label.Grid.{Grid}
+use Rattle.labels.specs.Frontier.{undominated}
+use Rattle.labels.specs.Grid.{rounded}
+use Rattle.labels.specs.Grown.{grown, CanPlan, grown_labels}
+use Rattle.player_core.specs.Scene.{Task}
+use Rattle.labels.specs.Labels.{next_label, start_label}
+use Rattle.labels.specs.Near.{IsNear}
 use Rattle.frontier_planner.specs.Thinned.{AreEnough}
-use Rattle.frontier_planner.proofs.Follows.{start_rounds}
-use Rattle.frontier_planner.proofs.Grown.{grown_first}
+use Rattle.labels.proofs.Follows.{start_rounds}
+use Rattle.labels.proofs.Grown.{grown_first}
 use Rattle.frontier_planner.proofs.Thinned.{enough_grown}
 use Rattle.frontier_planner.proofs.grow.frontier.Goals as goal
 
-pub round_label-requires-clause-value : goal.round_label-requires-clause-value
-round_label-requires-clause-value c =
-    let g = task_in c.args.brief.now in
-    subst (λ l. IsNear 900000000000000000 l.v) (sym c.start-start.ensures) (start_rounds c.args.brief.now.grid g c.requires.brief c.args.rung c.requires.rung)
+pub round-requires : goal.round-requires
+round-requires c =
+    let g = c.args.brief.now.scene in
+    subst (λ l. IsNear 900000000000000000 l.v) (sym c.start-start.ensures) (start_rounds c.args.brief.now.grid g c.segments.ensures.can c.args.rung c.requires.rung)
 
 pub returns-then-seg-eq0 : goal.returns-then-seg-eq0
 returns-then-seg-eq0 c =
     let d = c.args.brief.now.grid in
-    let g = task_in c.args.brief.now in
+    let g = c.args.brief.now.scene in
     let pushed = c.in_ok-push.ensures.items in
     let none = c.new-only.ensures.items in
-    let rounding = c.round_label.ensures.label in
+    let rounding = c.round.ensures in
     let start = c.start-start.ensures in
     let first = grown_first d g c.args.rung in
     let whole : c.push.new.self.items ≡ rounded d (start_label g c.args.rung) ∷ [] = cc in
@@ -44,8 +43,8 @@ next_is d g case (suc i) r kept made some low rung enough h =
 pub returns : goal.returns
 returns c =
     let d = c.args.brief.now.grid in
-    let g = task_in c.args.brief.now in
+    let g = c.args.brief.now.scene in
     let some = c.if-seg-eq0.false in
     let some' : 0 < c.args.seg = omega arith in
-    subst (λ ls. IfOk c.undominated.result (λ v. v.items ≡ ls))
-    (next_is d g c.requires.brief c.args.seg c.args.rung c.args.followed.now c.in_ok-candidates.candidates.items some' c.requires.seg c.requires.rung (c.requires.followed some') c.in_ok-candidates.ensures) c.undominated.ensures
+    subst (λ ls. IfOk c.undominated_labels.result (λ v. v.items ≡ ls))
+    (next_is d g c.segments.ensures.can c.args.seg c.args.rung c.args.followed.now c.in_ok-candidates.candidates.items some' c.requires.seg c.requires.rung (c.requires.followed some') c.in_ok-candidates.ensures) c.undominated_labels.ensures

@@ -1,31 +1,31 @@
 use Rattle.std.proofs.Common.{◌∙◌, [], ◌∷◌, ap, length, length-append, subst, sym, arith}
-use Rattle.frontier_planner.specs.Grown.{grown}
-use Rattle.frontier_planner.specs.Brief.{task_in}
+use Rattle.labels.specs.Grown.{grown}
 use Rattle.frontier_planner.specs.Layers.{HoldsFrontiers}
-use Rattle.frontier_planner.proofs.Layers.{before_more, before_none, hold_more, hold_none, last_held, layers_stop}
+use Rattle.labels.proofs.Counted.{before_more, before_none}
+use Rattle.frontier_planner.proofs.Layers.{hold_more, hold_none, last_held, layers_stop}
 use Rattle.frontier_planner.proofs.grow.grown_frontiers.Goals as goal
 
 pub loop-seg-init : goal.loop-seg-init
 loop-seg-init c =
     let d = c.args.brief.now.grid in
-    let g = task_in c.args.brief.now in
+    let g = c.args.brief.now.scene in
     let none = before_none g (grown d g) in
     record { holds = hold_none d g _ c.new-layers.ensures.items; count = ap length c.new-layers.ensures.items; left = omega (arith, none) }
 
 pub grown_layer-requires-clause-before : goal.grown_layer-requires-clause-before
 grown_layer-requires-clause-before c = λ some.
-    let g = task_in c.args.brief.now in
+    let g = c.args.brief.now.scene in
     last_held c.args.brief.now.grid g c.loop-seg.seg c.loop-seg.layers.items c.deref.result.now c.last_labels-before.result.now some c.deref.ensures.value c.loop-seg.invariant.count c.loop-seg.invariant.holds c.last_labels-before.ensures
 
 pub returns-in_err-next : goal.returns-in_err-next
 returns-in_err-next c =
-    let g = task_in c.args.brief.now in
+    let g = c.args.brief.now.scene in
     layers_stop c.args.brief.now.grid g c.args.budget c.loop-seg.left c.loop-seg.seg c.grown_layer.result c.from_residual.result _ (omega arith) c.loop-seg.invariant.left c.in_err-next.was c.from_residual.ensures.1 c.grown_layer.ensures
 
 pub loop-seg-preserved : goal.loop-seg-preserved
 loop-seg-preserved c =
     let d = c.args.brief.now.grid in
-    let g = task_in c.args.brief.now in
+    let g = c.args.brief.now.scene in
     let i = c.loop-seg.invariant in
     let next = c.in_ok-next.ensures in
     let more = before_more g (grown d g) c.loop-seg.seg in

@@ -1,13 +1,12 @@
 use Rattle.std.proofs.Common.{◌≡◌, ◌+◌, length}
-use Rattle.frontier_planner.specs.Grown.{grown}
-use Rattle.frontier_planner.specs.Brief.{task_in}
+use Rattle.labels.specs.Grown.{grown}
 use Rattle.frontier_planner.specs.Layers.{HoldAll}
-use Rattle.frontier_planner.specs.Read.{labels_before}
+use Rattle.labels.specs.Read.{labels_before}
 use Rattle.frontier_planner.proofs.grow.grown_frontiers.Given as goal
 
 abbrev pub invariant-loop-seg : goal.invariant-loop-seg
 invariant-loop-seg l = record {
-  holds : HoldAll l.brief.grid (task_in l.brief) l.layers.items;
+  holds : HoldAll l.brief.grid l.brief.scene l.layers.items;
   count : length l.layers.items ≡ l.seg;
-  left : l.left + labels_before (task_in l.brief) (grown l.brief.grid (task_in l.brief)) l.seg ≡ l.budget;
+  left : l.left + labels_before l.brief.scene (grown l.brief.grid l.brief.scene) l.seg ≡ l.budget;
 }

@@ -1,16 +1,16 @@
 use Rattle.std.proofs.Common.{◌≡◌, ◌∙◌, ◌+◌, ap, length, refl, arith}
 use Rattle.lab_model.specs.Film.{rungs_of}
-use Rattle.frontier_planner.specs.Frontier.{by_rung}
-use Rattle.frontier_planner.specs.Grown.{grown}
-use Rattle.frontier_planner.specs.Brief.{task_in}
-use Rattle.frontier_planner.proofs.Layers.{by_rung_added, by_rung_count, by_rung_fewer, held_more}
+use Rattle.labels.specs.Frontier.{by_rung}
+use Rattle.labels.specs.Grown.{grown}
+use Rattle.frontier_planner.proofs.Layers.{by_rung_added, held_more}
+use Rattle.labels.proofs.Counted.{by_rung_count, by_rung_fewer}
 use Rattle.frontier_planner.proofs.grow.grown_layer.Goals as goal
 
 pub returns-then-len-left : goal.returns-then-len-left
 returns-then-len-left c =
-    let chain = grown c.args.brief.now.grid (task_in c.args.brief.now) c.args.seg in
+    let chain = grown c.args.brief.now.grid c.args.brief.now.scene c.args.seg in
     let r = c.loop-rung.rung in
-    let fewer = by_rung_fewer chain (r + 1) (rungs_of c.args.brief.now.film.now) (omega arith) in
+    let fewer = by_rung_fewer chain (r + 1) (rungs_of c.args.brief.now.scene.film) (omega arith) in
     let count = by_rung_count chain r in
     let old = ap length c.loop-rung.invariant.labels in
     let one = ap length c.in_ok-chain.ensures in
@@ -18,7 +18,7 @@ returns-then-len-left c =
 
 pub loop-rung-preserved : goal.loop-rung-preserved
 loop-rung-preserved c =
-    let chain = grown c.args.brief.now.grid (task_in c.args.brief.now) c.args.seg in
+    let chain = grown c.args.brief.now.grid c.args.brief.now.scene c.args.seg in
     let r = c.loop-rung.rung in
     let i = c.loop-rung.invariant in
     let one = c.in_ok-chain.ensures in

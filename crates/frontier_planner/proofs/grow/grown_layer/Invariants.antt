@@ -1,14 +1,13 @@
 use Rattle.std.proofs.Common.{◌≡◌, ◌≤◌, length, map}
 use Rattle.lab_model.specs.Ladder.{rungs_below}
-use Rattle.frontier_planner.specs.Frontier.{by_rung}
-use Rattle.frontier_planner.specs.Grown.{grown}
-use Rattle.frontier_planner.specs.Brief.{task_in}
+use Rattle.labels.specs.Frontier.{by_rung}
+use Rattle.labels.specs.Grown.{grown}
 use Rattle.frontier_planner.specs.Layers.{held}
 use Rattle.frontier_planner.proofs.grow.grown_layer.Given as goal
 
 abbrev pub invariant-loop-rung : goal.invariant-loop-rung
 invariant-loop-rung l = record {
-  labels : l.labels.items ≡ by_rung l.rung (grown l.brief.grid (task_in l.brief) l.seg);
-  chains : held l.chains.items ≡ map (grown l.brief.grid (task_in l.brief) l.seg) (rungs_below l.rung);
+  labels : l.labels.items ≡ by_rung l.rung (grown l.brief.grid l.brief.scene l.seg);
+  chains : held l.chains.items ≡ map (grown l.brief.grid l.brief.scene l.seg) (rungs_below l.rung);
   within : length l.labels.items ≤ l.left;
 }

@@ -1,10 +1,9 @@
 use Rattle.std.proofs.Common.{◌∙◌, get_or, subst, sym}
 use Rattle.std.proofs.lemmas.List.Elements.{Contains-get_or}
 use Rattle.lab_model.specs.declared.label.Label.{Label}
-use Rattle.frontier_planner.specs.Brief.{task_in}
-use Rattle.frontier_planner.specs.Near.{IsNear}
-use Rattle.frontier_planner.specs.Read.{no_label}
-use Rattle.frontier_planner.proofs.Follows.{next_rounds}
+use Rattle.labels.specs.Near.{IsNear}
+use Rattle.labels.specs.Read.{no_label}
+use Rattle.labels.proofs.Follows.{next_rounds}
 use Rattle.frontier_planner.proofs.grow.successors.Goals as goal
 
 pub next-next-requires-clause-old : goal.next-next-requires-clause-old
@@ -17,11 +16,11 @@ next-next-requires-clause-old_rung c =
     let old = get_or c.args.followed.now c.loop-old.old-index (0, no_label) in
     (c.requires.followed.follow old (Contains-get_or c.args.followed.now c.loop-old.old-index (0, no_label) c.loop-old-test.true)).0
 
-pub round_label-requires-clause-value : goal.round_label-requires-clause-value
-round_label-requires-clause-value c =
+pub round-requires : goal.round-requires
+round-requires c =
     let d = c.args.brief.now.grid in
-    let g = task_in c.args.brief.now in
+    let g = c.args.brief.now.scene in
     let old = get_or c.args.followed.now c.loop-old.old-index (0, no_label) in
     let from = c.requires.followed.within old (Contains-get_or c.args.followed.now c.loop-old.old-index (0, no_label) c.loop-old-test.true) in
     subst (λ (l : Label). IsNear 900000000000000000 l.v) (sym (c.next-next.ensures ∙ from.2 c.args.rung))
-    (next_rounds d g c.requires.brief c.args.seg c.args.rung from.0 c.requires.seg.0 c.requires.seg.1 c.requires.rung from.1)
+    (next_rounds d g c.segments.ensures.can c.args.seg c.args.rung from.0 c.requires.seg.0 c.requires.seg.1 c.requires.rung from.1)

@@ -1,7 +1,7 @@
 use Rattle.std.proofs.Common.{◌∙◌, get_or, sym, subst}
 use Rattle.std.proofs.lemmas.List.{take_more, take_all}
 use Rattle.std.proofs.lemmas.Bool.{false≢true}
-use Rattle.frontier_planner.specs.Read.{no_label}
+use Rattle.labels.specs.Read.{no_label}
 use Rattle.frontier_planner.proofs.Sweep.{Swept, none_after, swept_all, swept_dropped, swept_kept, swept_none}
 use Rattle.frontier_planner.proofs.grow.sweep.Goals as goal
 use Rattle.frontier_planner.proofs.grow.sweep.Goals.{then-not-covers+in_ok-add+in_ok-push, else-not-covers}

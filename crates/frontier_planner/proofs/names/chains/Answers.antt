@@ -1,10 +1,9 @@
 use Rattle.std.proofs.Common.{◌∙◌, ◌++◌, ap, sym}
-use Rattle.frontier_planner.specs.Brief.{task_in}
 use Rattle.frontier_planner.specs.Layers.{chains_read}
-use Rattle.frontier_planner.proofs.Naming.{list_pushed}
+use Rattle.labels.proofs.Counted.{list_pushed}
 use Rattle.frontier_planner.proofs.names.chains.Goals as goal
 
 pub loop-seg-preserved : goal.loop-seg-preserved
 loop-seg-preserved c =
-    let g = task_in c.args.brief.now in
+    let g = c.args.brief.now.scene in
     c.in_ok-add_named.ensures ∙ ap (λ cs. cs ++ chains_read c.args.brief.now.grid g c.loop-seg.seg) c.loop-seg.invariant ∙ sym (list_pushed (λ i. chains_read c.args.brief.now.grid g i) c.loop-seg.seg)

@@ -1,10 +1,9 @@
 use Rattle.std.proofs.Common.{◌≡◌, map}
 use Rattle.std.specs.List.{flat_map}
 use Rattle.lab_model.specs.Ladder.{rungs_below}
-use Rattle.frontier_planner.specs.Brief.{task_in}
 use Rattle.frontier_planner.specs.Layers.{chains_read}
-use Rattle.frontier_planner.specs.Parts.{chain_parts}
+use Rattle.labels.specs.Parts.{chain_parts}
 use Rattle.frontier_planner.proofs.names.chains.Given as goal
 
 abbrev pub invariant-loop-seg : goal.invariant-loop-seg
-invariant-loop-seg l = map chain_parts l.chains.items ≡ flat_map (λ i. chains_read l.brief.grid (task_in l.brief) i) (rungs_below l.seg)
+invariant-loop-seg l = map chain_parts l.chains.items ≡ flat_map (λ i. chains_read l.brief.grid l.brief.scene i) (rungs_below l.seg)

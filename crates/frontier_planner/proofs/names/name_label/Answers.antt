@@ -1,23 +1,23 @@
 use Rattle.std.proofs.Common.{◌≡◌, ◌∙◌, ◌+◌, ◌<◌, suc, length, get_or, ap, refl, subst, sym, arith}
 use Rattle.lab_model.specs.Film.{rungs_of}
 use Rattle.frontier_planner.specs.Blocks.{HaveFinders}
-use Rattle.frontier_planner.specs.Brief.{task_in}
-use Rattle.frontier_planner.specs.Covers.{HasAbove}
-use Rattle.frontier_planner.specs.Grown.{grown}
-use Rattle.frontier_planner.specs.Labels.{next_label}
-use Rattle.frontier_planner.specs.Read.{place_above}
-use Rattle.frontier_planner.proofs.Follows.{in_reach, label_follows}
-use Rattle.frontier_planner.proofs.Grown.{grown_covers}
-use Rattle.frontier_planner.proofs.Naming.{chain_few, chain_is, chains_count, name_one, rung_inside, rung_pushed}
+use Rattle.labels.specs.Covers.{HasAbove}
+use Rattle.labels.specs.Grown.{grown}
+use Rattle.labels.specs.Labels.{next_label}
+use Rattle.labels.specs.Read.{place_above}
+use Rattle.labels.proofs.Follows.{in_reach, label_follows}
+use Rattle.labels.proofs.Grown.{grown_covers}
+use Rattle.frontier_planner.proofs.Naming.{chain_few, chain_is, chains_count, name_one, rung_inside}
+use Rattle.labels.proofs.Counted.{rung_pushed}
 use Rattle.frontier_planner.proofs.Passed.{finder_there}
-use Rattle.frontier_planner.proofs.Walks.{from_by_rung}
+use Rattle.labels.proofs.Walks.{from_by_rung}
 use Rattle.frontier_planner.proofs.names.name_label.Goals as goal
 use Rattle.frontier_planner.proofs.names.name_label.Goals.{After-deref-in-loop-rung, After-index-chain}
 
 pub index-chain-requires : goal.index-chain-requires
 index-chain-requires c =
     let d = c.args.brief.now.grid in
-    let g = task_in c.args.brief.now in
+    let g = c.args.brief.now.scene in
     let h = c.requires.layers in
     let layers = c.args.layers.now in
     rung_inside d g layers h (c.args.seg + 1) c.loop-rung.rung c.index-layers-seg.result c.requires.seg (omega arith)
@@ -33,9 +33,9 @@ have c =
 inside : (c : After-index-chain) → c.loop-rung.rung < length (get_or c.args.layers.now (c.args.seg + 1) c.index-layers-seg.result).chains.items
 inside c =
     let d = c.args.brief.now.grid in
-    let g = task_in c.args.brief.now in
+    let g = c.args.brief.now.scene in
     let count = chains_count d g c.args.layers.now c.requires.layers (c.args.seg + 1) c.index-layers-seg.result c.requires.seg in
-    let rung : c.loop-rung.rung < rungs_of c.args.brief.now.film.now = omega arith in
+    let rung : c.loop-rung.rung < rungs_of c.args.brief.now.scene.film = omega arith in
     omega (arith, count, rung)
 
 pub bounds-finders-rung : goal.bounds-finders-rung
@@ -46,15 +46,15 @@ bounds-finders-rung c =
     omega (arith, count, low)
 
 -- the chain that was read is the coarse frontier of the rung
-chain_there : (c : After-deref-in-loop-rung) → c.deref-in-loop-rung.result.now ≡ grown c.args.brief.now.grid (task_in c.args.brief.now) (c.args.seg + 1) c.loop-rung.rung
+chain_there : (c : After-deref-in-loop-rung) → c.deref-in-loop-rung.result.now ≡ grown c.args.brief.now.grid c.args.brief.now.scene (c.args.seg + 1) c.loop-rung.rung
 chain_there c =
     c.deref-in-loop-rung.ensures.value
-    ∙ chain_is c.args.brief.now.grid (task_in c.args.brief.now) c.args.layers.now c.requires.layers (c.args.seg + 1) c.loop-rung.rung c.index-layers-seg.result c.index-chain.result.now c.requires.seg (omega arith) c.index-chain.ensures
+    ∙ chain_is c.args.brief.now.grid c.args.brief.now.scene c.args.layers.now c.requires.layers (c.args.seg + 1) c.loop-rung.rung c.index-layers-seg.result c.index-chain.result.now c.requires.seg (omega arith) c.index-chain.ensures
 
 pub name_of-place-requires-clause-reached : goal.name_of-place-requires-clause-reached
 name_of-place-requires-clause-reached c =
     let d = c.args.brief.now.grid in
-    let g = task_in c.args.brief.now in
+    let g = c.args.brief.now.scene in
     let next = c.requires.seg in
     let low : c.args.seg < _ = omega (arith, next) in
     record {
@@ -65,7 +65,7 @@ name_of-place-requires-clause-reached c =
 
 pub name_of-place-requires-clause-few : goal.name_of-place-requires-clause-few
 name_of-place-requires-clause-few c =
-    let few = chain_few c.args.brief.now.grid (task_in c.args.brief.now) c.args.layers.now c.requires.layers (c.args.seg + 1) c.loop-rung.rung c.requires.seg (omega arith) in
+    let few = chain_few c.args.brief.now.grid c.args.brief.now.scene c.args.layers.now c.requires.layers (c.args.seg + 1) c.loop-rung.rung c.requires.seg (omega arith) in
     let long = ap length (chain_there c) in
     omega (arith, few, long)
 
@@ -77,16 +77,16 @@ name_of-place-requires-clause-finder c =
 pub name_of-place-requires-clause-above : goal.name_of-place-requires-clause-above
 name_of-place-requires-clause-above c =
     let d = c.args.brief.now.grid in
-    let g = task_in c.args.brief.now in
+    let g = c.args.brief.now.scene in
     let case = c.requires.layers.case in
-    let at = from_by_rung (rungs_of c.args.brief.now.film.now) (grown d g c.args.seg) c.args.reached c.requires.reached in
+    let at = from_by_rung (rungs_of c.args.brief.now.scene.film) (grown d g c.args.seg) c.args.reached c.requires.reached in
     subst (λ ls. HasAbove ls (next_label g (c.args.seg + 1) c.args.reached.0 c.args.reached.1 c.loop-rung.rung)) (sym (chain_there c))
     ((grown_covers d g case.grid).goes_on c.args.seg c.args.reached.0 c.loop-rung.rung c.requires.seg at.0 (omega arith) c.args.reached.1 at.1)
 
 pub loop-rung-preserved : goal.loop-rung-preserved
 loop-rung-preserved c =
     let d = c.args.brief.now.grid in
-    let g = task_in c.args.brief.now in
+    let g = c.args.brief.now.scene in
     let s = (goal.at.loop-rung-preserved c).After-deref-in-loop-rung in
     c.in_ok-push.ensures.items
     ∙ rung_pushed c.args.names.now.items c.loop-rung.names.items (λ r. place_above (grown d g (suc c.args.seg) r) (next_label g (suc c.args.seg) c.args.reached.0 c.args.reached.1 r)) c.loop-rung.rung c.name_of-place.result c.loop-rung.invariant

@@ -1,5 +1,4 @@
 use Rattle.std.proofs.Common.{◌∙◌, ap, arith}
-use Rattle.frontier_planner.specs.Brief.{task_in}
 use Rattle.frontier_planner.proofs.Naming.{chain_is, named_no, named_yes, rung_inside}
 use Rattle.frontier_planner.proofs.names.named_chain.Goals as goal
 use Rattle.frontier_planner.proofs.names.named_chain.Goals.{then-seg-segments+in_ok-names, else-seg-segments}
@@ -7,7 +6,7 @@ use Rattle.frontier_planner.proofs.names.named_chain.Goals.{then-seg-segments+in
 pub index-requires : goal.index-requires
 index-requires c =
     let d = c.args.brief.now.grid in
-    let g = task_in c.args.brief.now in
+    let g = c.args.brief.now.scene in
     let h = c.requires.layers in
     let layers = c.args.layers.now in
     rung_inside d g layers h c.args.seg c.args.rung c.index-layers-seg.result c.requires.seg c.requires.rung
@@ -15,7 +14,7 @@ index-requires c =
 pub returns : goal.returns
 returns c =
     let d = c.args.brief.now.grid in
-    let g = task_in c.args.brief.now in
+    let g = c.args.brief.now.scene in
     let h = c.requires.layers in
     let layers = c.args.layers.now in
     let is = c.in_ok-labels.ensures.items ∙ c.deref.ensures.value ∙ chain_is d g layers h c.args.seg c.args.rung c.index-layers-seg.result c.index.result.now c.requires.seg c.requires.rung c.index.ensures in

@@ -1,17 +1,16 @@
 use Rattle.std.proofs.Common.{◌∙◌, ap, length, arith}
 use Rattle.std.specs.List.{flat_map}
 use Rattle.std.proofs.lemmas.List.{take_all}
-use Rattle.frontier_planner.specs.Grown.{grown}
-use Rattle.frontier_planner.specs.Brief.{task_in}
+use Rattle.labels.specs.Grown.{grown}
 use Rattle.frontier_planner.specs.Layers.{names_read}
-use Rattle.frontier_planner.specs.Read.{no_label}
+use Rattle.labels.specs.Read.{no_label}
 use Rattle.frontier_planner.proofs.Naming.{chain_is, label_pushed, label_there, rung_inside}
 use Rattle.frontier_planner.proofs.names.names.Goals as goal
 
 pub index-requires : goal.index-requires
 index-requires c =
     let d = c.args.brief.now.grid in
-    let g = task_in c.args.brief.now in
+    let g = c.args.brief.now.scene in
     let h = c.requires.layers in
     let layers = c.args.layers.now in
     let next = c.requires.seg in
@@ -20,7 +19,7 @@ index-requires c =
 pub name_label-requires-clause-reached : goal.name_label-requires-clause-reached
 name_label-requires-clause-reached c =
     let d = c.args.brief.now.grid in
-    let g = task_in c.args.brief.now in
+    let g = c.args.brief.now.scene in
     let h = c.requires.layers in
     let layers = c.args.layers.now in
     let next = c.requires.seg in
@@ -30,7 +29,7 @@ name_label-requires-clause-reached c =
 pub loop-l-preserved : goal.loop-l-preserved
 loop-l-preserved c =
     let d = c.args.brief.now.grid in
-    let g = task_in c.args.brief.now in
+    let g = c.args.brief.now.scene in
     let h = c.requires.layers in
     let layers = c.args.layers.now in
     let next = c.requires.seg in
@@ -41,7 +40,7 @@ loop-l-preserved c =
 pub returns : goal.returns
 returns c =
     let d = c.args.brief.now.grid in
-    let g = task_in c.args.brief.now in
+    let g = c.args.brief.now.scene in
     let h = c.requires.layers in
     let layers = c.args.layers.now in
     let next = c.requires.seg in

@@ -1,10 +1,9 @@
 use Rattle.std.proofs.Common.{◌≡◌, take}
 use Rattle.std.specs.List.{flat_map}
-use Rattle.frontier_planner.specs.Grown.{grown}
-use Rattle.frontier_planner.specs.Brief.{task_in}
+use Rattle.labels.specs.Grown.{grown}
 use Rattle.frontier_planner.specs.Layers.{names_read}
 use Rattle.frontier_planner.proofs.names.names.Given as goal
 
 abbrev pub invariant-loop-l : goal.invariant-loop-l
 invariant-loop-l l =
-    l.names.items ≡ flat_map (λ x. names_read l.brief.grid (task_in l.brief) l.seg (l.rung, x)) (take l.l-index (grown l.brief.grid (task_in l.brief) l.seg l.rung))
+    l.names.items ≡ flat_map (λ x. names_read l.brief.grid l.brief.scene l.seg (l.rung, x)) (take l.l-index (grown l.brief.grid l.brief.scene l.seg l.rung))

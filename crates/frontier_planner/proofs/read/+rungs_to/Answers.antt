@@ -1,15 +1,14 @@
 use Rattle.std.proofs.Common.{◌∙◌, ◌-◌, ◌++◌, ◌∷◌, [], ap, sym, arith}
-use Rattle.frontier_planner.specs.Grown.{grown}
-use Rattle.frontier_planner.specs.Brief.{task_in}
+use Rattle.labels.specs.Grown.{grown}
 use Rattle.frontier_planner.specs.Layers.{rungs_read}
-use Rattle.frontier_planner.proofs.ReadBack.{back_first}
+use Rattle.labels.proofs.ReadBack.{back_first}
 use Rattle.frontier_planner.proofs.Reading.{parent_is, parent_none}
 use Rattle.frontier_planner.proofs.read.+rungs_to.Goals as goal
 
 pub returns-then-seg-eq0 : goal.returns-then-seg-eq0
 returns-then-seg-eq0 t c =
     let d = c.args.brief.now.grid in
-    let g = task_in c.args.brief.now in
+    let g = c.args.brief.now.scene in
     let h = c.in_ok-push.ensures.items in
     let k = c.in_ok-rungs.ensures.items in
     h ∙ ap (λ rs. rs ++ c.args.reached.0 ∷ []) k ∙ sym (back_first d g (grown d g) c.args.reached) ∙ ap (λ i. rungs_read d g i c.args.reached) (sym c.if-seg-eq0.true)
@@ -17,7 +16,7 @@ returns-then-seg-eq0 t c =
 pub unreachable-requires : goal.unreachable-requires
 unreachable-requires t c =
     let d = c.args.brief.now.grid in
-    let g = task_in c.args.brief.now in
+    let g = c.args.brief.now.scene in
     let some = c.if-seg-eq0.false in
     let x = c.index-layers-seg.result in
     let inside = c.requires.seg.1 in
@@ -27,18 +26,18 @@ unreachable-requires t c =
 pub rungs_to-requires : goal.rungs_to-requires
 rungs_to-requires t c =
     let d = c.args.brief.now.grid in
-    let g = task_in c.args.brief.now in
+    let g = c.args.brief.now.scene in
     let low = c.requires.seg.0 in
     let inside = c.requires.seg.1 in
     let some = c.if-seg-eq0.false in
     let x = c.index-layers-seg.result in
     let is = c.deref.ensures.value ∙ (c.requires.layers (c.args.seg - 1) x (omega (arith, inside))).labels in
-    (omega arith, (c.requires.brief, ((omega (arith, low), omega (arith, inside)), (c.requires.layers, (parent_is d g c.args.seg c.args.reached c.in-Some.old c.deref.result.now (omega arith) is c.requires.reached (sym c.in-Some.is ∙ c.parent.ensures)).0))))
+    (omega arith, ((omega (arith, low), omega (arith, inside)), (c.requires.layers, (parent_is d g c.args.seg c.args.reached c.in-Some.old c.deref.result.now (omega arith) is c.requires.reached (sym c.in-Some.is ∙ c.parent.ensures)).0)))
 
 pub returns : goal.returns
 returns t c =
     let d = c.args.brief.now.grid in
-    let g = task_in c.args.brief.now in
+    let g = c.args.brief.now.scene in
     let inside = c.requires.seg.1 in
     let x = c.index-layers-seg.result in
     let is = c.deref.ensures.value ∙ (c.requires.layers (c.args.seg - 1) x (omega (arith, inside))).labels in

@@ -4,35 +4,34 @@ use Rattle.std.proofs.lemmas.List.{get_or_default, take_all}
 use Rattle.std.proofs.lemmas.List.Elements.{Contains-get_or}
 use Rattle.std.proofs.lemmas.List.MinMax.{best_of_keeps, best_of_takes}
 use Rattle.lab_model.specs.declared.label.Label.{Label}
-use Rattle.frontier_planner.specs.Brief.{task_in}
-use Rattle.frontier_planner.specs.Read.{best_in, ends_higher, no_label}
+use Rattle.labels.specs.Read.{best_in, ends_higher, no_label}
 use Rattle.frontier_planner.proofs.Reading.{best_whole, end_fits, last_some}
 use Rattle.frontier_planner.proofs.read.best_end.Goals as goal
 use Rattle.frontier_planner.proofs.read.best_end.Goals.{then-ends_higher, else-ends_higher}
 
 pub bounds-last-0 : goal.bounds-last-0
 bounds-last-0 c =
-    let g = task_in c.args.brief.now in
-    last_some c.args.brief.now.grid g c.requires.brief c.args.last.now c.requires.last
+    let g = c.args.brief.now.scene in
+    last_some c.args.brief.now.grid g c.segments.ensures.can c.args.last.now c.requires
 
 pub loop-reached-init : goal.loop-reached-init
 loop-reached-init c =
-    let g = task_in c.args.brief.now in
-    record { best = refl; there = Contains-get_or c.args.last.now 0 (0, no_label) (last_some c.args.brief.now.grid g c.requires.brief c.args.last.now c.requires.last) }
+    let g = c.args.brief.now.scene in
+    record { best = refl; there = Contains-get_or c.args.last.now 0 (0, no_label) (last_some c.args.brief.now.grid g c.segments.ensures.can c.args.last.now c.requires) }
 
 pub ends_higher-requires-clause-a : goal.ends_higher-requires-clause-a
 ends_higher-requires-clause-a c =
-    let g = task_in c.args.brief.now in
-    end_fits c.args.brief.now.grid g c.requires.brief c.args.last.now c.requires.last _ (Contains-get_or c.args.last.now c.loop-reached.reached-index (0, no_label) c.loop-reached-test.true)
+    let g = c.args.brief.now.scene in
+    end_fits c.args.brief.now.grid g c.segments.ensures.can c.args.last.now c.requires _ (Contains-get_or c.args.last.now c.loop-reached.reached-index (0, no_label) c.loop-reached-test.true)
 
 pub ends_higher-requires-clause-b : goal.ends_higher-requires-clause-b
 ends_higher-requires-clause-b c =
-    let g = task_in c.args.brief.now in
-    end_fits c.args.brief.now.grid g c.requires.brief c.args.last.now c.requires.last c.loop-reached.best c.loop-reached.invariant.there
+    let g = c.args.brief.now.scene in
+    end_fits c.args.brief.now.grid g c.segments.ensures.can c.args.last.now c.requires c.loop-reached.best c.loop-reached.invariant.there
 
 pub loop-reached-preserved : goal.loop-reached-preserved
 loop-reached-preserved c =
-    let g = task_in c.args.brief.now in
+    let g = c.args.brief.now.scene in
     let last = c.args.last.now in
     let i = c.loop-reached.reached-index in
     let low = c.loop-reached-test.true in
@@ -55,8 +54,8 @@ loop-reached-preserved c =
 
 pub returns : goal.returns
 returns c =
-    let g = task_in c.args.brief.now in
+    let g = c.args.brief.now.scene in
     let last = c.args.last.now in
-    let some = last_some c.args.brief.now.grid g c.requires.brief last c.requires.last in
+    let some = last_some c.args.brief.now.grid g c.segments.ensures.can last c.requires in
     c.loop-reached.invariant.best ∙ ap (best_of (ends_higher g) (get_or last 0 (0, no_label))) (take_all c.loop-reached.reached-index last c.loop-reached-test.false)
-    ∙ best_whole g last some ∙ ap (best_in g) c.requires.last
+    ∙ best_whole g last some ∙ ap (best_in g) c.requires

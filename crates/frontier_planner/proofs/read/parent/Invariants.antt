@@ -1,10 +1,9 @@
 use Rattle.std.proofs.Common.{◌≡◌, drop}
 use Rattle.std.specs.List.{find}
-use Rattle.frontier_planner.specs.Brief.{task_in}
-use Rattle.frontier_planner.specs.Read.{leads_to}
+use Rattle.labels.specs.Read.{leads_to}
 use Rattle.frontier_planner.proofs.read.parent.Given as goal
 
 abbrev pub invariant-loop-old : goal.invariant-loop-old
 invariant-loop-old l =
-    find (λ b. leads_to l.brief.grid (task_in l.brief) l.seg b l.reached) l.before
-    ≡ find (λ b. leads_to l.brief.grid (task_in l.brief) l.seg b l.reached) (drop l.old-index l.before)
+    find (λ b. leads_to l.brief.grid l.brief.scene l.seg b l.reached) l.before
+    ≡ find (λ b. leads_to l.brief.grid l.brief.scene l.seg b l.reached) (drop l.old-index l.before)

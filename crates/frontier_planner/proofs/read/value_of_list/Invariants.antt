@@ -1,7 +1,6 @@
 use Rattle.std.proofs.Common.{◌≡◌, ◌-◌}
-use Rattle.frontier_planner.specs.Brief.{task_in}
-use Rattle.frontier_planner.specs.Labels.{label_at}
+use Rattle.labels.specs.Labels.{label_at}
 use Rattle.frontier_planner.proofs.read.value_of_list.Given as goal
 
 abbrev pub invariant-loop-seg : goal.invariant-loop-seg
-invariant-loop-seg l = l.label ≡ label_at (task_in l.brief) l.rungs (l.seg - 1)
+invariant-loop-seg l = l.label ≡ label_at l.brief.scene l.rungs (l.seg - 1)

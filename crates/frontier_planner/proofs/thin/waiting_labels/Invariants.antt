@@ -1,7 +1,6 @@
 use Rattle.std.proofs.Common.{◌≡◌, map, take}
-use Rattle.frontier_planner.specs.Brief.{task_in}
 use Rattle.frontier_planner.specs.Thinned.{waiting}
 use Rattle.frontier_planner.proofs.thin.waiting_labels.Given as goal
 
 abbrev pub invariant-loop-old : goal.invariant-loop-old
-invariant-loop-old l = l.waits.items ≡ map (waiting (task_in l.brief) l.seg) (take l.old-index l.before)
+invariant-loop-old l = l.waits.items ≡ map (waiting l.brief.scene l.seg) (take l.old-index l.before)

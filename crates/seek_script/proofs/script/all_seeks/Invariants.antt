@@ -1,6 +1,7 @@
 use Rattle.std.proofs.Common.{◌≡◌, ◌+◌, ◌++◌, ◌≤◌, None, drop, map}
 use Rattle.csv.specs.Records.{fields_of}
-use Rattle.csv_records.specs.Each.{each_after, map_ok}
+use Rattle.lab_model.specs.Steps.{map_ok}
+use Rattle.reader_faults.specs.Each.{each_after}
 use Rattle.seek_script.specs.Script.{seek_in}
 use Rattle.seek_script.proofs.script.all_seeks.Given as goal
 

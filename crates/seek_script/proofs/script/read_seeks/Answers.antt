@@ -2,7 +2,7 @@ use Rattle.std.proofs.Common.{ℕ, List, Result, Ok, Err, Vec, Global, ◌∙◌
 use Rattle.std.specs.Result.{IfOk}
 use Rattle.lab_model.specs.declared.context.Seek.{Seek}
 use Rattle.lab_model.specs.declared.fault.InputFault.{InputFault}
-use Rattle.seek_script.specs.Faults.{Gives}
+use Rattle.lab_model.specs.Reading.{Gives}
 use Rattle.seek_script.specs.Script.{seeks_in, seeks_of}
 use Rattle.lab_model.specs.Seeks.{SeeksFit}
 use Rattle.seek_script.proofs.Limits.{within}

@@ -1,6 +1,7 @@
 use Rattle.std.proofs.Common.{◌≡◌, ◌+◌, ◌++◌, ◌≤◌, Option, None, drop, map}
 use Rattle.csv.specs.Records.{fields_of}
-use Rattle.csv_records.specs.Each.{each_after, each_from, map_ok}
+use Rattle.lab_model.specs.Steps.{map_ok}
+use Rattle.reader_faults.specs.Each.{each_after, each_from}
 use Rattle.lab_model.specs.declared.trace.Period.{Period}
 use Rattle.trace_reader.specs.TraceCsv.{period_in_row}
 use Rattle.trace_reader.proofs.csv_trace.all_rows.Given as goal

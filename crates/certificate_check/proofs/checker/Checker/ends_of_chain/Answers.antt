@@ -1,14 +1,14 @@
 use Rattle.std.proofs.Common.{◌∙◌, sym, ap, ◌<◌, ◌≤◌, [], subst, to_z, of_z}
 use Rattle.lab_model.specs.declared.label.Label.{Label}
-use Rattle.frontier_planner.specs.Parts.{chain_parts}
-use Rattle.certificate_check.specs.Clauses.{count_of, end_verdict, layer_of, range_verdict}
+use Rattle.labels.specs.Parts.{chain_parts}
+use Rattle.certificate_check.specs.Clauses.{count_of, end_verdict, chains_by_rung, range_verdict}
 use Rattle.std.proofs.lemmas.Int.{to_z-of_z}
 use Rattle.std.specs.Int.{w128}
 use Rattle.std.specs.Prelude.{int_le}
-use Rattle.frontier_planner.specs.Labels.{end_value}
+use Rattle.labels.specs.Labels.{end_value}
 use Rattle.certificate_check.specs.Scheme.{first_no, tested}
 use Rattle.certificate_check.proofs.InRange.{times_in}
-use Rattle.certificate_check.proofs.Scheme.{first_more, first_none, first_stop, yes_at}
+use Rattle.certificate_check.proofs.Scheme.{first_fails, first_more, first_none, yes_at}
 use Rattle.certificate_check.proofs.checker.Checker.ends_of_chain.Goals as goal
 
 pub loop-place-init : goal.loop-place-init
@@ -19,13 +19,13 @@ ends_below-low-requires c =
     let k = c.loop-place.place in
     let count = c.count_of-place-end.ensures in
     let low = c.loop-place-test.true in
-    let range = yes_at (range_verdict 0 c.args.segment c.args.rung (chain_parts c.args.chain.now) (layer_of [])) (count_of (chain_parts c.args.chain.now)) k c.requires.ranges (subst (λ n. k < n) count low) in
-    subst (λ (l : Label). l.p ≤ 1000000000000000) (sym c.label_of.ensures) (times_in 0 c.args.segment c.args.rung (chain_parts c.args.chain.now) (layer_of []) k range).1
+    let range = yes_at (range_verdict 0 c.args.segment c.args.rung (chain_parts c.args.chain.now) (chains_by_rung [])) (count_of (chain_parts c.args.chain.now)) k c.requires.ranges (subst (λ n. k < n) count low) in
+    subst (λ (l : Label). l.p ≤ 1000000000000000) (sym c.label_of.ensures) (times_in 0 c.args.segment c.args.rung (chain_parts c.args.chain.now) (chains_by_rung []) k range).1
 
 pub loop-place-preserved : goal.loop-place-preserved
 loop-place-preserved c =
-    first_more _ _ _ c.loop-place.invariant (c.tested-verdict.ensures ∙ ap (tested 5 c.args.segment c.args.rung c.loop-place.place) (c.ends_below-low.ensures ∙ ap (λ l. int_le (end_value c.args.self.now l) (to_z w128 (of_z w128 c.args.bound))) c.label_of.ensures)) (sym c.is_no.ensures ∙ c.if-is_no.false)
+    first_more _ _ c.loop-place.invariant (c.in_ok-test.ensures ∙ ap (tested 5 c.args.segment c.args.rung c.loop-place.place) (c.ends_below-low.ensures ∙ ap (λ l. int_le (end_value c.args.self.now l) (to_z w128 (of_z w128 c.args.bound))) c.label_of.ensures))
 
-pub returns-then-is_no : goal.returns-then-is_no
-returns-then-is_no c =
-    first_stop _ _ _ _ c.loop-place-test.true c.loop-place.invariant (c.tested-verdict.ensures ∙ ap (tested 5 c.args.segment c.args.rung c.loop-place.place) (c.ends_below-low.ensures ∙ ap (λ l. int_le (end_value c.args.self.now l) (to_z w128 (of_z w128 c.args.bound))) c.label_of.ensures)) (sym c.is_no.ensures ∙ c.if-is_no.true) ∙ ap (first_no _) c.count_of-place-end.ensures ∙ ap (λ b. first_no (end_verdict c.args.self.now b c.args.segment c.args.rung (chain_parts c.args.chain.now)) (count_of (chain_parts c.args.chain.now))) (to_z-of_z w128 c.args.bound c.ranges.bound)
+pub returns-in_err-test : goal.returns-in_err-test
+returns-in_err-test c =
+    first_fails _ _ _ c.from_residual.result c.in_err-test.field-0.0 c.loop-place-test.true c.loop-place.invariant (c.in_err-test.ensures ∙ ap (tested 5 c.args.segment c.args.rung c.loop-place.place) (c.ends_below-low.ensures ∙ ap (λ l. int_le (end_value c.args.self.now l) (to_z w128 (of_z w128 c.args.bound))) c.label_of.ensures)) c.from_residual.ensures.1 ∙ ap (first_no _) c.count_of-place-end.ensures ∙ ap (λ b. first_no (end_verdict c.args.self.now b c.args.segment c.args.rung (chain_parts c.args.chain.now)) (count_of (chain_parts c.args.chain.now))) (to_z-of_z w128 c.args.bound c.ranges.bound)

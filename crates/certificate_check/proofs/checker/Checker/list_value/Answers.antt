@@ -1,10 +1,10 @@
 use Rattle.std.proofs.Common.{◌≡◌, ◌∙◌, ◌+◌, ◌-◌, ◌<◌, ◌≤◌, suc, refl, sym, ap, subst, slice_index, arith, add-one}
 use Rattle.lab_model.specs.declared.label.Label.{Label}
 use Rattle.lab_model.specs.Film.{rungs_of, segments_of}
-use Rattle.frontier_planner.specs.Labels.{label_at}
-use Rattle.frontier_planner.specs.Near.{CanFollow}
-use Rattle.frontier_planner.proofs.Path.{label_first}
-use Rattle.frontier_planner.proofs.Covered.{rung_at}
+use Rattle.labels.specs.Labels.{label_at}
+use Rattle.labels.specs.Near.{CanFollow}
+use Rattle.labels.proofs.Path.{label_first}
+use Rattle.labels.proofs.Covered.{rung_at}
 use Rattle.certificate_check.proofs.PlanLabels.{plan_follows, plan_next}
 use Rattle.certificate_check.proofs.checker.Checker.list_value.Goals as goal
 

@@ -1,5 +1,5 @@
 use Rattle.std.proofs.Common.{◌≡◌, ◌-◌, slice_index}
-use Rattle.frontier_planner.specs.Labels.{label_at}
+use Rattle.labels.specs.Labels.{label_at}
 use Rattle.certificate_check.proofs.checker.Checker.list_value.Given as goal
 
 abbrev pub invariant-loop-segment : goal.invariant-loop-segment

@@ -1,24 +1,24 @@
 use Rattle.std.proofs.Common.{◌∙◌, sym, ap, ◌<◌, length, subst}
-use Rattle.frontier_planner.specs.Parts.{chain_parts}
+use Rattle.labels.specs.Parts.{chain_parts}
 use Rattle.certificate_check.specs.Scheme.{first_no}
-use Rattle.certificate_check.specs.Clauses.{count_of, layer_of, range_verdict}
-use Rattle.certificate_check.proofs.Scheme.{first_more, first_none, first_stop, yes_at}
+use Rattle.certificate_check.specs.Clauses.{count_of, chains_by_rung, range_verdict}
+use Rattle.certificate_check.proofs.Scheme.{first_fails, first_more, first_none, yes_at}
 use Rattle.certificate_check.proofs.checker.Checker.names_of_chain.Goals as goal
 
 pub loop-place-init : goal.loop-place-init
 loop-place-init c = first_none _
 
-pub name_verdict-verdict-requires-clause-range : goal.name_verdict-verdict-requires-clause-range
-name_verdict-verdict-requires-clause-range c =
+pub name_verdict-requires-clause-range : goal.name_verdict-requires-clause-range
+name_verdict-requires-clause-range c =
     let k = c.loop-place.place in
     let count = c.count_of-place-end.ensures in
     let low = c.loop-place-test.true in
-    yes_at (range_verdict (length c.args.next.now) c.args.segment c.args.rung (chain_parts c.args.chain.now) (layer_of c.args.next.now)) (count_of (chain_parts c.args.chain.now)) k c.requires.ranges (subst (λ n. k < n) count low)
+    yes_at (range_verdict (length c.args.next.now) c.args.segment c.args.rung (chain_parts c.args.chain.now) (chains_by_rung c.args.next.now)) (count_of (chain_parts c.args.chain.now)) k c.requires.ranges (subst (λ n. k < n) count low)
 
 pub loop-place-preserved : goal.loop-place-preserved
 loop-place-preserved c =
-    first_more _ _ _ c.loop-place.invariant (c.name_verdict-verdict.ensures) (sym c.is_no.ensures ∙ c.if-is_no.false)
+    first_more _ _ c.loop-place.invariant (c.in_ok-name_verdict.ensures)
 
-pub returns-then-is_no : goal.returns-then-is_no
-returns-then-is_no c =
-    first_stop _ _ _ _ c.loop-place-test.true c.loop-place.invariant (c.name_verdict-verdict.ensures) (sym c.is_no.ensures ∙ c.if-is_no.true) ∙ ap (first_no _) c.count_of-place-end.ensures
+pub returns-in_err-name_verdict : goal.returns-in_err-name_verdict
+returns-in_err-name_verdict c =
+    first_fails _ _ _ c.from_residual.result c.in_err-name_verdict.field-0.0 c.loop-place-test.true c.loop-place.invariant (c.in_err-name_verdict.ensures) c.from_residual.ensures.1 ∙ ap (first_no _) c.count_of-place-end.ensures

@@ -1,10 +1,10 @@
 use Rattle.std.proofs.Common.{◌≡◌, slice_index}
-use Rattle.frontier_planner.specs.Labels.{dominates, start_label}
-use Rattle.certificate_text.specs.declared.certificate.Verdict.TheVariants.{Yes}
+use Rattle.labels.specs.Labels.{dominates, start_label}
+use Rattle.labels.specs.declared.verdict.Verdict.TheVariants.{Yes}
 use Rattle.certificate_check.specs.Scheme.{first_no, tested}
-use Rattle.certificate_check.specs.Clauses.{label_of, layer_of}
+use Rattle.certificate_check.specs.Clauses.{label_of, chains_by_rung}
 use Rattle.certificate_check.proofs.checker.Checker.starts_held.Given as goal
 
 abbrev pub invariant-loop-rung : goal.invariant-loop-rung
 invariant-loop-rung l =
-    first_no (λ q. tested 3 0 q (slice_index l.starts q) (dominates (label_of (layer_of l.first q) (slice_index l.starts q)) (start_label l.self q))) l.rung ≡ Yes
+    first_no (λ q. tested 3 0 q (slice_index l.starts q) (dominates (label_of (chains_by_rung l.first q) (slice_index l.starts q)) (start_label l.self q))) l.rung ≡ Yes

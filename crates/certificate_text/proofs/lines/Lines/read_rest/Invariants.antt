@@ -1,5 +1,6 @@
 use Rattle.std.proofs.Common.{◌≡◌, ◌-◌, ◌≤◌}
-use Rattle.certificate_text.proofs.WalkLaws.{rest_of, silent}
+use Rattle.certificate_text.specs.Walk.{rest_of}
+use Rattle.certificate_text.proofs.WalkLaws.{silent}
 use Rattle.certificate_text.proofs.lines.Lines.read_rest.Given as goal
 
 -- what is left decides as it did at first

@@ -1,5 +1,0 @@
-use Rattle.frontier_planner.proofs.Inherits.{end_inherits, inherits}
-use Rattle.frontier_planner.proofs.laws.dominance_is_inherited.Goals as goal
-
-pub returns : goal.returns
-returns c = record { successors = inherits; end_values = end_inherits }

@@ -1,5 +1,0 @@
-use Rattle.frontier_planner.proofs.Sound.{coarse_settles, plan_settles}
-use Rattle.frontier_planner.proofs.laws.plans_are_best.Goals as goal
-
-pub returns : goal.returns
-returns c = record { exact = plan_settles; coarse = coarse_settles }

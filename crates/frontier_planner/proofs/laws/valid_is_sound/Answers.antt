@@ -1,5 +1,0 @@
-use Rattle.frontier_planner.proofs.Sound.{sound}
-use Rattle.frontier_planner.proofs.laws.valid_is_sound.Goals as goal
-
-pub returns : goal.returns
-returns c = λ g is cert bound long valid. sound g is cert bound valid long

@@ -1,0 +1,14 @@
+pub mod Labels
+pub mod Near
+pub mod Parts
+pub mod Form
+pub mod Frontier
+pub mod Grid
+pub mod Grown
+pub mod Read
+pub mod Covers
+pub mod Valid
+pub mod Best
+pub mod Laws
+pub mod Along
+pub mod ValueLaw

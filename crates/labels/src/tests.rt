@@ -1,0 +1,4 @@
+//! Tests, with answers from outside.
+
+mod calls;
+mod values;

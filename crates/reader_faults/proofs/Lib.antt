@@ -1,0 +1,4 @@
+pub mod Places
+pub mod Ranges
+pub mod Each
+pub mod Within
