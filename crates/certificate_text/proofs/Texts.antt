@@ -94,19 +94,7 @@ pub chains_form : (segments rungs : ℕ) (cs : List Chain) (i : ℕ) (c : Chain)
 chains_form segments rungs cs i c lt is form =
     subst (λ (rest : List ChainParts). AreChains segments rungs i rest) (ap (map chain_parts) (chains_cut cs i c lt is)) form
 
--- ---- a label
-
--- the three numbers of a label
-abbrev pub label_numbers : Label → Text
-label_numbers l = decimal l.t ++ (32 ∷ (decimal l.p ++ (32 ∷ (signed_decimal l.v ++ []))))
-
--- a label's line is its numbers and its names
-pub label_text : (l : Label) (names : List ℕ) → label_numbers l ++ later_fields (map decimal names) ≡ fields_line (label_fields l names)
-label_text l names =
-    let later = later_fields (map decimal names) in
-    append_assoc (decimal l.t) (32 ∷ (decimal l.p ++ (32 ∷ (signed_decimal l.v ++ [])))) later
-    ∙ ap (λ (t : Text). decimal l.t ++ 32 ∷ t) (append_assoc (decimal l.p) (32 ∷ (signed_decimal l.v ++ [])) later)
-    ∙ ap (λ (t : Text). decimal l.t ++ 32 ∷ (decimal l.p ++ 32 ∷ (t ++ later))) (append-nil (signed_decimal l.v))
+-- ---- labels
 
 -- how many names are left for the labels that are left
 pub names_left : (labels i per names : ℕ) → i < labels → names ≡ (labels - i) * per → (per ≤ names) × (names ≡ (labels - (i + 1)) * per + per)

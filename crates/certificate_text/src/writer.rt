@@ -2,6 +2,7 @@
 ghost use Rattle.std.specs.Prelude.{◌≡◌, ◌∷◌, ◌++◌, ◌*◌, ◌≤◌, [], length, map};
 ghost use Rattle.std.specs.Fmt.{decimal};
 ghost use Rattle.lab_io.specs.Piece.{fields_line, later_fields};
+ghost use Rattle.lab_io.specs.Batch.{Gathers};
 ghost use Rattle.lab_io.specs.Sink.{Puts};
 ghost use Rattle.lab_model.specs.Film.{IsWithin, rungs_of, segments_of};
 ghost use Rattle.labels.specs.Parts.{chain_parts, plan_parts};
@@ -12,7 +13,7 @@ ghost use Rattle.certificate_text.specs.Spelling.{chain_lines, chains_lines, hea
 
 use crate::chains::names_per;
 use lab_io::Piece::{Number, Word};
-use lab_io::{PutErr, Sink, put_fields, put_line, put_number, put_pieces, put_text};
+use lab_io::{Batch, PutErr, Sink, put_fields, put_line, put_number, put_text};
 use lab_model::{Label, Manifest};
 use labels::{Chain, Plan};
 
@@ -134,25 +135,66 @@ fn put_head<O: Sink>(out: &mut O, m: &Manifest, plan: &Plan) -> Result<(), PutEr
     put_starts(out, &plan.starts)
 }
 
-/// The line of a label.
-fn put_label<O: Sink>(out: &mut O, label: Label, names: &[u32]) -> Result<(), PutErr>
-    ensures { Puts (O.seen out.old) (fields_line (label_fields label names.now))
-        (O.seen out.new) result }
+/// A name of a label.
+fn put_name<O: Sink>(batch: &mut Batch, out: &mut O, name: u32) -> Result<(), PutErr>
+    ensures { Gathers (O.seen out.old) batch.old (32 ∷ decimal name)
+        (O.seen out.new) batch.new result }
 {
-    put_pieces(
-        out,
-        &[
-            Number(label.t as i128),
-            Word(" "),
-            Number(label.p as i128),
-            Word(" "),
-            Number(label.v as i128),
-        ],
-    )?;
-    put_numbers(out, names)
+    batch.put_text(out, " ")?;
+    batch.put_count(out, u64::from(name))
+}
+
+/// The names that end the line of a label.
+fn put_names<O: Sink>(batch: &mut Batch, out: &mut O, names: &[u32]) -> Result<(), PutErr>
+    ensures { Gathers (O.seen out.old) batch.old (later_fields (map decimal names.now))
+        (O.seen out.new) batch.new result }
+{
+    for name in names {
+        put_name(batch, out, *name)?;
+    }
+    batch.put_text(out, "\n")
+}
+
+/// The line of a label.
+fn put_label<O: Sink>(
+    batch: &mut Batch,
+    out: &mut O,
+    label: Label,
+    names: &[u32],
+) -> Result<(), PutErr>
+    ensures { Gathers (O.seen out.old) batch.old (fields_line (label_fields label names.now))
+        (O.seen out.new) batch.new result }
+{
+    batch.put_count(out, label.t)?;
+    batch.put_text(out, " ")?;
+    batch.put_count(out, label.p)?;
+    batch.put_text(out, " ")?;
+    batch.put_number(out, label.v)?;
+    put_names(batch, out, names)
 }
 
 /// The lines of the labels, each with so many of the names.
+fn batch_labels<O: Sink>(
+    batch: &mut Batch,
+    out: &mut O,
+    per: usize,
+    labels: &[Label],
+    names: &[u32],
+) -> Result<(), PutErr>
+    requires { length names.now ≡ length labels.now * per }
+    ensures { Gathers (O.seen out.old) batch.old (lines_text (label_lines per labels.now names.now))
+        (O.seen out.new) batch.new result }
+{
+    let mut names = names;
+    for label in labels {
+        let (own, later) = names.split_at(per);
+        put_label(batch, out, *label, own)?;
+        names = later;
+    }
+    Ok(())
+}
+
+/// The same, many of them in one piece.
 fn put_labels<O: Sink>(
     out: &mut O,
     per: usize,
@@ -163,13 +205,9 @@ fn put_labels<O: Sink>(
     ensures { Puts (O.seen out.old) (lines_text (label_lines per labels.now names.now))
         (O.seen out.new) result }
 {
-    let mut names = names;
-    for label in labels {
-        let (own, later) = names.split_at(per);
-        put_label(out, *label, own)?;
-        names = later;
-    }
-    Ok(())
+    let mut batch = Batch::new();
+    batch_labels(&mut batch, out, per, labels, names)?;
+    batch.finish(out)
 }
 
 /// The line before the labels of a chain.

@@ -1,4 +1,5 @@
 use super::*;
+use lab_model::Refusal;
 use std::process::Abort;
 use std::test::Fail;
 

@@ -1,5 +1,5 @@
 -- Seeks that were read keep their limits.
-use Rattle.std.proofs.Common.{◌≡◌, ◌+◌, ◌<◌, ◌≤◌, ℕ, zero, suc, nat_lt, List, [], ◌∷◌, length, Option, Some, None, Result, Ok, Err, subst, arith}
+use Rattle.std.proofs.Common.{◌≡◌, ◌+◌, ◌<◌, ◌≤◌, ℕ, zero, suc, nat_lt, List, [], ◌∷◌, length, Option, Some, None, Ok, subst, arith}
 use Rattle.std.proofs.lemmas.Bool.Decides.{nat_tests}
 use Rattle.csv_records.specs.Table.{Fields, Table, table_of}
 use Rattle.csv_records.specs.Field.{field_in, whole_number}
@@ -12,7 +12,6 @@ use Rattle.reader_faults.proofs.Places.{field_at-ok}
 use Rattle.lab_model.proofs.Steps.{test_err, test_ok, then_ok}
 use Rattle.lab_model.specs.declared.context.Seek.{Seek}
 use Rattle.lab_model.specs.declared.fault.Kind.TheVariants as kind
-use Rattle.lab_model.specs.declared.fault.Key.{Key}
 use Rattle.lab_model.specs.declared.fault.Key.TheVariants as key
 use Rattle.lab_model.specs.Reading.{refusal}
 use Rattle.seek_script.specs.Script.{behind_header, below, row_within, seeks_to_end, instant_in, later, seek, seek_in, seeks_in, seeks_of, target_in}

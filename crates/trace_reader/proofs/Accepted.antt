@@ -1,5 +1,5 @@
 -- A trace that was read keeps the limits of a trace.
-use Rattle.std.proofs.Common.{◌≡◌, ◌*◌, ℕ, cond, nat_lt, List, length, Result, Ok, Err, subst, arith}
+use Rattle.std.proofs.Common.{◌≡◌, ◌*◌, ℕ, cond, nat_lt, List, length, Ok, Err, subst, arith}
 use Rattle.std.specs.List.{All}
 use Rattle.std.proofs.lemmas.Bool.Decides.{nat_tests}
 use Rattle.serde_json.specs.Data.{Data}
@@ -15,7 +15,7 @@ use Rattle.trace_reader.specs.Cycle.{good_cycle}
 use Rattle.lab_model.specs.Reading.{refusal}
 use Rattle.reader_faults.specs.Faults.{value_at}
 use Rattle.trace_reader.specs.Trace.{periods_of, trace_json, trace_of}
-use Rattle.trace_reader.specs.TraceCsv.{table_periods, table_trace, trace_csv_of}
+use Rattle.trace_reader.specs.TraceCsv.{table_periods, trace_csv_of}
 use Rattle.trace_reader.proofs.CsvLimits.{table_periods-count, table_periods-periods}
 use Rattle.trace_reader.proofs.Limits.{periods_of-count, periods_of-periods}
 

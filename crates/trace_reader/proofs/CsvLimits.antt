@@ -1,5 +1,5 @@
 -- Periods that were read from a table keep their limits.
-use Rattle.std.proofs.Common.{◌≡◌, ◌≤◌, ◌+◌, ℕ, nat_lt, List, [], ◌∷◌, length, Option, Some, None, Result, Ok, Err, subst, arith}
+use Rattle.std.proofs.Common.{◌≡◌, ◌≤◌, ◌+◌, ℕ, nat_lt, List, [], ◌∷◌, length, Option, Some, None, Ok, subst, arith}
 use Rattle.std.specs.List.{All}
 use Rattle.std.proofs.lemmas.Bool.Decides.{nat_tests}
 use Rattle.csv_records.specs.Table.{Table}
@@ -14,7 +14,6 @@ use Rattle.lab_model.specs.Cycle.{IsPeriod}
 use Rattle.lab_model.specs.Film.{IsWithin}
 use Rattle.lab_model.specs.declared.trace.Period.{Period}
 use Rattle.lab_model.specs.declared.fault.Kind.TheVariants as kind
-use Rattle.lab_model.specs.declared.fault.Key.{Key}
 use Rattle.lab_model.specs.declared.fault.Key.TheVariants as key
 use Rattle.lab_model.specs.Reading.{refusal}
 use Rattle.trace_reader.specs.TraceCsv.{bandwidth_in, behind_header, row_within, duration_in, periods_to_end, latency_in, period, period_in_row, table_periods}

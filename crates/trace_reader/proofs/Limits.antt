@@ -1,7 +1,6 @@
 -- Periods that were read keep their limits.
-use Rattle.std.proofs.Common.{◌≡◌, ◌==◌, ℕ, cond, nat_lt, List, length, Option, None, Result, Ok, Err, codes, sym, subst, arith}
+use Rattle.std.proofs.Common.{◌≡◌, ℕ, List, length, Option, None, Ok, codes, sym, subst, arith}
 use Rattle.std.specs.List.{All}
-use Rattle.std.proofs.lemmas.Bool.Decides.{nat_tests}
 use Rattle.serde_json.specs.Data.{Data}
 use Rattle.json_fields.specs.Fields.{list_of, number_at, object_of}
 use Rattle.lab_model.specs.Steps.{◌>>=◌}
@@ -13,7 +12,6 @@ use Rattle.reader_faults.proofs.Each.{each_all, each_count}
 use Rattle.lab_model.specs.Cycle.{IsPeriod}
 use Rattle.lab_model.specs.Film.{IsWithin}
 use Rattle.lab_model.specs.declared.trace.Period.{Period}
-use Rattle.lab_model.specs.declared.fault.Kind.TheVariants as kind
 use Rattle.lab_model.specs.declared.fault.Key.{Key}
 use Rattle.lab_model.specs.declared.fault.Key.TheVariants as key
 use Rattle.reader_faults.specs.Faults.{members_within, value_at}

@@ -1,11 +1,10 @@
 -- What the bytes of a trace stand for: its periods, or the first test that fails.
-use Rattle.std.specs.Prelude.{ℕ, ◌*◌, ◌==◌, List, Result, Ok, Err, codes, if◌then◌else◌, nat_lt}
+use Rattle.std.specs.Prelude.{ℕ, ◌*◌, List, Result, Ok, codes}
 use Rattle.serde_json.specs.Data.{Data}
 use Rattle.json_fields.specs.Fields.{list_of, number_at, object_of, value_of}
 use Rattle.lab_model.specs.Steps.{◌>>=◌}
 use Rattle.lab_model.specs.declared.trace.Period.{Period}
 use Rattle.lab_model.specs.declared.fault.Refusal.{Refusal}
-use Rattle.lab_model.specs.declared.fault.Kind.TheVariants as kind
 use Rattle.lab_model.specs.declared.fault.Key.{Key}
 use Rattle.lab_model.specs.declared.fault.Key.TheVariants as key
 use Rattle.reader_faults.specs.Each.{each_from}

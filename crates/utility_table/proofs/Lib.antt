@@ -1,0 +1,4 @@
+pub mod Within
+pub mod Fields
+pub mod Rows
+pub mod Limits
