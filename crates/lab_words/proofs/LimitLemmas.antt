@@ -23,7 +23,9 @@ use Rattle.lab_words.specs.Settings.{SettingsWords, settings_in, utilities_in, w
 use Rattle.lab_words.specs.Compare.{at_most, compare_app, compare_in, distinct, few, named_rule, named_rules, rules_in, traces_in}
 use Rattle.lab_words.specs.Simulate.{simulate_app, simulate_in}
 use Rattle.lab_words.specs.Table.{accepted}
-use Rattle.lab_words.specs.Values.{Gives, is_given, is_stray, several, some_plain, number_in, number_or, optional, required, rule_in, ◌>>=◌}
+use Rattle.lab_model.specs.OptionSteps.{◌>>=◌}
+use Rattle.lab_model.proofs.OptionSteps.{then_some}
+use Rattle.lab_words.specs.Values.{Gives, is_given, is_stray, several, some_plain, number_in, number_or, optional, required, rule_in}
 use Rattle.lab_words.specs.Words.{asked_of}
 use Rattle.lab_words.specs.declared.Command.{Command}
 use Rattle.lab_words.specs.declared.Verb.{Verb}
@@ -39,10 +41,6 @@ chosen false o y h = cc
 unchosen : {A : Type 0} (b : Bool) (o : Option A) (y : A) → cond b None o ≡ Some y → o ≡ Some y
 unchosen true o y h = cc
 unchosen false o y h = h
-
-bound : {A B : Type 0} (o : Option A) (f : A → Option B) (y : B) → (o >>= f) ≡ Some y → (x : A) × (o ≡ Some x) × (f x ≡ Some y)
-bound (Some x) f y h = (x, refl, h)
-bound None f y h = cc
 
 went : {A B : Type 0} (f : A → Option B) (o : Option A) (y : B) → option_and_then f o ≡ Some y → (x : A) × (o ≡ Some x) × (f x ≡ Some y)
 went f (Some x) y h = (x, refl, h)
@@ -168,8 +166,8 @@ rule_within text r h = kind_within (before_first (λ b. b == 58) text) (after_fi
 named_within : (rows : List Row) (r : Text × RuleKind) → rule_in rows ≡ Some r → IsRuleWithin r.1
 unfolding rule_in
 named_within rows r h =
-    let word = bound (required (codes "rule") rows) _ r h in
-    let kind = bound (rule_of word.0) _ r word.2 in
+    let word = then_some (required (codes "rule") rows) _ r h in
+    let kind = then_some (rule_of word.0) _ r word.2 in
     let same : (word.0, kind.0) ≡ r = cc (kind.2) in
     subst (λ (x : Text × RuleKind). IsRuleWithin x.1) same (rule_within word.0 kind.0 kind.1)
 
@@ -194,12 +192,12 @@ record AreWithin (s : SettingsWords) : Type 0 where
 settings_within : (rows : List Row) (s : SettingsWords) → settings_in rows ≡ Some s → AreWithin s
 unfolding settings_in utilities_in
 settings_within rows s h =
-    let buffer = bound (number_in 25000 1 10000000 (codes "buffer") rows) _ s h in
-    let utilities = bound (utilities_in rows) _ s buffer.2 in
-    let switch = bound (number_in 0 0 1000000 (codes "switch") rows) _ s utilities.2 in
-    let stall = bound (number_in 100 0 1000000 (codes "stall") rows) _ s switch.2 in
-    let startup = bound (number_in 1 0 1000000 (codes "startup") rows) _ s stall.2 in
-    let text = bound (required (codes "utilities") rows) _ utilities.0 utilities.1 in
+    let buffer = then_some (number_in 25000 1 10000000 (codes "buffer") rows) _ s h in
+    let utilities = then_some (utilities_in rows) _ s buffer.2 in
+    let switch = then_some (number_in 0 0 1000000 (codes "switch") rows) _ s utilities.2 in
+    let stall = then_some (number_in 100 0 1000000 (codes "stall") rows) _ s switch.2 in
+    let startup = then_some (number_in 1 0 1000000 (codes "startup") rows) _ s stall.2 in
+    let text = then_some (required (codes "utilities") rows) _ utilities.0 utilities.1 in
     let made : SettingsWords = record { buffer_ms = buffer.0; utilities = utilities.0; switch = switch.0; stall = stall.0; startup = startup.0 } in
     let same : made ≡ s = cc (startup.2) in
     subst AreWithin same (record {
@@ -217,11 +215,11 @@ alone P x p (suc k) d lt = absurd (omega arith)
 simulate_within : (rows : List Row) (c : CommandWords) → simulate_in rows ≡ Some c → IsWithinLimits c
 unfolding simulate_in
 simulate_within rows c h =
-    let manifest = bound (required (codes "manifest") rows) _ c h in
-    let trace = bound (required (codes "trace") rows) _ c manifest.2 in
-    let rule = bound (rule_in rows) _ c trace.2 in
-    let settings = bound (settings_in rows) _ c rule.2 in
-    let seeks = bound (optional (codes "seeks") rows) _ c settings.2 in
+    let manifest = then_some (required (codes "manifest") rows) _ c h in
+    let trace = then_some (required (codes "trace") rows) _ c manifest.2 in
+    let rule = then_some (rule_in rows) _ c trace.2 in
+    let settings = then_some (settings_in rows) _ c rule.2 in
+    let seeks = then_some (optional (codes "seeks") rows) _ c settings.2 in
     let within = settings_within rows settings.0 settings.1 in
     let made : CommandWords = record (with_settings settings.0 (blank verb.Simulate)) {
       manifest = manifest.0;
@@ -291,8 +289,8 @@ AreRulesWithin rules = IsWithin 1 32 (length rules) × All (λ r. IsRuleWithin r
 rules_within : (rows : List Row) (rules : List (Text × RuleKind)) → rules_in rows ≡ Some rules → AreRulesWithin rules
 unfolding rules_in
 rules_within rows rules h =
-    let text = bound (required (codes "rules") rows) _ rules h in
-    let names = bound (few 32 (slice_split (λ b. b == 47) text.0)) _ rules text.2 in
+    let text = then_some (required (codes "rules") rows) _ rules h in
+    let names = then_some (few 32 (slice_split (λ b. b == 47) text.0)) _ rules text.2 in
     let each = named_within_all names.0 rules names.2 in
     let count = few_within 32 (slice_split (λ b. b == 47) text.0) names.0 (omega (arith, length-slice_split (λ b. b == 47) text.0)) names.1 in
     (subst (IsWithin 1 32) (sym each.1) count, each.0)
@@ -314,11 +312,11 @@ traces_within rows traces h =
 compare_within : (rows : List Row) (c : CommandWords) → compare_in rows ≡ Some c → IsWithinLimits c
 unfolding compare_in
 compare_within rows c h =
-    let manifest = bound (required (codes "manifest") rows) _ c h in
-    let rules = bound (rules_in rows) _ c manifest.2 in
-    let settings = bound (settings_in rows) _ c rules.2 in
-    let seeks = bound (optional (codes "seeks") rows) _ c settings.2 in
-    let traces = bound (traces_in rows) _ c seeks.2 in
+    let manifest = then_some (required (codes "manifest") rows) _ c h in
+    let rules = then_some (rules_in rows) _ c manifest.2 in
+    let settings = then_some (settings_in rows) _ c rules.2 in
+    let seeks = then_some (optional (codes "seeks") rows) _ c settings.2 in
+    let traces = then_some (traces_in rows) _ c seeks.2 in
     let within = settings_within rows settings.0 settings.1 in
     let named' = rules_within rows rules.0 rules.1 in
     let made : CommandWords = record (with_settings settings.0 (blank verb.Compare)) {
@@ -343,10 +341,10 @@ no_rules = λ k d lt. absurd (omega arith)
 plan_within : (rows : List Row) (c : CommandWords) → plan_in rows ≡ Some c → IsWithinLimits c
 unfolding plan_in
 plan_within rows c h =
-    let manifest = bound (required (codes "manifest") rows) _ c h in
-    let trace = bound (required (codes "trace") rows) _ c manifest.2 in
-    let settings = bound (settings_in rows) _ c trace.2 in
-    let budget = bound (number_in 200000 1 1000000 (codes "budget") rows) _ c settings.2 in
+    let manifest = then_some (required (codes "manifest") rows) _ c h in
+    let trace = then_some (required (codes "trace") rows) _ c manifest.2 in
+    let settings = then_some (settings_in rows) _ c trace.2 in
+    let budget = then_some (number_in 200000 1 1000000 (codes "budget") rows) _ c settings.2 in
     let within = settings_within rows settings.0 settings.1 in
     let made : CommandWords = record (with_settings settings.0 (blank verb.Plan)) {
       manifest = manifest.0;
@@ -366,10 +364,10 @@ plan_within rows c h =
 check_within : (rows : List Row) (c : CommandWords) → check_in rows ≡ Some c → IsWithinLimits c
 unfolding check_in
 check_within rows c h =
-    let manifest = bound (required (codes "manifest") rows) _ c h in
-    let trace = bound (required (codes "trace") rows) _ c manifest.2 in
-    let settings = bound (settings_in rows) _ c trace.2 in
-    let certificate = bound (required (codes "certificate") rows) _ c settings.2 in
+    let manifest = then_some (required (codes "manifest") rows) _ c h in
+    let trace = then_some (required (codes "trace") rows) _ c manifest.2 in
+    let settings = then_some (settings_in rows) _ c trace.2 in
+    let certificate = then_some (required (codes "certificate") rows) _ c settings.2 in
     let within = settings_within rows settings.0 settings.1 in
     let made : CommandWords = record (with_settings settings.0 (blank verb.Check)) {
       manifest = manifest.0;
@@ -388,8 +386,8 @@ check_within rows c h =
 demo_within : (rows : List Row) (c : CommandWords) → demo_in rows ≡ Some c → IsWithinLimits c
 unfolding demo_in
 demo_within rows c h =
-    let text = bound (required (codes "number") rows) _ c h in
-    let number = bound (number_of 0 2147483647 text.0) _ c text.2 in
+    let text = then_some (required (codes "number") rows) _ c h in
+    let number = then_some (number_of 0 2147483647 text.0) _ c text.2 in
     let made : CommandWords = record (blank verb.Demo) { number = number.0 } in
     let same : made ≡ c = cc (number.2) in
     subst IsWithinLimits same (record {

@@ -5,7 +5,8 @@ use Rattle.clap.specs.Walk.{Row}
 use Rattle.lab_words.specs.Command.{CommandWords, blank}
 use Rattle.lab_words.specs.Spelling.{Text, number_of}
 use Rattle.lab_words.specs.Table.{table_app}
-use Rattle.lab_words.specs.Values.{◌>>=◌, required}
+use Rattle.lab_model.specs.OptionSteps.{◌>>=◌}
+use Rattle.lab_words.specs.Values.{required}
 use Rattle.lab_words.specs.declared.Verb.TheVariants as verb
 use Rattle.lab_words.specs.declared.table.Kind.{Kind}
 use Rattle.lab_words.specs.declared.table.Kind.TheVariants as kind

@@ -6,7 +6,8 @@ use Rattle.lab_words.specs.Command.{CommandWords, blank}
 use Rattle.lab_words.specs.Settings.{settings_in, settings_words, with_settings}
 use Rattle.lab_words.specs.Spelling.{Text}
 use Rattle.lab_words.specs.Table.{table_app}
-use Rattle.lab_words.specs.Values.{◌>>=◌, is_given, number_in, required}
+use Rattle.lab_model.specs.OptionSteps.{◌>>=◌}
+use Rattle.lab_words.specs.Values.{is_given, number_in, required}
 use Rattle.lab_words.specs.declared.Verb.TheVariants as verb
 use Rattle.lab_words.specs.declared.table.Kind.{Kind}
 use Rattle.lab_words.specs.declared.table.Kind.TheVariants as kind

@@ -3,7 +3,8 @@ use Rattle.std.specs.Prelude.{ℕ, List, [], ◌∷◌, Option, Some, codes}
 use Rattle.clap.specs.Walk.{Row}
 use Rattle.lab_words.specs.Command.{CommandWords}
 use Rattle.lab_words.specs.Spelling.{Text, utilities_of}
-use Rattle.lab_words.specs.Values.{◌>>=◌, number_in, required}
+use Rattle.lab_model.specs.OptionSteps.{◌>>=◌}
+use Rattle.lab_words.specs.Values.{number_in, required}
 use Rattle.lab_words.specs.declared.settings.Settings.{Settings}
 use Rattle.lab_words.specs.declared.table.Kind.{Kind}
 use Rattle.lab_words.specs.declared.table.Kind.TheVariants as kind

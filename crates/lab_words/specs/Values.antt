@@ -3,6 +3,7 @@ use Rattle.std.specs.Prelude.{◌≡◌, ℕ, ◌==◌, Bool, true, List, [], �
 use Rattle.std.specs.List.{list_any}
 use Rattle.std.specs.Str.{bytes_eq}
 use Rattle.clap.specs.Walk.{Row, all_of, first_of}
+use Rattle.lab_model.specs.OptionSteps.{◌>>=◌}
 use Rattle.lab_model.specs.Rules.{RuleKind}
 use Rattle.lab_words.specs.Rules.{rule_of}
 use Rattle.lab_words.specs.Spelling.{Text, number_of}
@@ -14,12 +15,6 @@ abbrev pub Gives : {X Y : Type 0} → (X → Y) → Result X WordsErr → Option
 Gives view (Ok x) read = read ≡ Some (view x)
 Gives view (Err errors.Usage) read = read ≡ None
 Gives view (Err errors.Memory) read = Unit {0}
-
-infixl 10 ◌>>=◌
--- the first that is refused refuses the whole
-abbrev pub ◌>>=◌ : {A B : Type 0} → Option A → (A → Option B) → Option B
-(Some x) >>= f = f x
-None >>= f = None
 
 -- a value that is empty or begins with `-`
 abbrev pub is_stray : Text → Bool

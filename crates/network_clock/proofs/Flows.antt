@@ -1,9 +1,9 @@
--- A trace is a network on which bits come, and so is a lane of up to eight takers.
+-- A trace is a network on which bits come: in 300000000 milliseconds it carries those of the greatest download.
 use Rattle.std.proofs.Common.{ℕ, ◌+◌, ◌*◌, ◌/◌, ◌≤◌, List, mul-le-mul_left, div-add-mod', arith}
 use Rattle.std.proofs.lemmas.Nat.{mod_below}
 use Rattle.lab_model.specs.declared.trace.Period.{Period}
 use Rattle.lab_model.specs.Cycle.{IsTrace, cycle_ms}
-use Rattle.network_clock.specs.Flow.{IsFlowing, IsPaced, carried_in, flow}
+use Rattle.network_clock.specs.Flow.{IsFlowing, carried_in, flow}
 use Rattle.network_clock.specs.Network.{period_at}
 use Rattle.network_clock.proofs.Periods.{bandwidth_at, cycle_positive, latency_at, trace_paced}
 use Rattle.network_clock.proofs.Sums.{sum_below_grows}
@@ -36,25 +36,4 @@ trace_flows ps h = record {
   latency = λ t. latency_at ps t h.periods;
   bandwidth = λ t. bandwidth_at ps t h.periods;
   carries = carries_enough ps h;
-}
-
--- a lane carries as much in 1713000000 milliseconds and more
-pub paced_enough : (ps : List Period) → IsPaced ps → (t n : ℕ) → 1713000000 ≤ n → 200000000000 + flow carried_in ps t ≤ flow carried_in ps (t + n)
-paced_enough ps h t n late =
-    let cycle = h.cycle in
-    let q = enough 1613000000 (cycle_ms ps) in
-    let ms = enough_ms 1613000000 (cycle_ms ps) (cycle_positive ps h) in
-    let small = ms.0 in
-    let large = ms.1 in
-    let turns = flow_turns carried_in ps q t in
-    let carries = mul-le-mul_left q h.carries in
-    let grows = sum_below_grows (λ i. carried_in (period_at ps i)) (q * cycle_ms ps + t) (t + n) (omega (arith, small, cycle, late)) in
-    omega (arith, turns, carries, grows, large)
-
--- so bits come on it too
-pub paced_flows : (ps : List Period) → IsPaced ps → IsFlowing 1713000000 (period_at ps)
-paced_flows ps h = record {
-  latency = λ t. latency_at ps t h.periods;
-  bandwidth = λ t. bandwidth_at ps t h.periods;
-  carries = paced_enough ps h;
 }

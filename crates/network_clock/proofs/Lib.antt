@@ -8,8 +8,8 @@ pub mod Downloads
 pub mod Pace
 pub mod Maps
 pub mod Flows
-pub mod Parted
 pub mod Shares
+pub mod Lanes
 pub mod Openings
 pub mod Order
 pub mod Places

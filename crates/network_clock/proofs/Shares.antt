@@ -1,15 +1,26 @@
 -- A share of a trace is a network on which bits come, however the number of takers, at most eight, changes from millisecond to millisecond.
-use Rattle.std.proofs.Common.{◌≡◌, ℕ, zero, suc, ◌+◌, ◌*◌, ◌≤◌, max, List, ap, add-zero, add-suc, mul-le-mul_left, div-le_self, arith}
+use Rattle.std.proofs.Common.{◌≡◌, ℕ, zero, suc, ◌+◌, ◌*◌, ◌/◌, ◌≤◌, max, List, ap, add-zero, add-suc, mul-le-mul_left, div-add-mod', div-le_self, arith}
+use Rattle.std.proofs.lemmas.Nat.{mod_below}
 use Rattle.lab_model.specs.declared.trace.Period.{Period}
 use Rattle.lab_model.specs.Cycle.{IsTrace, cycle_ms}
 use Rattle.network_clock.specs.Flow.{IsFlowing, carried_in, flow, flow_on}
 use Rattle.network_clock.specs.Network.{parted, period_at}
 use Rattle.network_clock.proofs.Flows.{enough, enough_ms}
 use Rattle.network_clock.proofs.Laws.{flow_next}
-use Rattle.network_clock.proofs.Parted.{share_least}
 use Rattle.network_clock.proofs.Periods.{bandwidth_at, cycle_positive, latency_at, trace_paced}
 use Rattle.network_clock.proofs.Sums.{sum_below_grows}
 use Rattle.network_clock.proofs.Turns.{flow_turns}
+
+-- a taker gets at least an eighth of what is carried, but for what is lost by whole thousandths
+pub share_least : (takers w : ℕ) → takers ≤ 8 → w ≤ 8 * (w / max 1 takers) + 7
+share_least takers w few =
+    let d = max 1 takers in
+    let some : 1 ≤ d = omega arith in
+    let most : d ≤ 8 = omega (arith, few) in
+    let whole = div-add-mod' w d in
+    let rest = mod_below w d some in
+    let product = mul-le-mul_left (w / d) most in
+    omega (arith, whole, rest, product, most)
 
 module _ (net : ℕ → Period) (takers : ℕ → ℕ) (few : (t : ℕ) → takers t ≤ 8) where
   -- so of what so many milliseconds carry a share gets an eighth, less at most seven thousandths in eight each

@@ -2,8 +2,7 @@
 use Rattle.std.proofs.Common.{◌≡◌, ◌∙◌, ℕ, zero, suc, ◌+◌, ◌-◌, ◌<◌, ◌≤◌, inl, inr, List, [], length, true, false, Option, Some, None, Result, Ok, Err, sym, ap, subst, ⊎_elim, arith, eqb}
 use Rattle.std.specs.Option.{IfSome, option_map}
 use Rattle.std.specs.Result.{IfOk}
-use Rattle.std.proofs.lemmas.Bool.{cases_lt, ne_eqb, false_from_ne_true, eq-eqb, true≢false}
-use Rattle.std.proofs.lemmas.Option.{IfSome_then}
+use Rattle.std.proofs.lemmas.Bool.{cases_lt, true≢false}
 use Rattle.lab_model.specs.declared.trace.Period.{Period}
 use Rattle.lab_model.specs.Film.{Film}
 use Rattle.network_clock.specs.declared.job.Job.{Job}
@@ -12,14 +11,14 @@ use Rattle.network_clock.proofs.Laws.{job_next, job_start, left_falls}
 use Rattle.player_core.specs.Limits.{latest_ms, longest_elapsed, longest_film, most_segments, most_wasted}
 use Rattle.player_core.specs.declared.body.Body.{Body}
 use Rattle.player_core.specs.declared.running.Running.{Running}
-use Rattle.player_core.specs.State.{Case, Download, Player}
+use Rattle.player_core.specs.State.{Case, Player}
 use Rattle.player_core.specs.Sound.{IsCase, Runs, Sound, asked_size}
 use Rattle.player_core.specs.Seen.{CanGlide, CanIdle, CanRest, CanTake, IsTimed, SameRequest, StandsFor, Step, download_of, seen, IsRunningOf, CanArrive}
 use Rattle.player_core.specs.Available.{available_at}
 use Rattle.player_core.specs.Parts.{is_playing}
 use Rattle.player_core.specs.Ready.{CanJudge, CanLoad, CanPass, CanRequest}
 use Rattle.player_core.proofs.Bounds.{end_most, loaded_most, stalls_most, wasted_small}
-use Rattle.player_core.proofs.Runs.{asked_within, bit_ms_is, bit_ms_short, done_soon, first_cases, runs_begun, runs_on, runs_pace, runs_short}
+use Rattle.player_core.proofs.Runs.{asked_within, bit_ms_is, bit_ms_short, done_soon, runs_begun, runs_on, runs_pace, runs_short}
 use Rattle.player_core.proofs.Soundness.{IsOpen}
 use Rattle.player_core.proofs.Waits.{IsStill, asks_true}
 

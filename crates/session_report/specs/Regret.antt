@@ -42,7 +42,11 @@ pub record AreScores (p : Scores) : Type 0 where
   pub best : IsNear (10 ^ 24) p.1
   pub order : p.0 ≤ℤ p.1
 
--- the total of a list of at most 64 pairs
+-- the total of a list of pairs
+abbrev pub total_of : List Scores → Total
+total_of ps = record { score = scores_sum ps; best = bests_sum ps; regret = regrets_sum ps; worst = worst_of ps; count = length ps }
+
+-- a total stands for a list of at most 64 pairs
 pub record StandsFor (ps : List Scores) (t : Total) : Type 0 where
   pub score : t.score ≡ scores_sum ps
   pub best : t.best ≡ bests_sum ps

@@ -3,7 +3,7 @@ use Rattle.network_clock.specs.declared.job.Job.{Job}
 use Rattle.network_clock.specs.Network.{lane_at, parted, pass}
 use Rattle.network_clock.proofs.Downloads.{lands_is}
 use Rattle.network_clock.proofs.Laws.{job_more, job_start, jobs_end}
-use Rattle.network_clock.proofs.Parted.{lane_flows}
+use Rattle.network_clock.proofs.Shares.{share_flows}
 use Rattle.network_clock.proofs.plain.lands.Goals as goal
 
 pub loop-n-init : goal.loop-n-init
@@ -25,5 +25,5 @@ loop-n-preserved c = record {
 
 pub unreachable-requires : goal.unreachable-requires
 unreachable-requires c =
-    let e = jobs_end (lane_at c.args.periods.now c.args.takers) (lane_flows c.args.takers c.args.periods.now c.requires.trace c.requires.takers) c.args.from 1713010000 c.args.start_job c.requires.credit c.requires.left (omega arith) in
+    let e = jobs_end (lane_at c.args.periods.now c.args.takers) (share_flows c.args.periods.now c.requires.trace (λ i. c.args.takers) (λ i. c.requires.takers)) c.args.from 1713010000 c.args.start_job c.requires.credit c.requires.left (omega arith) in
     c.loop-n.invariant.none _ (omega arith) e

@@ -2,7 +2,7 @@ use Rattle.std.proofs.Common.{◌-◌, ◌∙◌, ap, sym}
 use Rattle.network_clock.specs.Flow.{delay_of}
 use Rattle.network_clock.specs.Network.{job_after}
 use Rattle.network_clock.specs.Shared.{Shared}
-use Rattle.network_clock.proofs.Parted.{lane_delay, lane_jobs, lane_paced}
+use Rattle.network_clock.proofs.Lanes.{lane_delay, lane_jobs, lane_paced}
 use Rattle.network_clock.proofs.link.Link.advance.Goals as goal
 
 pub advance_by-requires-clause-paced : goal.advance_by-requires-clause-paced

@@ -1,24 +1,24 @@
 use Rattle.std.proofs.Common.{◌≡◌, ◌+◌, ◌*◌, ◌∙◌, ap, arith}
 use Rattle.lab_model.specs.Cycle.{cycle_bits}
 use Rattle.network_clock.specs.declared.job.Job.{Job}
-use Rattle.network_clock.specs.Flow.{IsPaced, Reaches, carried_in, flow}
+use Rattle.network_clock.specs.Flow.{IsFlowing, Reaches, carried_in, flow}
 use Rattle.network_clock.specs.Network.{lands_on, period_at}
-use Rattle.network_clock.proofs.Flows.{paced_enough, paced_flows}
 use Rattle.network_clock.proofs.Openings.{lands_reached, opens_now, reached_after}
-use Rattle.network_clock.proofs.Parted.{lane_lands, lane_paced}
+use Rattle.network_clock.proofs.Lanes.{lane_flows, lane_lands}
 use Rattle.network_clock.proofs.Sums.{sum_below_grows}
 use Rattle.network_clock.proofs.link.Link.lands.Goals as goal
 use Rattle.network_clock.proofs.link.Link.lands.Goals.{After-lane-lane, After-reach_from}
 
-paced : (c : After-lane-lane) → IsPaced c.lane-lane.result.now
-paced c = rw c.lane-lane.ensures.value (lane_paced c.args.takers c.args.self.now.periods c.lane-lane.ensures.few c.lane-lane.ensures.trace)
+-- bits come on the lane
+flows : (c : After-lane-lane) → IsFlowing 1713000000 (period_at c.lane-lane.result.now)
+flows c = rw c.lane-lane.ensures.value (lane_flows c.args.takers c.args.self.now.periods c.lane-lane.ensures.trace c.lane-lane.ensures.few)
 
 pub reach_from-requires-clause-soon : goal.reach_from-requires-clause-soon
 reach_from-requires-clause-soon c =
     let ps = c.lane-lane.result.now in
     let from = c.requires.from in
     let left = c.requires.left in
-    let enough = paced_enough ps (paced (goal.at.reach_from-requires-clause-soon c).After-lane-lane) c.args.from 1713000000 (omega arith) in
+    let enough = (flows (goal.at.reach_from-requires-clause-soon c).After-lane-lane).carries c.args.from 1713000000 (omega arith) in
     let grows = sum_below_grows (λ i. carried_in (period_at ps i)) (c.args.from + 1713000000) 3000000000000000 (omega (arith, from)) in
     omega (arith, enough, grows, left, c.carried_since.ensures.value)
 
@@ -34,7 +34,7 @@ returns-clause-lands c =
     let s = goal.at.returns-clause-lands c in
     let qs = c.lane-lane.result.now in
     let j : Job = record { credit = 0; left = c.args.left } in
-    lands_reached qs (paced_flows qs (paced s.After-lane-lane)) (omega arith) c.args.from c.args.from c.reach_from.result.instant j c.requires.left.0 c.requires.left.1 (opens_now qs c.args.from) (reached s.After-reach_from)
+    lands_reached qs (flows s.After-lane-lane) (omega arith) c.args.from c.args.from c.reach_from.result.instant j c.requires.left.0 c.requires.left.1 (opens_now qs c.args.from) (reached s.After-reach_from)
     ∙ ap (λ ps. lands_on (period_at ps) c.args.from j) c.lane-lane.ensures.value
     ∙ lane_lands c.args.takers c.args.self.now.periods c.lane-lane.ensures.trace c.args.from j
 

@@ -1,7 +1,7 @@
 use Rattle.std.proofs.Common.{◌∙◌, ap, sym, arith}
 use Rattle.network_clock.specs.Flow.{parted_trace}
 use Rattle.network_clock.specs.Shared.{Shared}
-use Rattle.network_clock.proofs.Parted.{lane_whole}
+use Rattle.network_clock.proofs.Lanes.{lane_whole}
 use Rattle.network_clock.proofs.link.Link.lane.Goals as goal
 
 pub returns-then-takers-lt2-clause-value : goal.returns-then-takers-lt2-clause-value

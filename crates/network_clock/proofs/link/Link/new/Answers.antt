@@ -1,7 +1,7 @@
 use Rattle.std.proofs.Common.{◌≡◌, ◌+◌, ◌-◌, ◌∙◌, ap₂, length, subst, sym, arith}
 use Rattle.network_clock.specs.Flow.{parted_trace}
 use Rattle.network_clock.specs.Shared.{AreLanes, shared}
-use Rattle.network_clock.proofs.Parted.{lane_paced, lanes_more, lanes_none}
+use Rattle.network_clock.proofs.Lanes.{lane_paced, lanes_more, lanes_none}
 use Rattle.network_clock.proofs.link.Link.new.Goals as goal
 
 pub loop-takers-init : goal.loop-takers-init

@@ -1,11 +1,9 @@
-use Rattle.std.proofs.Common.{◌≡◌, ◌∙◌, ℕ, ◌+◌, ◌-◌, ◌≤◌, ◌<◌, ◌⊎◌, true, false, None, Some, IfSome, inl, inr, option_map, ⊎_elim, sym, ap, subst, arith}
+use Rattle.std.proofs.Common.{◌≡◌, ◌∙◌, ℕ, ◌+◌, ◌-◌, ◌≤◌, ◌<◌, ◌⊎◌, false, None, Some, IfSome, inl, inr, option_map, ⊎_elim, sym, ap, subst, arith}
 use Rattle.lab_model.specs.declared.setup.Setup.{Setup}
 use Rattle.network_clock.specs.Network.{done_on}
 use Rattle.player_core.specs.Course.{case_on}
-use Rattle.player_core.specs.State.{Case, Download, Player}
-use Rattle.player_core.specs.Parts.{seek_at}
 use Rattle.player_core.specs.Sound.{asked_size}
-use Rattle.player_core.specs.Quiet.{IsQuiet, is_due_ms}
+use Rattle.player_core.specs.Quiet.{is_due_ms}
 use Rattle.player_core.specs.Seen.{IsTimed, download_of, seen}
 use Rattle.player_core.proofs.Stretch.{untouched_less}
 use Rattle.player_core.proofs.body.Body.quiet_ms.Goals as goal

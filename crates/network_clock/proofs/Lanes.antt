@@ -1,10 +1,9 @@
 -- The lane of each of up to eight takers of a trace keeps its limits, and bits come on it.
-use Rattle.std.proofs.Common.{◌≡◌, ℕ, ◌+◌, ◌*◌, ◌/◌, ◌<◌, ◌≤◌, max, ⊎_elim, List, [], ◌∷◌, ◌++◌, length, get_or, refl, sym, ◌∙◌, ap, ap₂, mul-le-mul_left, div-add-mod', div-le_self, arith}
+use Rattle.std.proofs.Common.{◌≡◌, ℕ, ◌+◌, ◌*◌, ◌/◌, ◌<◌, ◌≤◌, max, ⊎_elim, List, [], ◌∷◌, ◌++◌, length, get_or, refl, sym, ◌∙◌, ap, ap₂, mul-le-mul_left, div-le_self, arith}
 use Rattle.std.proofs.lemmas.Bool.{cases_lt}
 use Rattle.std.proofs.lemmas.List.{get_or_append_left, length-map, length_push}
 use Rattle.std.proofs.lemmas.List.Elements.{All-map}
 use Rattle.std.proofs.lemmas.List.Sums.{sum_by-cons}
-use Rattle.std.proofs.lemmas.Nat.{mod_below}
 use Rattle.std.proofs.Math.Nat.{div-one}
 use Rattle.std.proofs.Math.Seq.{get_or-append_seam}
 use Rattle.lab_model.specs.declared.trace.Period.{Period}
@@ -14,24 +13,13 @@ use Rattle.network_clock.specs.Flow.{IsFlowing, IsPaced, carried_in, delay_in, d
 use Rattle.network_clock.specs.Network.{job_after, job_on, lands_on, lane_at, parted, period_at}
 use Rattle.network_clock.specs.Shared.{AreLanes}
 use Rattle.network_clock.proofs.Downloads.{lands_same}
-use Rattle.network_clock.proofs.Flows.{paced_flows}
 use Rattle.network_clock.proofs.Laws.{same_jobs}
 use Rattle.network_clock.proofs.Maps.{map_ms, map_period_at}
 use Rattle.network_clock.proofs.Periods.{bandwidth_at, latency_at, trace_paced}
+use Rattle.network_clock.proofs.Shares.{share_least, share_flows}
 use Rattle.network_clock.proofs.Sums.{sum_below_same}
 
--- ---- what a share is
-
--- a taker gets at least an eighth of what is carried, but for what is lost by whole thousandths
-pub share_least : (takers w : ℕ) → takers ≤ 8 → w ≤ 8 * (w / max 1 takers) + 7
-share_least takers w few =
-    let d = max 1 takers in
-    let some : 1 ≤ d = omega arith in
-    let most : d ≤ 8 = omega (arith, few) in
-    let whole = div-add-mod' w d in
-    let rest = mod_below w d some in
-    let product = mul-le-mul_left (w / d) most in
-    omega (arith, whole, rest, product, most)
+-- ---- the lane of one taker
 
 -- one taker gets all
 one_gets_all : (takers w : ℕ) → takers ≤ 1 → w / max 1 takers ≡ w
@@ -112,11 +100,16 @@ module _ (takers : ℕ) (ps : List Period) (h : IsTrace ps) where
   lane_flow t = sum_below_same _ _ t (λ i low. ap carried_in (lane_period_at i))
 
   -- on the lane of up to eight takers bits come
-  pub lane_flows : takers ≤ 8 → IsFlowing 1713000000 (lane_at ps takers)
+  pub lane_flows : takers ≤ 8 → IsFlowing 1713000000 (period_at (parted_trace takers ps))
   lane_flows few =
-      let flows = paced_flows (parted_trace takers ps) (lane_paced takers ps few h) in
+      let lane = parted_trace takers ps in
+      let paced = lane_paced takers ps few h in
       record {
-        latency = λ t. latency_at ps t h.periods;
-        bandwidth = λ t. let most = bandwidth_at ps t h.periods in let less = div-le_self (period_at ps t).bandwidth (max 1 takers) in omega (arith, most, less);
-        carries = λ t n late. let carries = flows.carries t n late in let before = lane_flow t in let after = lane_flow (t + n) in omega (arith, carries, before, after);
+        latency = λ t. latency_at lane t paced.periods;
+        bandwidth = λ t. bandwidth_at lane t paced.periods;
+        carries = λ t n late.
+            let carries = (share_flows ps h (λ i. takers) (λ i. few)).carries t n late in
+            let before = lane_flow t in
+            let after = lane_flow (t + n) in
+            omega (arith, carries, before, after);
       }
