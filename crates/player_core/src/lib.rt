@@ -4,7 +4,7 @@
 mod body;
 mod course;
 mod laws;
-mod limits;
+pub mod limits;
 mod mode;
 pub mod parts;
 mod player;
@@ -20,8 +20,3 @@ pub use player::{available, play, play_from, seeks_fit};
 pub use rules::{Fixed, Listed};
 pub use scene::Scene;
 pub use session::{Event, Session};
-
-#[cfg(test)]
-mod plain;
-#[cfg(test)]
-mod tests;

@@ -1,7 +1,7 @@
 use Rattle.std.proofs.Common.{◌∙◌, sym, arith}
 use Rattle.player_core.proofs.Chain.{pass_left, passes_left, session_is}
 use Rattle.player_core.proofs.Turns.{top_early, top_first, top_left, top_next, top_turns}
-use Rattle.player_core.proofs.plain.session_on.Goals as goal
+use Rattle.player_cases.proofs.plain.session_on.Goals as goal
 
 pub instant-requires : goal.instant-requires
 instant-requires g c = let can = top_turns _ _ _ _ c.requires.case _ _ _ c.loop-turn.invariant in record { case = can.case; stands = can.stands; told = can.told }

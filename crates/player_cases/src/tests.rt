@@ -3,12 +3,12 @@
 mod long;
 mod short;
 
-use crate::course::Course;
 use crate::plain::play_on;
-use crate::scene::Scene;
-use crate::{Event, Fixed, Listed, Session, available, play, play_from, seeks_fit};
 use lab_model::{Context, Manifest, Period, Rule, Seek, Setup, Trace, Weights};
 use network_clock::Clock;
+use player_core::limits::ALL_AHEAD_MS;
+use player_core::parts::Course;
+use player_core::{Event, Fixed, Listed, Scene, Session, available, play, play_from, seeks_fit};
 use short::SHORT;
 use std::alloc::Global;
 use std::process::Abort;
@@ -36,7 +36,7 @@ struct Case {
 }
 
 /// All media of any film is there at instant 0.
-const ON_DEMAND: u32 = 120_000_000;
+const ON_DEMAND: u32 = ALL_AHEAD_MS;
 
 /// Three segments of a second, on rungs of 1000 and 2000 kbps, over a steady link of 2000 kbps, all on the upper rung.
 const THREE_SECONDS: Case = Case {

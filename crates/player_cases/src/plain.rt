@@ -10,11 +10,10 @@ ghost use Rattle.player_core.specs.Course.{case_on};
 ghost use Rattle.player_core.specs.Session.{session_of, shown};
 ghost use Rattle.player_core.specs.Sound.{IsCase};
 
-use crate::body::Body;
-use crate::course::Course;
-use crate::limits::LATEST_MS;
-use crate::session::Session;
 use lab_model::{NoMemory, Rule};
+use player_core::Session;
+use player_core::limits::LATEST_MS;
+use player_core::parts::{Body, Course};
 use std::alloc::Global;
 
 /// The session of a course, millisecond by millisecond.

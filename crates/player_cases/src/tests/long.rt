@@ -1,8 +1,8 @@
 //! Long sessions: many milliseconds, many segments, and a trace of many periods, with answers from outside.
 
 use super::{Case, ON_DEMAND, clock_of, counters, fixed_session, setup_of};
-use crate::{Fixed, play_from, seeks_fit};
 use lab_model::{Manifest, Period, Rule, Seek};
+use player_core::{Fixed, play_from, seeks_fit};
 use std::alloc::Global;
 use std::process::Abort;
 use std::test::Fail;
