@@ -1,5 +1,7 @@
 -- What `check` judges: what the lines of a certificate came to is what the command answers.
 use Rattle.std.proofs.Common.{◌≡◌, ◌∙◌, ℕ, ◌*◌, List, [], ◌∷◌, ◌++◌, Option, Some, None, Result, Ok, Err, refl, sym, ap, subst, inl, inr, append_assoc, IsSome}
+use Rattle.lab_model.proofs.Steps.{then_ok}
+use Rattle.lab_model.specs.Steps.{◌>>=◌}
 use Rattle.lab_io.specs.Sink.{Text, Seen, Grew, Puts}
 use Rattle.lab_io.specs.Shelf.{Shelved}
 use Rattle.lab_model.specs.declared.fault.Refusal.{Refusal}
@@ -27,10 +29,8 @@ use Rattle.player_core.specs.Scene.{Task}
 use Rattle.labels.specs.Parts.{CertificateParts, ChainParts}
 use Rattle.labels.specs.declared.verdict.Verdict.{Verdict}
 use Rattle.labels.specs.declared.verdict.Verdict.TheVariants.{Yes, No}
-use Rattle.certificate_text.specs.Fields.{◌>>=◌}
 use Rattle.certificate_text.specs.Reading.{Place, Walks, certificate_of, chains_at, end_at, head_at}
 use Rattle.certificate_text.specs.Walk.{Walk, accepted, begun}
-use Rattle.certificate_text.proofs.FieldLaws.{bind_ok}
 use Rattle.certificate_text.specs.Walk.{rest_of}
 use Rattle.certificate_text.proofs.WalkLaws.{begun_rest, whole_of}
 use Rattle.certificate_check.specs.Verdict.{lines_verdict, verdict_of}
@@ -97,7 +97,7 @@ bad_judged c i (Refused why) h = (tt, rw h refl)
 pub misfit_judged : (c : CommandWords) (i : InputValues) (setting : Setting) → misfit_of c i.film ≡ Some setting → accepted i.certificate ≡ Ok tt → Judges c i (Err (halt.Stopped (stop.Settings setting)))
 unfolding check_inputs
 misfit_judged c i setting m a =
-    let x = bind_ok (certificate_of i.certificate) (λ cert. Ok tt) tt a in
+    let x = then_ok (certificate_of i.certificate) (λ cert. Ok tt) tt a in
     (tt, rw (x.1, m) refl)
 
 -- then the verdict
@@ -105,7 +105,7 @@ pub verdict_judged : (c : CommandWords) (i : InputValues) (periods : List Period
     → begun i.certificate ≡ Ok w → j.score ≡ w.head.score → lines_verdict g i.certificate ≡ Ok j.verdict → Judges c i (Ok j)
 unfolding check_inputs
 verdict_judged c i periods g w j traces task fits b score said =
-    let x = bind_ok (certificate_of i.certificate) (λ cert. Ok (verdict_of g cert cert.score)) j.verdict said in
+    let x = then_ok (certificate_of i.certificate) (λ cert. Ok (verdict_of g cert cert.score)) j.verdict said in
     let own : x.0.score ≡ j.score = sym (score ∙ score_is i.certificate w x.0 b x.1) in
     let told : verdict_of (task_on c i periods) x.0 x.0.score ≡ j.verdict = ap (λ t. verdict_of t x.0 x.0.score) (sym task) ∙ ok_same _ _ j.verdict refl x.2 in
     rw (x.1, fits, traces) (ap (λ v. Ok (told_verdict x.0.score v)) told ∙ ap (λ z. Ok (told_verdict z j.verdict)) own)
