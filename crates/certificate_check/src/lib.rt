@@ -9,6 +9,3 @@ mod whole;
 pub use by_layer::{check_lines, check_lines_from};
 pub use labels::Verdict;
 pub use whole::{check, check_bound, check_from};
-
-#[cfg(test)]
-mod tests;

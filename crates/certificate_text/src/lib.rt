@@ -30,6 +30,3 @@ pub use certificate::{Certificate, Layer};
 pub use labels::Verdict;
 pub use lines::{Lines, one_spelling, read_certificate};
 pub use writer::{put_plan, put_score, write_certificate};
-
-#[cfg(test)]
-mod tests;

@@ -19,6 +19,3 @@ pub use labels::{
 };
 pub use planner::{plan, plan_from};
 pub use plans::{CoarsePlan, PlanErr};
-
-#[cfg(test)]
-mod tests;

@@ -19,6 +19,3 @@ pub use laws::{
 pub use plans::{Chain, Plan};
 pub use values::labels_are_values;
 pub use verdict::Verdict;
-
-#[cfg(test)]
-mod tests;

@@ -1,8 +1,8 @@
 //! Labels of the worked examples, and the frontiers of small films over all rung prefixes.
 
 use crate::tests::values::{Case, STEADY, clock, film, follows};
-use crate::{Grid, dominates, end_value, next_label, round_label, start_label};
 use lab_model::{Label, Manifest, Setup, Weights};
+use labels::{Grid, dominates, end_value, next_label, round_label, start_label};
 use network_clock::Clock;
 use std::alloc::Global;
 use std::process::Abort;

@@ -6,8 +6,8 @@ ghost use Rattle.lab_model.specs.Film.{film};
 ghost use Rattle.lab_model.specs.Number.{IsNear};
 ghost use Rattle.labels.specs.Near.{CanFollow};
 
-use crate::{end_value, next_from, start_from};
 use lab_model::{Label, Manifest, Period, Rule, Setup, Trace, Weights};
+use labels::{end_value, next_from, start_from};
 use network_clock::Clock;
 use player_core::{Listed, play_from};
 use quality_score::score;

@@ -1,95 +1,17 @@
 //! Certificates and the verdicts on them, with answers from outside.
 
-mod certificates;
-
-use crate::{Verdict, check, check_bound, check_from, check_lines, check_lines_from};
-use certificate_text::{Lines, read_certificate};
-use certificates::{
+use crate::tests::certificates::{
     CHANGED, EQUAL_UTILITIES, LIVE_EDGE, MUTATED, SMALLEST_INPUT, STEADY_PLAN, UTILITY_TABLE,
 };
-use lab_model::{InputFault, Manifest, Period, Setup, Trace, Weights};
-use network_clock::Clock;
+use crate::tests::inputs::{Case, Inputs, M1, SMALLEST};
+use certificate_check::{Verdict, check, check_bound, check_from, check_lines, check_lines_from};
+use certificate_text::{Lines, read_certificate};
+use lab_model::InputFault;
 use std::alloc::Global;
 use std::process::Abort;
 use std::test::Fail;
 
-/// A film with rungs of constant sizes over a link of constant bandwidth.
-#[derive(Clone, Copy)]
-struct Case {
-    seg_ms: u32,
-    segments: u16,
-    bitrates: &'static [u32],
-    sizes: &'static [u32],
-    /// The only period: milliseconds and thousandths of a kbps.
-    period: (u32, u64),
-    buffer_ms: u32,
-    /// One for each rung, or row by row.
-    utilities: &'static [u32],
-    table: bool,
-}
-
-/// Three segments of a second on two rungs.
-const M1: Case = Case {
-    seg_ms: 1000,
-    segments: 3,
-    bitrates: &[1000, 2000],
-    sizes: &[1_000_000, 2_000_000],
-    period: (60_000, 2_000_000),
-    buffer_ms: 10_000,
-    utilities: &[0, 10],
-    table: false,
-};
-
-/// One segment of one bit.
-const SMALLEST: Case = Case {
-    seg_ms: 1,
-    segments: 1,
-    bitrates: &[1],
-    sizes: &[1],
-    period: (1, 1000),
-    buffer_ms: 1,
-    utilities: &[0],
-    table: false,
-};
-
-/// What certificates are checked against.
-#[derive(Drop)]
-struct Inputs {
-    m: Manifest,
-    clock: Clock,
-    set: Setup,
-}
-
 impl Inputs {
-    fn of(alloc: Global, case: &Case) -> Result<Inputs, Fail> {
-        let mut sizes = Vec::new(alloc);
-        for _ in 0..case.segments {
-            sizes.extend_from_slice(case.sizes)?;
-        }
-        let bitrates = case.bitrates.to_vec(alloc)?;
-        let m = Manifest::from_parts(case.seg_ms, bitrates, sizes).ok_or("not a film")?;
-        let mut periods = Vec::new(alloc);
-        periods.push(Period {
-            duration_ms: case.period.0,
-            bandwidth: case.period.1,
-            latency: 0,
-        })?;
-        let trace = Trace::from_parts(periods).ok_or("not a trace")?;
-        let clock = Clock::new(alloc, &trace)?;
-        let utilities = case.utilities.to_vec(alloc)?;
-        let weights = if case.table {
-            Weights::from_table(utilities, m.rungs(), 0, 100, 1)
-        } else {
-            Weights::from_parts(utilities, 0, 100, 1)
-        };
-        let set = Setup {
-            buffer_ms: case.buffer_ms,
-            weights: weights.ok_or("no weights")?,
-            abandon: false,
-        };
-        Ok(Inputs { m, clock, set })
-    }
-
     /// The verdict on a text that is read whole.
     fn whole(&self, rt: &impl Abort, alloc: Global, text: &str) -> Result<Verdict, InputFault> {
         assert!(rt; self.set.fits(&self.m));

@@ -1,5 +1,5 @@
 // Each public call on the worked examples, byte by byte, and bad lines of all kinds.
-use crate::{Certificate, Lines, read_certificate, write_certificate};
+use certificate_text::{Certificate, Lines, read_certificate, write_certificate};
 use lab_io::SureSink;
 use lab_model::{InputFault, Key, Kind, Manifest, Refusal};
 use labels::Plan;

@@ -1,4 +1,0 @@
-//! Tests, with answers from outside.
-
-mod calls;
-mod values;

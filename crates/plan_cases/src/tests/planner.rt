@@ -1,0 +1,54 @@
+//! Worked examples of plans, with answers from outside.
+
+use crate::tests::inputs::{Case, Inputs, M1, SMALLEST};
+use frontier_planner::{Plan, PlanErr, plan};
+use std::alloc::Global;
+use std::process::Abort;
+use std::test::Fail;
+
+/// Score, labels and rungs.
+type Told = (i128, u32, &'static [u8]);
+
+/// The plan of a case within a budget.
+fn planned(
+    rt: &impl Abort,
+    alloc: Global,
+    case: &Case,
+    budget: u32,
+) -> Result<Result<Plan, PlanErr>, Fail> {
+    let inputs = Inputs::of(alloc, case)?;
+    assert!(rt; inputs.set.fits(&inputs.m));
+    assert!(rt; budget >= 1 && budget <= 1_000_000);
+    Ok(plan(alloc, &inputs.m, &inputs.clock, &inputs.set, budget))
+}
+
+#[test]
+fn worked_plans(rt: HostRuntime) -> Result<(), Fail> {
+    let alloc = rt.alloc();
+    // late-start-wins, steady-plan, budget-edge at 14, smallest-input
+    let c500 = Case {
+        period: (60_000, 500_000),
+        ..M1
+    };
+    let table: [(Case, u32, Told); 4] = [
+        (c500, 200_000, (-194_000, 12, &[1, 0, 0])),
+        (M1, 200_000, (29_000, 14, &[1, 1, 1])),
+        (M1, 14, (29_000, 14, &[1, 1, 1])),
+        (SMALLEST, 1, (-1, 1, &[0])),
+    ];
+    for (case, budget, told) in &table {
+        let plan = planned(&rt, alloc, case, *budget)?.map_err(|_| "no plan")?;
+        assert_eq!(rt; plan.score, told.0);
+        assert_eq!(rt; plan.labels, told.1);
+        assert_eq!(rt; plan.rungs.as_slice(), told.2);
+    }
+    Ok(())
+}
+
+#[test]
+fn budget_edge(rt: HostRuntime) -> Result<(), Fail> {
+    let alloc = rt.alloc();
+    let answer = planned(&rt, alloc, &M1, 13)?.map(|plan| plan.score);
+    assert_eq!(rt; answer, Err(PlanErr::BudgetSpent { segment: 2 }));
+    Ok(())
+}
