@@ -1,4 +1,4 @@
-use Rattle.std.proofs.Common.{rules, ◌≡◌, ◌∙◌, ◌-◌, ap, sym, subst, arith, not, eqb, of_z, to_z}
+use Rattle.std.proofs.Common.{rules, ◌≡◌, ◌∙◌, ◌-◌, ap, sym, subst, arith, of_z, to_z}
 use Rattle.std.specs.Int.{w128}
 use Rattle.lab_model.specs.Film.{segments_of}
 use Rattle.labels.specs.Labels.{AreRungs, end_value}
