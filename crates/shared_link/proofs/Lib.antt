@@ -1,0 +1,5 @@
+pub mod Takers
+pub mod Ended
+pub mod Own
+pub mod Loops
+pub mod Instants
