@@ -1,9 +1,12 @@
 -- How many players take bits of a link.
-use Rattle.std.proofs.Common.{◌≡◌, ℕ, zero, suc, ◌+◌, ◌<◌, ◌≤◌, cond, refl, ap₂, arith}
+use Rattle.std.proofs.Common.{◌≡◌, ◌∙◌, ℕ, zero, suc, ◌+◌, ◌<◌, ◌≤◌, Bool, cond, List, length, get_or, refl, sym, ap, ap₂, subst, add-one, arith}
 use Rattle.std.proofs.lemmas.Bool.{cond_both}
 use Rattle.lab_model.specs.declared.trace.Period.{Period}
+use Rattle.player_core.specs.declared.body.Body.{Body}
+use Rattle.player_core.specs.Seen.{StandsFor, seen}
 use Rattle.player_core.specs.State.{Player}
 use Rattle.shared_link.specs.Joint.{takers_in, takes_bits}
+use Rattle.shared_link.specs.Table.{Stand}
 
 -- no player takes twice
 pub takers_few : (period : Period) (ps : ℕ → Player) (n : ℕ) → takers_in period ps n ≤ n
@@ -28,3 +31,11 @@ pub takers_same : (period other : Period) (ps qs : ℕ → Player) (n : ℕ) →
 unfolding takers_in
 takers_same period other ps qs zero same = refl
 takers_same period other ps qs (suc n) same = ap₂ (λ k b. k + cond b 1 0) (takers_same period other ps qs n (λ i low. same i (omega (arith, low)))) (same n (omega arith))
+
+-- the same where the player is told by its body
+pub takers_more : (period : Period) (ps : ℕ → Player) (bs : List Body) (n : ℕ) (b : Body) (taken : Bool) → Stand ps bs → n < length bs → b ≡ get_or bs n b → ((h : List ℕ) → taken ≡ takes_bits period (seen b h))
+    → takers_in period ps (n + 1) ≡ takers_in period ps n + cond taken 1 0
+takers_more period ps bs n b taken stand inside here takes =
+    let stands : StandsFor (ps n) b = subst (StandsFor (ps n)) (sym here) (stand n b inside) in
+    ap (takers_in period ps) (add-one n) ∙ takers_next period ps n
+    ∙ ap (λ t. takers_in period ps n + cond t 1 0) (sym (takes (ps n).history ∙ ap (takes_bits period) stands))

@@ -5,12 +5,13 @@ ghost use Rattle.std.specs.Prelude.{◌≡◌, ℕ, ◌+◌, ◌-◌, ◌<◌, �
 ghost use Rattle.std.specs.List.{All};
 ghost use Rattle.lab_model.specs.Cycle.{IsTrace};
 ghost use Rattle.lab_model.specs.Film.{size_of};
+ghost use Rattle.lab_model.specs.Rules.{RuleKind};
 ghost use Rattle.network_clock.specs.Network.{first_at, lane_at, period_at};
 ghost use Rattle.player_core.specs.Limits.{latest_answer, latest_ms};
-ghost use Rattle.player_core.specs.Quiet.{taken_ms};
-ghost use Rattle.player_core.specs.Seen.{CanTake, SameRequest, download_of, seen};
+ghost use Rattle.player_core.specs.Quiet.{taken_ms, takes_all};
+ghost use Rattle.player_core.specs.Seen.{CanMove, CanTake, Follows, KnowsEnd, SameRequest, download_of, seen};
 ghost use Rattle.player_core.specs.State.{Case};
-ghost use Rattle.shared_link.specs.Calm.{AllGlide, CanCome, CanRest, Glides, StaysCalm};
+ghost use Rattle.shared_link.specs.Calm.{AllGlide, CanCome, CanRest, Glides, StaysCalm, lane_case};
 ghost use Rattle.shared_link.specs.Table.{GoesOn};
 
 use crate::joint::LATEST_MS;
@@ -64,7 +65,7 @@ pub fn all_calm_until(
 }
 
 /// A download after the milliseconds `from` to `until - 1`, while so many take.
-fn take_all(link: &Link, d: Running, takers: u8, from: u64, until: u64) -> Running
+fn run_on(link: &Link, d: Running, takers: u8, from: u64, until: u64) -> Running
     requires trace { IsTrace link.now.periods }
     requires takers { takers ≤ link.now.most }
     requires later { from ≤ until }
@@ -87,7 +88,25 @@ fn take_all(link: &Link, d: Running, takers: u8, from: u64, until: u64) -> Runni
     }
 }
 
-/// A player comes to an instant at once, as one of so many takers.
+/// A player's download, if there is one, comes to an instant at once, as that of one of so many takers.
+fn take_all(course: &Course<'_>, link: &Link, body: &mut Body, takers: u8, until: u64)
+    requires trace { IsTrace link.now.periods }
+    requires link { link.now.periods ≡ course.now.scene.now.periods }
+    requires takers { takers ≤ link.now.most }
+    requires comes { CanCome until body.old }
+    ensures takes { KnowsEnd course.now body.old → (kind : RuleKind)
+        → Follows (takes_all (lane_case course.now takers kind) (until - body.old.t))
+        body.old body.new }
+    ensures timed { KnowsEnd course.now body.old → KnowsEnd course.now body.new }
+    ensures still { CanMove body.new (until - body.old.t) }
+    ensures instant { body.new.t ≡ body.old.t }
+{
+    if let Some(d) = body.download {
+        body.download = Some(run_on(link, d, takers, body.t, until));
+    }
+}
+
+/// A player comes to an instant at once, as one of so many takers, unless it has ended.
 fn glide(course: &Course<'_>, link: &Link, body: &mut Body, takers: u8, until: u64)
     requires trace { IsTrace link.now.periods }
     requires link { link.now.periods ≡ course.now.scene.now.periods }
@@ -99,11 +118,9 @@ fn glide(course: &Course<'_>, link: &Link, body: &mut Body, takers: u8, until: u
         return;
     }
     let ms = until - body.t;
-    if let Some(d) = body.download {
-        body.download = Some(take_all(link, d, takers, body.t, until));
-    }
+    take_all(course, link, body, takers, until);
     body.move_on(ms);
-    body.t = until;
+    body.t += ms;
 }
 
 /// Each player that has not ended comes to an instant at once, as one of so many takers.
