@@ -1,0 +1,11 @@
+pub mod Takers
+pub mod Shows
+pub mod Ended
+pub mod Own
+pub mod Loops
+pub mod Instants
+pub mod Top
+pub mod Stretches
+pub mod Turns
+pub mod Stays
+pub mod Whole

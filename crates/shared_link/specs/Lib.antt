@@ -1,0 +1,4 @@
+pub mod Joint
+pub mod Laws
+pub mod Table
+pub mod Calm
