@@ -29,9 +29,10 @@ use Rattle.player_core.specs.Scene.{Task}
 use Rattle.labels.specs.Parts.{CertificateParts, ChainParts}
 use Rattle.labels.specs.declared.verdict.Verdict.{Verdict}
 use Rattle.labels.specs.declared.verdict.Verdict.TheVariants.{Yes, No}
-use Rattle.certificate_text.specs.Reading.{Place, Walks, certificate_of, chains_at, end_at, head_at}
+use Rattle.certificate_text.specs.Reading.{certificate_of}
 use Rattle.certificate_text.specs.Walk.{Walk, accepted, begun}
 use Rattle.certificate_text.specs.Walk.{rest_of}
+use Rattle.certificate_text.proofs.LayerByLayer.{bad_head}
 use Rattle.certificate_text.proofs.WalkLaws.{begun_rest, whole_of}
 use Rattle.certificate_check.specs.Verdict.{lines_verdict, verdict_of}
 use Rattle.abrlab_top.specs.declared.check.Judgement.{Judgement}
@@ -59,17 +60,8 @@ score_is bytes w c b e = go (rest_of w) (sym (begun_rest bytes w b) ∙ e)
 
 -- bytes that do not begin as a certificate are none
 pub begun_fails : (bytes : Text) (f : InputFault) → Fails f (begun bytes) → Fails f (certificate_of bytes)
-unfolding begun certificate_of
 begun_fails bytes Memory h = tt
-begun_fails bytes (Refused why) h = go (head_at bytes) h
-  where
-    first : CertificateParts × Place → Result Walk Refusal
-    first x = Ok (record { head = x.0; segment = 0; at = Ok x.1 })
-
-    go : (head : Walks CertificateParts) → (head >>= first) ≡ Err why
-        → (head >>= λ x. chains_at x.0.segments x.0.rungs 0 (x.0.segments * x.0.rungs) x.1 >>= λ chains. end_at chains.1 >>= λ done. Ok (record x.0 { chains = chains.0 })) ≡ Err why
-    go (Ok x) h = absurd cc
-    go (Err e) h = cc
+begun_fails bytes (Refused why) h = bad_head bytes why h
 
 kept_err : {X Y : Type 0} (r : Result X Refusal) (f : X → Y) (why : Refusal) → (r >>= λ x. Ok (f x)) ≡ Err why → r ≡ Err why
 kept_err (Ok x) f why h = absurd cc

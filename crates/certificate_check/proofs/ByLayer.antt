@@ -1,10 +1,11 @@
 -- A certificate that is checked layer by layer: what was found stands for every certificate that begins with what was read.
 use Rattle.std.proofs.Common.{◌≡◌, ◌∙◌, ℕ, ℤ, ◌+◌, ◌*◌, ◌<◌, ◌≤◌, List, [], ◌++◌, length, map, get_or, Option, Some, None, Result, Ok, Err, refl, sym, ap, subst, append_assoc, length-append, arith}
+use Rattle.std.specs.Prelude.{◌↔◌, IfOk}
 use Rattle.std.proofs.lemmas.List.{get_or-append-add, get_or_append_left, length-map}
 use Rattle.std.proofs.lemmas.Nat.{div-mul-add}
 use Rattle.lab_model.proofs.Steps.{then_ok}
 use Rattle.lab_model.specs.Steps.{◌>>=◌}
-use Rattle.lab_model.specs.Reading.{Fails}
+use Rattle.lab_model.specs.Reading.{Fails, Gives}
 use Rattle.lab_model.proofs.Refusals.{fails_on}
 use Rattle.lab_model.specs.declared.fault.InputFault.{InputFault}
 use Rattle.lab_model.specs.declared.fault.Refusal.{Refusal}
@@ -12,22 +13,23 @@ use Rattle.labels.specs.declared.plans.Chain.{Chain}
 use Rattle.player_core.specs.Scene.{IsTask, Task}
 use Rattle.labels.specs.Parts.{CertificateParts, ChainParts, chain_parts}
 use Rattle.labels.specs.Best.{Settles}
-use Rattle.labels.specs.Valid.{no_chain}
+use Rattle.labels.specs.Valid.{IsValid, no_chain}
 use Rattle.certificate_text.specs.declared.certificate.Layer.{Layer}
 use Rattle.labels.specs.declared.verdict.Verdict.{Verdict}
 use Rattle.labels.specs.declared.verdict.Verdict.TheVariants.{Yes}
 use Rattle.labels.specs.Form.{AreChains, IsChain, IsHead, label_count, names_per}
-use Rattle.certificate_text.specs.Reading.{Place, certificate_of}
-use Rattle.certificate_text.specs.Walk.{IsBegun, Walk, begun, layer_of, layer_parts, prepended, rest_of}
+use Rattle.certificate_text.specs.Form.{GapParts}
+use Rattle.certificate_text.specs.Reading.{Place}
+use Rattle.certificate_text.specs.Walk.{IsBegun, Walk, begun, begun_gap, certificate_by, layer_of, layer_parts, prepended, rest_of}
 use Rattle.certificate_text.proofs.CertificateLaws.{chains_take}
 use Rattle.certificate_text.proofs.Loops.{ok_is}
-use Rattle.certificate_text.proofs.HeadLaws.{certificate_takes, head_takes}
-use Rattle.certificate_text.proofs.WalkLaws.{begins, begun_rest, layer_ends, layer_reads, rest_more, rest_stopped, whole_of}
+use Rattle.certificate_text.proofs.HeadLaws.{head_takes}
+use Rattle.certificate_text.proofs.WalkLaws.{begun_rest, gap_inner, gap_rest, layer_ends, layer_reads, rest_more, rest_stopped, walk_form, with_bound, whole_of}
 use Rattle.certificate_check.specs.declared.checker.Found.{Found}
 use Rattle.certificate_check.specs.Scheme.{both}
 use Rattle.certificate_check.specs.Clauses.{counts_verdict, ends_verdict, chains_by_rung, names_verdict, plan_verdict, ranges_verdict, score_verdict, starts_held, starts_verdict}
 use Rattle.certificate_check.specs.Layers.{AreBoth, IsLayer, IsLayerOf, MayEnd}
-use Rattle.certificate_check.specs.Verdict.{SaysValid, bounded_verdict, lines_verdict, verdict_of}
+use Rattle.certificate_check.specs.Verdict.{SaysGapValid, SaysValid, bounded_verdict, gap_verdict, lines_verdict, verdict_of, verdict_on}
 use Rattle.certificate_check.proofs.Progress.{HasFound, are_both, may_end, stands_first, stands_last, stands_more}
 use Rattle.certificate_check.proofs.Slices.{count_at, form_at}
 use Rattle.certificate_check.proofs.Sound.{valid_accepted, yes_certifies}
@@ -122,13 +124,12 @@ pub record HeadRead (w : Walk) : Type 0 where
 -- what is known of a walk that has just begun
 pub head_read : (w : Walk) → IsBegun w → HeadRead w
 head_read w begun =
-    let b = begins begun.bytes w begun.is in
-    let t = head_takes b.bytes (w.head, b.at) b.head in
+    let t = head_takes begun.heading begun.bytes (w.head, begun.at) begun.head in
     let left = t.left in
     record {
       form = t.head;
-      segment = b.segment;
-      room = λ p is. let same : b.at ≡ p = place_is b.at p (sym b.standing ∙ is) in subst (λ (q : Place). q.left ≤ 1000000) same (omega (arith, left));
+      segment = begun.segment;
+      room = λ p is. let same : begun.at ≡ p = place_is begun.at p (sym begun.standing ∙ is) in subst (λ (q : Place). q.left ≤ 1000000) same (omega (arith, left));
     }
   where
     place_is : (p q : Place) → at_place p ≡ at_place q → p ≡ q
@@ -262,48 +263,72 @@ at_end g first w v i here f (Some layer) last s h =
 at_end g first w v i here f None last s h = (layer_ends w v h).1
 
 -- what was read is the whole
-whole_read : (g : Task) (bytes : List ℕ) (first w v : Walk) (i : ℕ) (here : List Chain) (f : Found) (layer : Option Layer) → begun bytes ≡ Ok first → i + 1 ≡ first.head.segments → StandsAt g first w i here f
-    → layer_of w ≡ Ok (layer_parts layer, v) → (s : List ChainParts) × (certificate_of bytes ≡ Ok (with_chains first.head s)) × HasFound g (with_chains first.head s) i f × IsLayerOf (with_chains first.head s) i here
-whole_read g bytes first w v i here f layer is last s h = (
+whole_read : (g : Task) (first w v : Walk) (i : ℕ) (here : List Chain) (f : Found) (layer : Option Layer) → i + 1 ≡ first.head.segments → StandsAt g first w i here f
+    → layer_of w ≡ Ok (layer_parts layer, v) → (s : List ChainParts) × (certificate_by first ≡ Ok (with_chains first.head s)) × HasFound g (with_chains first.head s) i f × IsLayerOf (with_chains first.head s) i here
+whole_read g first w v i here f layer last s h = (
   s.before ++ (map chain_parts here ++ []),
-  begun_rest bytes first is ∙ ap (whole_of first.head) (s.rest ∙ ap (prepended (s.before ++ map chain_parts here)) (at_end g first w v i here f layer last s h))
+  ap (whole_of first.head) (s.rest ∙ ap (prepended (s.before ++ map chain_parts here)) (at_end g first w v i here f layer last s h))
       ∙ ap (λ (cs : List ChainParts). Ok (with_chains first.head cs)) (append_assoc s.before (map chain_parts here) []),
   s.stands [],
   layer_there first.head s.before [] i here s.past s.long,
 )
 
--- the verdict with a bound on what was read
-abbrev verdict_on : Task → ℤ → Result CertificateParts Refusal → Result Verdict Refusal
-verdict_on g bound read = read >>= λ c. Ok (verdict_of g c bound)
-
 -- the verdict is that on the whole certificate
-pub verdict_said : (g : Task) (bytes : List ℕ) (bound : ℤ) (first w v : Walk) (i : ℕ) (here : List Chain) (f : Found) (layer : Option Layer) (said : Verdict) → begun bytes ≡ Ok first → i + 1 ≡ first.head.segments → StandsAt g first w i here f
+pub verdict_said : (g : Task) (bound : ℤ) (first w v : Walk) (i : ℕ) (here : List Chain) (f : Found) (layer : Option Layer) (said : Verdict) → i + 1 ≡ first.head.segments → StandsAt g first w i here f
     → layer_of w ≡ Ok (layer_parts layer, v)
     → said ≡ both (both f.ranges (ranges_verdict 0 (length here) i (chains_by_rung here) (chains_by_rung []))) (both f.claims (both (ends_verdict g bound (length here) i (chains_by_rung here)) (score_verdict g first.head.plan first.head.score)))
-    → bounded_verdict g bytes bound ≡ Ok said
-verdict_said g bytes bound first w v i here f layer said is last s h e =
-    let whole = whole_read g bytes first w v i here f layer is last s h in
+    → verdict_on g bound (certificate_by first) ≡ Ok said
+verdict_said g bound first w v i here f layer said last s h e =
+    let whole = whole_read g first w v i here f layer last s h in
     let c = with_chains first.head whole.0 in
     ap (verdict_on g bound) whole.1 ∙ ap (λ (x : Verdict). Ok x) (sym (stands_last g c bound i here f said last whole.3 whole.2 e))
 
--- a verdict with a bound is that on the certificate
-said_of : (g : Task) (bytes : List ℕ) (bound : ℤ) (v : Verdict) (c : CertificateParts) → bounded_verdict g bytes bound ≡ Ok v → certificate_of bytes ≡ Ok c → verdict_of g c bound ≡ v
-said_of g bytes bound v c said is = ok_is (verdict_of g c bound) v (sym (ap (verdict_on g bound) is) ∙ said)
+-- ---- what a verdict says
 
 -- a Yes says that the certificate is valid, and a valid one gets a Yes
-pub said_valid : (g : Task) (bytes : List ℕ) (bound : ℤ) (v : Verdict) → bounded_verdict g bytes bound ≡ Ok v → SaysValid g bytes bound v
-said_valid g bytes bound v said c is =
-    let own = said_of g bytes bound v c said is in
-    (λ passed. yes_valid g c bound (own ∙ passed), λ valid. sym own ∙ valid_accepted g c bound (certificate_takes bytes c is).0 valid)
+said_by : (g : Task) (bound : ℤ) (first : Walk) (v : Verdict) (c : CertificateParts) → IsBegun first → verdict_on g bound (certificate_by first) ≡ Ok v → certificate_by first ≡ Ok c
+    → (v ≡ Yes) ↔ IsValid g c bound
+said_by g bound first v c begun said is =
+    let own = ok_is (verdict_of g c bound) v (sym (ap (verdict_on g bound) is) ∙ said) in
+    (λ passed. yes_valid g c bound (own ∙ passed), λ valid. sym own ∙ valid_accepted g c bound (walk_form first c begun is) valid)
+
+-- the same of what the call answers, for the certificate that the bytes spell
+pub valid_said : (g : Task) (bound : ℤ) (first : Walk) (answer : Result Verdict InputFault) → IsBegun first → Gives (λ v. v) answer (verdict_on g bound (certificate_by first))
+    → (bytes : List ℕ) → begun bytes ≡ Ok first → IfOk answer (SaysValid g bytes bound)
+valid_said g bound first (Ok v) starts said bytes is = λ c spelled. said_by g bound first v c starts said (sym (begun_rest bytes first is) ∙ spelled)
+valid_said g bound first (Err e) starts said bytes is = tt
+
+-- and for the gap certificate that they spell
+pub gap_valid_said : (g : Task) (bound : ℤ) (first : Walk) (answer : Result Verdict InputFault) → IsBegun first → Gives (λ v. v) answer (verdict_on g bound (certificate_by first))
+    → (bytes : List ℕ) → begun_gap bytes ≡ Ok first → IfOk answer (SaysGapValid g bytes bound)
+gap_valid_said g bound first (Ok v) starts said bytes is = λ c spelled. said_by g bound first v c.inner starts said (gap_inner bytes first c is spelled).0
+gap_valid_said g bound first (Err e) starts said bytes is = tt
 
 -- a Yes proves what the head claims
-pub yes_said : (g : Task) (bytes : List ℕ) (bound : ℤ) (first : Walk) → IsTask g → begun bytes ≡ Ok first → bounded_verdict g bytes bound ≡ Ok Yes → Settles g first.head.plan first.head.score bound
-yes_said g bytes bound first is begun said =
-    let read = then_ok (certificate_of bytes) (λ c. Ok (verdict_of g c bound)) Yes said in
-    let whole = then_ok (rest_of first) (λ cs. Ok (with_chains first.head cs)) read.0 (sym (begun_rest bytes first begun) ∙ read.1) in
+yes_said : (g : Task) (bound : ℤ) (first : Walk) → IsTask g → IsBegun first → verdict_on g bound (certificate_by first) ≡ Ok Yes → Settles g first.head.plan first.head.score bound
+yes_said g bound first is begun said =
+    let read = then_ok (certificate_by first) (λ c. Ok (verdict_of g c bound)) Yes said in
+    let whole = then_ok (rest_of first) (λ cs. Ok (with_chains first.head cs)) read.0 read.1 in
     let same : with_chains first.head whole.0 ≡ read.0 = ok_is (with_chains first.head whole.0) read.0 whole.2 in
     let own : verdict_of g read.0 bound ≡ Yes = ok_is (verdict_of g read.0 bound) Yes read.2 in
-    subst (λ (c : CertificateParts). Settles g c.plan c.score bound) (sym same) (yes_certifies g read.0 bound is (certificate_takes bytes read.0 read.1).0 own)
+    subst (λ (c : CertificateParts). Settles g c.plan c.score bound) (sym same) (yes_certifies g read.0 bound is (walk_form first read.0 begun read.1) own)
+
+-- the same of what the call answers
+pub sound_said : (g : Task) (bound : ℤ) (first : Walk) (answer : Result Verdict InputFault) → IsTask g → IsBegun first → Gives (λ v. v) answer (verdict_on g bound (certificate_by first))
+    → IfOk answer (λ v. v ≡ Yes → Settles g first.head.plan first.head.score bound)
+sound_said g bound first (Ok v) is starts said = λ passed. yes_said g bound first is starts (said ∙ ap (λ x. Ok x) passed)
+sound_said g bound first (Err e) is starts said = tt
+
+-- the verdict is that on the certificate in the gap certificate that the bytes spell
+pub gap_said : (g : Task) (bytes : List ℕ) (bound : ℤ) (first : Walk) → begun_gap bytes ≡ Ok first → verdict_on g bound (certificate_by first) ≡ gap_verdict g bytes bound
+gap_said g bytes bound first is = inner (certificate_by first) ∙ sym (ap verdict_in (gap_rest bytes first is))
+  where
+    verdict_in : Result GapParts Refusal → Result Verdict Refusal
+    verdict_in read = read >>= λ c. Ok (verdict_of g c.inner bound)
+
+    inner : (read : Result CertificateParts Refusal) → verdict_on g bound read ≡ verdict_in (with_bound first.bound read)
+    inner (Ok c) = refl
+    inner (Err e) = refl
 
 -- with the score of the head as the bound it is the certificate's own
 pub own_verdict : (g : Task) (bytes : List ℕ) (first : Walk) → begun bytes ≡ Ok first → bounded_verdict g bytes first.head.score ≡ lines_verdict g bytes
@@ -317,18 +342,20 @@ own_verdict g bytes first is =
     same (Ok cs) = refl
     same (Err e) = refl
 
+-- ---- faults
+
 -- a fault of the lines is the answer
-pub fault_said : (g : Task) (bytes : List ℕ) (bound : ℤ) (first w : Walk) (front : List ChainParts) (e : InputFault) → begun bytes ≡ Ok first → w.segment ≤ w.head.segments → rest_of first ≡ prepended front (rest_of w) → Fails e (layer_of w)
-    → Fails e (bounded_verdict g bytes bound)
-fault_said g bytes bound first w front e is low rest h =
-    fails_on e (layer_of w) (bounded_verdict g bytes bound) h (λ y refused.
-    ap (verdict_on g bound) (begun_rest bytes first is ∙ ap (whole_of first.head) (rest ∙ ap (prepended front) (rest_stopped w y low refused))))
+pub fault_said : (g : Task) (bound : ℤ) (first w : Walk) (front : List ChainParts) (e : InputFault) → w.segment ≤ w.head.segments → rest_of first ≡ prepended front (rest_of w) → Fails e (layer_of w)
+    → Fails e (verdict_on g bound (certificate_by first))
+fault_said g bound first w front e low rest h =
+    fails_on e (layer_of w) (verdict_on g bound (certificate_by first)) h (λ y refused.
+    ap (verdict_on g bound) (ap (whole_of first.head) (rest ∙ ap (prepended front) (rest_stopped w y low refused))))
 
 -- and so is one before the first layer
-pub fault_first : (g : Task) (bytes : List ℕ) (bound : ℤ) (first : Walk) (e : InputFault) → begun bytes ≡ Ok first → Fails e (layer_of first) → Fails e (bounded_verdict g bytes bound)
-fault_first g bytes bound first e is h =
-    let known = head_read first (record { bytes = bytes; is = is }) in
-    fault_said g bytes bound first first [] e is (omega (arith, known.segment)) (nothing_before (rest_of first)) h
+pub fault_first : (g : Task) (bound : ℤ) (first : Walk) (e : InputFault) → IsBegun first → Fails e (layer_of first) → Fails e (verdict_on g bound (certificate_by first))
+fault_first g bound first e starts h =
+    let known = head_read first starts in
+    fault_said g bound first first [] e (omega (arith, known.segment)) (nothing_before (rest_of first)) h
   where
     nothing_before : (read : Result (List ChainParts) Refusal) → read ≡ prepended [] read
     nothing_before (Ok cs) = refl

@@ -8,7 +8,8 @@ use Rattle.labels.specs.Valid.{IsValid, chain_in}
 use Rattle.labels.specs.declared.verdict.Verdict.{Verdict}
 use Rattle.labels.specs.declared.verdict.Verdict.TheVariants.{Yes}
 use Rattle.labels.specs.Form.{names_per}
-use Rattle.certificate_text.specs.Reading.{certificate_of}
+use Rattle.certificate_text.specs.Form.{GapParts}
+use Rattle.certificate_text.specs.Reading.{certificate_of, gap_of}
 use Rattle.certificate_check.specs.Scheme.{both, first_no}
 use Rattle.certificate_check.specs.Clauses.{counts_verdict, ends_verdict, names_verdict, plan_verdict, ranges_verdict, score_verdict, starts_held, starts_verdict}
 
@@ -38,6 +39,12 @@ ends_in g c bound = both (ends_verdict g bound c.rungs (c.segments - 1) (chain_i
 unfoldable pub verdict_of : Task → CertificateParts → ℤ → Verdict
 verdict_of g c bound = both (ranges_up_to g c c.segments) (both (claims_up_to g c c.segments) (ends_in g c bound))
 
+-- the verdict on a certificate that was read, with this bound, or the refusal
+abbrev pub verdict_on : Task → ℤ → Result CertificateParts Refusal → Result Verdict Refusal
+verdict_on g bound read = do
+  c ← read
+  Ok (verdict_of g c bound)
+
 -- the verdict on the certificate that the bytes spell, with this bound, or their first bad line
 abbrev pub bounded_verdict : Task → List ℕ → ℤ → Result Verdict Refusal
 bounded_verdict g bytes bound = do
@@ -53,3 +60,13 @@ lines_verdict g bytes = do
 -- a verdict on the certificate that the bytes spell is a yes exactly where it is valid
 abbrev pub SaysValid : Task → List ℕ → ℤ → Verdict → Type 0
 SaysValid g bytes bound v = (c : CertificateParts) → certificate_of bytes ≡ Ok c → (v ≡ Yes) ↔ IsValid g c bound
+
+-- the verdict, with this bound, on the certificate in the gap certificate that the bytes spell, or their first bad line
+abbrev pub gap_verdict : Task → List ℕ → ℤ → Result Verdict Refusal
+gap_verdict g bytes bound = do
+  c ← gap_of bytes
+  Ok (verdict_of g c.inner bound)
+
+-- such a verdict is a yes exactly where that certificate is valid
+abbrev pub SaysGapValid : Task → List ℕ → ℤ → Verdict → Type 0
+SaysGapValid g bytes bound v = (c : GapParts) → gap_of bytes ≡ Ok c → (v ≡ Yes) ↔ IsValid g c.inner bound

@@ -8,8 +8,8 @@ ghost use Rattle.player_core.specs.Scene.{task_of};
 ghost use Rattle.labels.specs.Best.{Settles};
 ghost use Rattle.labels.specs.Parts.{chain_parts};
 ghost use Rattle.labels.specs.declared.verdict.Verdict.TheVariants.{Yes};
-ghost use Rattle.certificate_text.specs.Walk.{IsBegun, begun, layer_of};
-ghost use Rattle.certificate_check.specs.Verdict.{SaysValid, bounded_verdict, lines_verdict};
+ghost use Rattle.certificate_text.specs.Walk.{IsBegun, begun, begun_gap, certificate_by, layer_of};
+ghost use Rattle.certificate_check.specs.Verdict.{SaysGapValid, SaysValid, bounded_verdict, gap_verdict, lines_verdict, verdict_on};
 
 use crate::checker::Checker;
 use crate::whole::ALL_AHEAD;
@@ -30,8 +30,31 @@ fn next_layer(lines: &mut Lines<'_>) -> Result<Layer, InputFault>
     }
 }
 
+/// The verdict of a checker on lines that have just begun, with this bound in V5.
+fn verdict_on(checker: &Checker<'_>, lines: Lines<'_>, bound: i128) -> Result<Verdict, InputFault>
+    requires { IsBegun lines }
+    ensures { Gives (λ v. v) result
+        (verdict_on checker.now bound (certificate_by lines.entry)) }
+{
+    let mut lines = lines;
+    let head = checker.head_verdict(lines.table(), lines.segments(), lines.rungs(), lines.plan());
+    let last = lines.segments() - 1;
+    let mut here = next_layer(&mut lines)?;
+    let mut found = checker.found_first(head, lines.starts(), &here.chains);
+    for segment in 0..last {
+        let next = next_layer(&mut lines)?;
+        found = checker.found_more(found, segment, &here.chains, &next.chains);
+        here = next;
+    }
+    let score = lines.score();
+    let verdict = checker.verdict(found, last, &here.chains, lines.plan(), score, bound);
+    lines.next_layer()?;
+    Ok(verdict)
+}
+
 /// The verdict on a certificate that is read layer by layer, with this bound in V5, where `ahead` milliseconds of
-/// media, at most 120000000, are there at instant 0: see `check_from`. The lines are as `begin` answered them.
+/// media, at most 120000000, are there at instant 0: see `check_from`. The lines are as `begin` or `begin_gap` answered
+/// them; the bound that they stand for is `lines.bound()`.
 ///
 /// The faults are those of the lines, and come before any verdict. It holds two layers at a time.
 pub fn check_lines_from(
@@ -50,26 +73,18 @@ pub fn check_lines_from(
         (bounded_verdict (task_of film.now clock.now setup.now ahead) bytes bound) }
     ensures valid { (bytes : List ℕ) → begun bytes ≡ Ok lines.entry → IfOk result
         (SaysValid (task_of film.now clock.now setup.now ahead) bytes bound) }
+    // The same of a gap certificate.
+    ensures gap { (bytes : List ℕ) → begun_gap bytes ≡ Ok lines.entry → Gives (λ v. v) result
+        (gap_verdict (task_of film.now clock.now setup.now ahead) bytes bound) }
+    ensures gap_valid { (bytes : List ℕ) → begun_gap bytes ≡ Ok lines.entry → IfOk result
+        (SaysGapValid (task_of film.now clock.now setup.now ahead) bytes bound) }
     // A yes proves that the rung list has the score, and that no rung list has a value above the bound.
     ensures sound { IfOk result (λ v. v ≡ Yes →
         Settles (task_of film.now clock.now setup.now ahead) lines.entry.head.plan
         lines.entry.head.score bound) }
 {
     let checker = Checker::new(film, clock, setup, ahead);
-    let mut lines = lines;
-    let head = checker.head_verdict(lines.table(), lines.segments(), lines.rungs(), lines.plan());
-    let last = lines.segments() - 1;
-    let mut here = next_layer(&mut lines)?;
-    let mut found = checker.found_first(head, lines.starts(), &here.chains);
-    for segment in 0..last {
-        let next = next_layer(&mut lines)?;
-        found = checker.found_more(found, segment, &here.chains, &next.chains);
-        here = next;
-    }
-    let score = lines.score();
-    let verdict = checker.verdict(found, last, &here.chains, lines.plan(), score, bound);
-    lines.next_layer()?;
-    Ok(verdict)
+    verdict_on(&checker, lines, bound)
 }
 
 /// The verdict for a film on demand on a certificate that is read layer by layer, with its own score as the bound: see

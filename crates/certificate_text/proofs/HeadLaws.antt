@@ -14,7 +14,7 @@ use Rattle.labels.specs.Form.{place_digits, most_labels, rung_digits, IsCertific
 use Rattle.certificate_text.specs.Line.{Holds, fields_of, values_at}
 use Rattle.certificate_text.specs.Grammar.{end_line, list_line, plan_line, rungs_line, score_line, segments_line, start_line, table_line, version_line}
 use Rattle.certificate_text.specs.Form.{certificate_parts}
-use Rattle.certificate_text.specs.Reading.{Counts, Place, certificate_of, chains_at, counts_at, end_at, head_at, nothing_at, score_row, table_at, version_at}
+use Rattle.certificate_text.specs.Reading.{Counts, Place, certificate_behind, certificate_of, chains_at, counts_at, end_at, head_at, nothing_at, score_row, table_at, version_at}
 use Rattle.certificate_text.specs.Walk.{without_chains}
 use Rattle.certificate_text.specs.Spelling.{chains_lines, head_lines, lines_text, spelling, table_lines, version_fields, version_number}
 use Rattle.certificate_text.proofs.Loops.{ok_is}
@@ -115,17 +115,17 @@ record TakesCounts (bytes : Text) (x : Counts × Text) : Type 0 where
   segments : Holds segments_line (x.0.segments, tt)
   rungs : Holds rungs_line (x.0.rungs, tt)
 
-counts_take : (bytes : Text) (x : Counts × Text) → counts_at bytes ≡ Ok x → TakesCounts bytes x
+counts_take : (heading : ℕ) (bytes : Text) (x : Counts × Text) → counts_at heading bytes ≡ Ok x → TakesCounts bytes x
 unfolding counts_at
-counts_take bytes x h =
-    let v = then_ok (version_at 1 bytes) (λ table. values_at 2 segments_line table.1 >>= λ segments. values_at 3 rungs_line segments.1 >>= λ rungs. table_at 4 table.0 rungs.1 >>= λ rest. Ok (counts table.0 segments.0.0 rungs.0.0, rest.1)) x h in
-    let n = then_ok (values_at 2 segments_line v.0.1) (λ segments. values_at 3 rungs_line segments.1 >>= λ rungs. table_at 4 v.0.0 rungs.1 >>= λ rest. Ok (counts v.0.0 segments.0.0 rungs.0.0, rest.1)) x v.2 in
-    let r = then_ok (values_at 3 rungs_line n.0.1) (λ rungs. table_at 4 v.0.0 rungs.1 >>= λ rest. Ok (counts v.0.0 n.0.0.0 rungs.0.0, rest.1)) x n.2 in
-    let t = then_ok (table_at 4 v.0.0 r.0.1) (λ rest. Ok (counts v.0.0 n.0.0.0 r.0.0.0, rest.1)) x r.2 in
-    let tv = version_takes 1 bytes v.0 v.1 in
-    let tn = line_takes 2 segments_line v.0.1 n.0 can_segments (lit≤ tt) n.1 in
-    let tr = line_takes 3 rungs_line n.0.1 r.0 can_rungs (lit≤ tt) r.1 in
-    let tb = table_takes 4 v.0.0 r.0.1 t.0 t.1 in
+counts_take heading bytes x h =
+    let v = then_ok (version_at (heading + 1) bytes) (λ table. values_at (heading + 2) segments_line table.1 >>= λ segments. values_at (heading + 3) rungs_line segments.1 >>= λ rungs. table_at (heading + 4) table.0 rungs.1 >>= λ rest. Ok (counts table.0 segments.0.0 rungs.0.0, rest.1)) x h in
+    let n = then_ok (values_at (heading + 2) segments_line v.0.1) (λ segments. values_at (heading + 3) rungs_line segments.1 >>= λ rungs. table_at (heading + 4) v.0.0 rungs.1 >>= λ rest. Ok (counts v.0.0 segments.0.0 rungs.0.0, rest.1)) x v.2 in
+    let r = then_ok (values_at (heading + 3) rungs_line n.0.1) (λ rungs. table_at (heading + 4) v.0.0 rungs.1 >>= λ rest. Ok (counts v.0.0 n.0.0.0 rungs.0.0, rest.1)) x n.2 in
+    let t = then_ok (table_at (heading + 4) v.0.0 r.0.1) (λ rest. Ok (counts v.0.0 n.0.0.0 r.0.0.0, rest.1)) x r.2 in
+    let tv = version_takes (heading + 1) bytes v.0 v.1 in
+    let tn = line_takes (heading + 2) segments_line v.0.1 n.0 can_segments (lit≤ tt) n.1 in
+    let tr = line_takes (heading + 3) rungs_line n.0.1 r.0 can_rungs (lit≤ tt) r.1 in
+    let tb = table_takes (heading + 4) v.0.0 r.0.1 t.0 t.1 in
     subst (λ (y : Counts × Text). TakesCounts bytes y) (ok_is (counts v.0.0 n.0.0.0 r.0.0.0, t.0.1) x t.2) (record {
       text = tv ∙ ap (λ (w : Text). fields_line (version_fields v.0.0) ++ w) (tn.text
           ∙ ap (λ (w : Text). fields_line (fields_of segments_line n.0.0) ++ w) (tr.text
@@ -135,15 +135,15 @@ counts_take bytes x h =
       rungs = tr.holds;
     })
 
-counts_again : (t : Bool) (n r : ℕ) (rest : Text) → Holds segments_line (n, tt) → Holds rungs_line (r, tt) → counts_at (counts_text t n r ++ rest) ≡ Ok (counts t n r, rest)
+counts_again : (heading : ℕ) (t : Bool) (n r : ℕ) (rest : Text) → Holds segments_line (n, tt) → Holds rungs_line (r, tt) → counts_at heading (counts_text t n r ++ rest) ≡ Ok (counts t n r, rest)
 unfolding counts_at
-counts_again t n r rest a b =
-    ap counts_at (counts_line t n r rest)
+counts_again heading t n r rest a b =
+    ap (counts_at heading) (counts_line t n r rest)
     ∙ rw (
-      version_again 1 t (fields_line (fields_of segments_line (n, tt)) ++ (fields_line (fields_of rungs_line (r, tt)) ++ (lines_text (table_lines t) ++ rest))),
-      line_again 2 segments_line (n, tt) (fields_line (fields_of rungs_line (r, tt)) ++ (lines_text (table_lines t) ++ rest)) can_segments (lit≤ tt) a,
-      line_again 3 rungs_line (r, tt) (lines_text (table_lines t) ++ rest) can_rungs (lit≤ tt) b,
-      table_again 4 t rest,
+      version_again (heading + 1) t (fields_line (fields_of segments_line (n, tt)) ++ (fields_line (fields_of rungs_line (r, tt)) ++ (lines_text (table_lines t) ++ rest))),
+      line_again (heading + 2) segments_line (n, tt) (fields_line (fields_of rungs_line (r, tt)) ++ (lines_text (table_lines t) ++ rest)) can_segments (lit≤ tt) a,
+      line_again (heading + 3) rungs_line (r, tt) (lines_text (table_lines t) ++ rest) can_rungs (lit≤ tt) b,
+      table_again (heading + 4) t rest,
     ) refl
 
 -- ---- the head
@@ -153,8 +153,8 @@ abbrev made_head : Counts → ℤ → List ℕ → List ℕ → CertificateParts
 made_head counts score plan starts = record { table = counts.table; segments = counts.segments; rungs = counts.rungs; score = score; plan = plan; starts = starts; chains = [] }
 
 -- where the chains begin
-abbrev first_place : Bool → Text → Place
-first_place table rest = record { row = score_row table + 3; left = most_labels; rest = rest }
+abbrev first_place : ℕ → Bool → Text → Place
+first_place heading table rest = record { row = score_row heading table + 3; left = most_labels; rest = rest }
 
 lists_line : (c : CertificateParts) (rest : Text) → lists_text c ++ rest
     ≡ fields_line (fields_of score_line (c.score, tt)) ++ (fields_line (fields_of (plan_line c.segments) c.plan) ++ (fields_line (fields_of (start_line c.rungs) c.starts) ++ rest))
@@ -173,19 +173,19 @@ pub record TakesHead (bytes : Text) (x : CertificateParts × Place) : Type 0 whe
   pub none : x.0.chains ≡ []
 
 -- a head that was read is of the form and spelled so
-pub head_takes : (bytes : Text) (x : CertificateParts × Place) → head_at bytes ≡ Ok x → TakesHead bytes x
+pub head_takes : (heading : ℕ) (bytes : Text) (x : CertificateParts × Place) → head_at heading bytes ≡ Ok x → TakesHead bytes x
 unfolding head_at
-head_takes bytes x h =
-    let k = then_ok (counts_at bytes) (λ counts. values_at (score_row counts.0.table) score_line counts.1 >>= λ score. values_at (score_row counts.0.table + 1) (plan_line counts.0.segments) score.1 >>= λ plan. values_at (score_row counts.0.table + 2) (start_line counts.0.rungs) plan.1 >>= λ starts. Ok (made_head counts.0 score.0.0 plan.0 starts.0, first_place counts.0.table starts.1)) x h in
-    let z = then_ok (values_at (score_row k.0.0.table) score_line k.0.1) (λ score. values_at (score_row k.0.0.table + 1) (plan_line k.0.0.segments) score.1 >>= λ plan. values_at (score_row k.0.0.table + 2) (start_line k.0.0.rungs) plan.1 >>= λ starts. Ok (made_head k.0.0 score.0.0 plan.0 starts.0, first_place k.0.0.table starts.1)) x k.2 in
-    let p = then_ok (values_at (score_row k.0.0.table + 1) (plan_line k.0.0.segments) z.0.1) (λ plan. values_at (score_row k.0.0.table + 2) (start_line k.0.0.rungs) plan.1 >>= λ starts. Ok (made_head k.0.0 z.0.0.0 plan.0 starts.0, first_place k.0.0.table starts.1)) x z.2 in
-    let s = then_ok (values_at (score_row k.0.0.table + 2) (start_line k.0.0.rungs) p.0.1) (λ starts. Ok (made_head k.0.0 z.0.0.0 p.0.0 starts.0, first_place k.0.0.table starts.1)) x p.2 in
-    let tk = counts_take bytes k.0 k.1 in
-    let tz = line_takes (score_row k.0.0.table) score_line k.0.1 z.0 can_score (lit≤ tt) z.1 in
-    let tp = line_takes (score_row k.0.0.table + 1) (plan_line k.0.0.segments) z.0.1 p.0 (can_plan k.0.0.segments tk.segments.0.0) (omega arith) p.1 in
-    let ts = line_takes (score_row k.0.0.table + 2) (start_line k.0.0.rungs) p.0.1 s.0 (can_start k.0.0.rungs tk.rungs.0.0) (omega arith) s.1 in
+head_takes heading bytes x h =
+    let k = then_ok (counts_at heading bytes) (λ counts. values_at (score_row heading counts.0.table) score_line counts.1 >>= λ score. values_at (score_row heading counts.0.table + 1) (plan_line counts.0.segments) score.1 >>= λ plan. values_at (score_row heading counts.0.table + 2) (start_line counts.0.rungs) plan.1 >>= λ starts. Ok (made_head counts.0 score.0.0 plan.0 starts.0, first_place heading counts.0.table starts.1)) x h in
+    let z = then_ok (values_at (score_row heading k.0.0.table) score_line k.0.1) (λ score. values_at (score_row heading k.0.0.table + 1) (plan_line k.0.0.segments) score.1 >>= λ plan. values_at (score_row heading k.0.0.table + 2) (start_line k.0.0.rungs) plan.1 >>= λ starts. Ok (made_head k.0.0 score.0.0 plan.0 starts.0, first_place heading k.0.0.table starts.1)) x k.2 in
+    let p = then_ok (values_at (score_row heading k.0.0.table + 1) (plan_line k.0.0.segments) z.0.1) (λ plan. values_at (score_row heading k.0.0.table + 2) (start_line k.0.0.rungs) plan.1 >>= λ starts. Ok (made_head k.0.0 z.0.0.0 plan.0 starts.0, first_place heading k.0.0.table starts.1)) x z.2 in
+    let s = then_ok (values_at (score_row heading k.0.0.table + 2) (start_line k.0.0.rungs) p.0.1) (λ starts. Ok (made_head k.0.0 z.0.0.0 p.0.0 starts.0, first_place heading k.0.0.table starts.1)) x p.2 in
+    let tk = counts_take heading bytes k.0 k.1 in
+    let tz = line_takes (score_row heading k.0.0.table) score_line k.0.1 z.0 can_score (lit≤ tt) z.1 in
+    let tp = line_takes (score_row heading k.0.0.table + 1) (plan_line k.0.0.segments) z.0.1 p.0 (can_plan k.0.0.segments tk.segments.0.0) (omega arith) p.1 in
+    let ts = line_takes (score_row heading k.0.0.table + 2) (start_line k.0.0.rungs) p.0.1 s.0 (can_start k.0.0.rungs tk.rungs.0.0) (omega arith) s.1 in
     let c = made_head k.0.0 z.0.0.0 p.0.0 s.0.0 in
-    subst (λ (y : CertificateParts × Place). TakesHead bytes y) (ok_is (c, first_place k.0.0.table s.0.1) x s.2) (record {
+    subst (λ (y : CertificateParts × Place). TakesHead bytes y) (ok_is (c, first_place heading k.0.0.table s.0.1) x s.2) (record {
       text = tk.text ∙ ap (λ (w : Text). counts_text k.0.0.table k.0.0.segments k.0.0.rungs ++ w) (tz.text
           ∙ ap (λ (w : Text). fields_line (fields_of score_line z.0.0) ++ w) (tp.text
           ∙ ap (λ (w : Text). fields_line (fields_of (plan_line k.0.0.segments) p.0.0) ++ w) ts.text)
@@ -197,18 +197,18 @@ head_takes bytes x h =
     })
 
 -- a head of the form is read from its spelling
-pub head_again : (c : CertificateParts) (rest : Text) → IsHead c → head_at (lines_text (head_lines c) ++ rest) ≡ Ok (without_chains c, first_place c.table rest)
+pub head_again : (heading : ℕ) (c : CertificateParts) (rest : Text) → IsHead c → head_at heading (lines_text (head_lines c) ++ rest) ≡ Ok (without_chains c, first_place heading c.table rest)
 unfolding head_at
-head_again c rest form =
+head_again heading c rest form =
     let plan = fields_line (fields_of (plan_line c.segments) c.plan) in
     let start = fields_line (fields_of (start_line c.rungs) c.starts) in
-    ap head_at (head_line c rest)
+    ap (head_at heading) (head_line c rest)
     ∙ rw (
-      counts_again c.table c.segments c.rungs (lists_text c ++ rest) (form.segments, tt) (form.rungs, tt),
+      counts_again heading c.table c.segments c.rungs (lists_text c ++ rest) (form.segments, tt) (form.rungs, tt),
       lists_line c rest,
-      line_again (score_row c.table) score_line (c.score, tt) (plan ++ (start ++ rest)) can_score (lit≤ tt) (form.score, tt),
-      line_again (score_row c.table + 1) (plan_line c.segments) c.plan (start ++ rest) (can_plan c.segments form.segments.0) (omega arith) form.plan,
-      line_again (score_row c.table + 2) (start_line c.rungs) c.starts rest (can_start c.rungs form.rungs.0) (omega arith) form.starts,
+      line_again (score_row heading c.table) score_line (c.score, tt) (plan ++ (start ++ rest)) can_score (lit≤ tt) (form.score, tt),
+      line_again (score_row heading c.table + 1) (plan_line c.segments) c.plan (start ++ rest) (can_plan c.segments form.segments.0) (omega arith) form.plan,
+      line_again (score_row heading c.table + 2) (start_line c.rungs) c.starts rest (can_start c.rungs form.rungs.0) (omega arith) form.starts,
     ) refl
 
 -- ---- the end
@@ -234,13 +234,13 @@ end_again p e =
 -- ---- the whole
 
 -- what was read is of the form, and the bytes are its spelling
-pub certificate_takes : (bytes : Text) (c : CertificateParts) → certificate_of bytes ≡ Ok c → IsCertificate c × (bytes ≡ spelling c)
-unfolding certificate_of
-certificate_takes bytes c h =
-    let a = then_ok (head_at bytes) (λ head. chains_at head.0.segments head.0.rungs 0 (head.0.segments * head.0.rungs) head.1 >>= λ chains. end_at chains.1 >>= λ done. Ok (record head.0 { chains = chains.0 })) c h in
+pub behind_takes : (heading : ℕ) (bytes : Text) (c : CertificateParts) → certificate_behind heading bytes ≡ Ok c → IsCertificate c × (bytes ≡ spelling c)
+unfolding certificate_behind
+behind_takes heading bytes c h =
+    let a = then_ok (head_at heading bytes) (λ head. chains_at head.0.segments head.0.rungs 0 (head.0.segments * head.0.rungs) head.1 >>= λ chains. end_at chains.1 >>= λ done. Ok (record head.0 { chains = chains.0 })) c h in
     let b = then_ok (chains_at a.0.0.segments a.0.0.rungs 0 (a.0.0.segments * a.0.0.rungs) a.0.1) (λ chains. end_at chains.1 >>= λ done. Ok (record a.0.0 { chains = chains.0 })) c a.2 in
     let d = then_ok (end_at b.0.1) (λ done. Ok (record a.0.0 { chains = b.0.0 })) c b.2 in
-    let ta = head_takes bytes a.0 a.1 in
+    let ta = head_takes heading bytes a.0 a.1 in
     let tb = chains_take a.0.0.segments a.0.0.rungs 0 (a.0.0.segments * a.0.0.rungs) a.0.1 b.0 b.1 in
     let td = end_takes b.0.1 d.0 d.1 in
     let made : CertificateParts = record a.0.0 { chains = b.0.0 } in
@@ -254,19 +254,27 @@ certificate_takes bytes c h =
       ta.text ∙ ap (λ (w : Text). lines_text (head_lines a.0.0) ++ w) (tb.text ∙ ap (λ (w : Text). lines_text (chains_lines a.0.0.segments a.0.0.rungs 0 b.0.0) ++ w) td) ∙ sym (spelling_parts made),
     )
 
+-- the same without a heading
+pub certificate_takes : (bytes : Text) (c : CertificateParts) → certificate_of bytes ≡ Ok c → IsCertificate c × (bytes ≡ spelling c)
+certificate_takes bytes c h = behind_takes 0 bytes c h
+
 -- what is of the form is read from its spelling
-pub certificate_again : (c : CertificateParts) → IsCertificate c → certificate_of (spelling c) ≡ Ok c
-unfolding certificate_of
-certificate_again c form =
+pub behind_again : (heading : ℕ) (c : CertificateParts) → IsCertificate c → certificate_behind heading (spelling c) ≡ Ok c
+unfolding certificate_behind
+behind_again heading c form =
     let later = lines_text (chains_lines c.segments c.rungs 0 c.chains) ++ fields_line (fields_of end_line tt) in
     let few = at_most c.segments c.rungs form.head.segments.1 form.head.rungs.1 in
     let far : length c.chains ≤ 32000 = omega (arith, form.count, few) in
-    let q = chains_again c.segments c.rungs 0 c.chains (first_place c.table later) (fields_line (fields_of end_line tt)) form.head.rungs.0 form.head.rungs.1 (omega (arith, far)) refl form.chains form.labels (omega arith) in
-    let chains : chains_at c.segments c.rungs 0 (c.segments * c.rungs) (first_place c.table later) ≡ Ok (c.chains, q.0) = subst (λ (k : ℕ). chains_at c.segments c.rungs 0 k (first_place c.table later) ≡ Ok (c.chains, q.0)) form.count q.1 in
-    ap certificate_of (spelling_parts c) ∙ rw (head_again c later form.head, chains, end_again q.0 q.2) refl
+    let q = chains_again c.segments c.rungs 0 c.chains (first_place heading c.table later) (fields_line (fields_of end_line tt)) form.head.rungs.0 form.head.rungs.1 (omega (arith, far)) refl form.chains form.labels (omega arith) in
+    let chains : chains_at c.segments c.rungs 0 (c.segments * c.rungs) (first_place heading c.table later) ≡ Ok (c.chains, q.0) = subst (λ (k : ℕ). chains_at c.segments c.rungs 0 k (first_place heading c.table later) ≡ Ok (c.chains, q.0)) form.count q.1 in
+    ap (certificate_behind heading) (spelling_parts c) ∙ rw (head_again heading c later form.head, chains, end_again q.0 q.2) refl
   where
     at_most : (n r : ℕ) → n ≤ 2000 → r ≤ 16 → n * r ≤ 32000
     at_most n r a b = grind (arith, a, b)
+
+-- the same without a heading
+pub certificate_again : (c : CertificateParts) → IsCertificate c → certificate_of (spelling c) ≡ Ok c
+certificate_again c form = behind_again 0 c form
 
 -- certificates of the form with equal spellings are equal
 pub same_spelling : (c d : CertificateParts) → IsCertificate c → IsCertificate d → spelling c ≡ spelling d → c ≡ d

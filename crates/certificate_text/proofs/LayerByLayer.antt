@@ -1,5 +1,5 @@
 -- What the calls of a reader of layers say of the certificate that the bytes spell, or of their first bad line.
-use Rattle.std.proofs.Common.{◌≡◌, ◌∙◌, ◌+◌, ◌*◌, ◌<◌, ◌≤◌, ◌++◌, ℕ, List, [], Option, Some, None, Result, Ok, Err, length, take, drop, refl, sym, ap, subst, arith}
+use Rattle.std.proofs.Common.{◌≡◌, ◌∙◌, ◌+◌, ◌*◌, ◌<◌, ◌≤◌, ◌++◌, ℕ, List, [], Option, Some, None, Result, Ok, Err, length, take, drop, refl, sym, ap, subst, ℤ, arith}
 use Rattle.std.specs.Prelude.{map}
 use Rattle.std.proofs.Math.Seq.{drop-append_seam, take-append_seam}
 use Rattle.std.proofs.lemmas.List.{drop-drop}
@@ -12,12 +12,14 @@ use Rattle.lab_model.specs.Reading.{Gives}
 use Rattle.lab_io.specs.Sink.{Text}
 use Rattle.labels.specs.Parts.{CertificateParts, ChainParts, chain_parts}
 use Rattle.certificate_text.specs.declared.certificate.Layer.{Layer}
-use Rattle.certificate_text.specs.Reading.{Walks, certificate_of, chains_at, end_at, head_at}
-use Rattle.certificate_text.specs.Walk.{BeginsBadly, BeginsLayers, GivesLayer, MeetsBadLine, Steps, Walk, WillGive, WillRefuse, begun, layer_in, layer_of, layer_parts, prepended, rest_of, without_chains}
+use Rattle.certificate_text.specs.Fields.{Read}
+use Rattle.certificate_text.specs.Form.{GapParts}
+use Rattle.certificate_text.specs.Reading.{Walks, bound_at, certificate_behind, certificate_of, chains_at, end_at, gap_heading, gap_of, head_at}
+use Rattle.certificate_text.specs.Walk.{BeginsBadly, BeginsGap, BeginsLayers, GivesLayer, IsBegun, MeetsBadLine, Steps, Walk, WillGive, WillRefuse, begun, begun_gap, certificate_by, first_walk, layer_in, layer_of, layer_parts, prepended, rest_of, without_chains}
 use Rattle.certificate_text.proofs.CertificateLaws.{chains_take}
 use Rattle.certificate_text.proofs.HeadLaws.{head_takes}
 use Rattle.certificate_text.proofs.Loops.{ok_is}
-use Rattle.certificate_text.proofs.WalkLaws.{begins, begun_rest, first_walk, layer_ends, layer_reads, rest_more, rest_stopped, whole_of}
+use Rattle.certificate_text.proofs.WalkLaws.{begins, begun_rest, gap_begins, gap_inner, gap_rest, layer_ends, layer_reads, rest_more, rest_stopped, with_bound, whole_of}
 
 -- a value is no refusal
 ok_err : {X : Type 0} (r : Result X Refusal) (x : X) (e : Refusal) → r ≡ Ok x → r ≡ Err e → ⊥
@@ -36,11 +38,10 @@ held cs = Ok cs
 
 -- ---- the beginning
 
-begun_gives : (bytes : Text) (w : Walk) (c : CertificateParts) → begun bytes ≡ Ok w → certificate_of bytes ≡ Ok c → WillGive c w × (w.segment ≡ 0)
-begun_gives bytes w c is spelled =
-    let b = begins bytes w is in
-    let none = (head_takes b.bytes (w.head, b.at) b.head).none in
-    let cs = then_ok (rest_of w) (λ chains. Ok (record w.head { chains = chains })) c (sym (begun_rest bytes w is) ∙ spelled) in
+begun_gives : (w : Walk) (c : CertificateParts) → IsBegun w → certificate_by w ≡ Ok c → WillGive c w × (w.segment ≡ 0)
+begun_gives w c b spelled =
+    let none = (head_takes b.heading b.bytes (w.head, b.at) b.head).none in
+    let cs = then_ok (rest_of w) (λ chains. Ok (record w.head { chains = chains })) c spelled in
     let same : record w.head { chains = cs.0 } ≡ c = ok_is (record w.head { chains = cs.0 }) c cs.2 in
     let head : w.head ≡ without_chains c = ap (λ (chains : List ChainParts). record w.head { chains = chains }) none ∙ ap without_chains same in
     let own : cs.0 ≡ drop (w.segment * c.rungs) c.chains =
@@ -50,21 +51,35 @@ begun_gives bytes w c is spelled =
     none_times : (n : ℕ) → 0 * n ≡ 0
     none_times n = omega arith
 
-begun_refuses : (bytes : Text) (w : Walk) (e : Refusal) → begun bytes ≡ Ok w → certificate_of bytes ≡ Err e → WillRefuse e w
-begun_refuses bytes w e is bad = go (rest_of w) (sym (begun_rest bytes w is) ∙ bad)
+begun_refuses : (w : Walk) (e : Refusal) → certificate_by w ≡ Err e → WillRefuse e w
+begun_refuses w e bad = go (rest_of w) bad
   where
     go : (read : Result (List ChainParts) Refusal) → whole_of w.head read ≡ Err e → read ≡ Err e
     go (Ok cs) h = absurd cc
     go (Err d) h = cc
 
 -- a head that is refused refuses the whole
-bad_head : (bytes : Text) (d : Refusal) → begun bytes ≡ Err d → certificate_of bytes ≡ Err d
-unfolding begun certificate_of
-bad_head bytes d h = go (head_at bytes) h
+behind_bad : (heading : ℕ) (bytes : Text) (bound : CertificateParts → ℤ) (d : Refusal) → (head_at heading bytes >>= λ x. Ok (first_walk (bound x.0) x)) ≡ Err d → certificate_behind heading bytes ≡ Err d
+unfolding certificate_behind
+behind_bad heading bytes bound d h = go (head_at heading bytes) h
   where
-    go : (head : Walks CertificateParts) → (head >>= λ x. Ok (first_walk x)) ≡ Err d
+    go : (head : Walks CertificateParts) → (head >>= λ x. Ok (first_walk (bound x.0) x)) ≡ Err d
         → (head >>= λ x. chains_at x.0.segments x.0.rungs 0 (x.0.segments * x.0.rungs) x.1 >>= λ chains. end_at chains.1 >>= λ done. Ok (record x.0 { chains = chains.0 })) ≡ Err d
     go (Ok x) h = absurd cc
+    go (Err e) h = cc
+
+-- a certificate whose beginning is refused is refused
+pub bad_head : (bytes : Text) (d : Refusal) → begun bytes ≡ Err d → certificate_of bytes ≡ Err d
+unfolding begun
+bad_head bytes d h = behind_bad 0 bytes (λ c. c.score) d h
+
+-- the same of a gap certificate
+pub bad_gap : (bytes : Text) (d : Refusal) → begun_gap bytes ≡ Err d → gap_of bytes ≡ Err d
+unfolding begun_gap gap_of
+bad_gap bytes d h = go (bound_at bytes) h
+  where
+    go : (bound : Read ℤ) → (bound >>= λ b. head_at gap_heading b.1 >>= λ head. Ok (first_walk b.0 head)) ≡ Err d → (bound >>= λ b. with_bound b.0 (certificate_behind gap_heading b.1)) ≡ Err d
+    go (Ok b) h = ap (with_bound b.0) (behind_bad gap_heading b.1 (λ c. b.0) d h)
     go (Err e) h = cc
 
 -- an answer that is refused
@@ -76,15 +91,41 @@ bad_is d e h = cc
 
 -- where the bytes spell a certificate
 pub begins_layers : (bytes : Text) (answer : Result Walk InputFault) (c : CertificateParts) → Gives (λ w. w) answer (begun bytes) → certificate_of bytes ≡ Ok c → BeginsLayers c answer
-begins_layers bytes (Ok w) c h spelled = begun_gives bytes w c h spelled
+begins_layers bytes (Ok w) c h spelled = begun_gives w c (begins bytes w h) (sym (begun_rest bytes w h) ∙ spelled)
 begins_layers bytes (Err (Refused d)) c h spelled = ok_err (certificate_of bytes) c d spelled (bad_head bytes d h)
 begins_layers bytes (Err Memory) c h spelled = tt
 
 -- where they have a bad line
 pub begins_badly : (bytes : Text) (answer : Result Walk InputFault) (e : Refusal) → Gives (λ w. w) answer (begun bytes) → certificate_of bytes ≡ Err e → BeginsBadly e answer
-begins_badly bytes (Ok w) e h bad = begun_refuses bytes w e h bad
+begins_badly bytes (Ok w) e h bad = begun_refuses w e (sym (begun_rest bytes w h) ∙ bad)
 begins_badly bytes (Err (Refused d)) e h bad = bad_is d e (sym (bad_head bytes d h) ∙ bad)
 begins_badly bytes (Err Memory) e h bad = tt
+
+-- an answer that is refused
+abbrev no_gap : Refusal → Result GapParts Refusal
+no_gap e = Err e
+
+gap_bad_is : (d e : Refusal) → no_gap d ≡ no_gap e → d ≡ e
+gap_bad_is d e h = cc
+
+-- where the bytes spell a gap certificate
+pub begins_gap : (bytes : Text) (answer : Result Walk InputFault) (c : GapParts) → Gives (λ w. w) answer (begun_gap bytes) → gap_of bytes ≡ Ok c → BeginsGap c answer
+begins_gap bytes (Ok w) c h spelled =
+    let own = gap_inner bytes w c h spelled in
+    let gives = begun_gives w c.inner (gap_begins bytes w h) own.0 in
+    (gives.0, gives.1, own.1)
+begins_gap bytes (Err (Refused d)) c h spelled = ok_err (gap_of bytes) c d spelled (bad_gap bytes d h)
+begins_gap bytes (Err Memory) c h spelled = tt
+
+-- where they have a bad line
+pub gap_begins_badly : (bytes : Text) (answer : Result Walk InputFault) (e : Refusal) → Gives (λ w. w) answer (begun_gap bytes) → gap_of bytes ≡ Err e → BeginsBadly e answer
+gap_begins_badly bytes (Ok w) e h bad = begun_refuses w e (inner_bad (certificate_by w) (sym (gap_rest bytes w h) ∙ bad))
+  where
+    inner_bad : (read : Result CertificateParts Refusal) → with_bound w.bound read ≡ Err e → read ≡ Err e
+    inner_bad (Ok c) h = absurd cc
+    inner_bad (Err d) h = cc
+gap_begins_badly bytes (Err (Refused d)) e h bad = gap_bad_is d e (sym (bad_gap bytes d h) ∙ bad)
+gap_begins_badly bytes (Err Memory) e h bad = tt
 
 -- ---- a layer
 

@@ -5,6 +5,7 @@ pub mod LineLaws
 pub mod Texts
 pub mod CertificateLaws
 pub mod HeadLaws
+pub mod GapLaws
 pub mod WalkLaws
 pub mod LayerByLayer
 pub mod Length

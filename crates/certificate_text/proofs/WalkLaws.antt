@@ -1,5 +1,5 @@
 -- A certificate that is read layer by layer: each layer is the next of the chains, and what is left decides the whole.
-use Rattle.std.proofs.Common.{◌≡◌, ◌∙◌, ◌+◌, ◌-◌, ◌*◌, ◌/◌, ◌%◌, ◌<◌, ◌≤◌, ◌==◌, ◌++◌, ℕ, zero, suc, List, [], ◌∷◌, Bool, true, false, Option, Some, None, Result, Ok, Err, refl, sym, ap, subst, cond, arith}
+use Rattle.std.proofs.Common.{◌≡◌, ◌∙◌, ◌+◌, ◌-◌, ◌*◌, ◌/◌, ◌%◌, ◌<◌, ◌≤◌, ◌==◌, ◌++◌, ℕ, zero, suc, List, [], ◌∷◌, Bool, true, false, Option, Some, None, Result, Ok, Err, refl, sym, ap, ap₂, subst, cond, ℤ, arith}
 use Rattle.std.specs.Prelude.{IfOk, map}
 use Rattle.std.specs.Option.{is_some}
 use Rattle.lab_model.proofs.Steps.{then_ok}
@@ -10,9 +10,11 @@ use Rattle.lab_model.specs.Reading.{Gives}
 use Rattle.lab_io.specs.Sink.{Text}
 use Rattle.labels.specs.Parts.{CertificateParts, ChainParts, chain_parts}
 use Rattle.certificate_text.specs.declared.certificate.Layer.{Layer}
-use Rattle.labels.specs.Form.{names_per}
-use Rattle.certificate_text.specs.Reading.{Place, Walks, certificate_of, chain_at, chains_at, end_at, head_at}
-use Rattle.certificate_text.specs.Walk.{IsBegun, Walk, accepted, begun, chains_to_end, ended, layer_of, layer_parts, prepended, rest_of, went}
+use Rattle.labels.specs.Form.{IsCertificate, names_per}
+use Rattle.certificate_text.specs.Form.{GapParts}
+use Rattle.certificate_text.specs.Reading.{Place, Walks, bound_at, certificate_behind, certificate_of, chain_at, chains_at, end_at, gap_heading, gap_of, head_at}
+use Rattle.certificate_text.specs.Walk.{IsBegun, Walk, accepted, begun, begun_gap, certificate_by, chains_to_end, ended, first_walk, gap_accepted, layer_of, layer_parts, prepended, rest_of, silent, went}
+use Rattle.certificate_text.proofs.HeadLaws.{behind_takes}
 use Rattle.certificate_text.proofs.Loops.{ok_is, with_front}
 
 -- ---- chains in two parts
@@ -57,23 +59,15 @@ chains_split segments rungs number (suc a) b p =
 
 -- ---- what is left of a walk
 
--- whether a walk comes to its end
-abbrev pub silent : {X : Type 0} → Result X Refusal → Result (Unit {0}) Refusal
-silent read = read >>= λ x. Ok tt
-
--- the walk that begins behind a head
-abbrev pub first_walk : CertificateParts × Place → Walk
-first_walk x = record { head = x.0; segment = 0; at = Ok x.1 }
-
 -- the certificate of a head and what is read behind it
 abbrev pub whole_of : CertificateParts → Result (List ChainParts) Refusal → Result CertificateParts Refusal
 whole_of head read = read >>= λ cs. Ok (record head { chains = cs })
 
-begun_at : (head : CertificateParts) (first : Place)
+begun_at : (bound : ℤ) (head : CertificateParts) (first : Place)
     → (chains_at head.segments head.rungs 0 (head.segments * head.rungs) first >>= λ x. end_at x.1 >>= λ done. Ok (record head { chains = x.0 }))
-    ≡ whole_of head (rest_of (first_walk (head, first)))
+    ≡ whole_of head (rest_of (first_walk bound (head, first)))
 unfolding rest_of
-begun_at head first =
+begun_at bound head first =
     let zero_th : 0 * head.rungs ≡ 0 = omega arith in
     let all : head.segments - 0 ≡ head.segments = omega arith in
     rw (zero_th, all) (both (chains_at head.segments head.rungs 0 (head.segments * head.rungs) first))
@@ -86,15 +80,17 @@ begun_at head first =
     both (Ok x) = last x.0 (end_at x.1)
     both (Err e) = refl
 
--- what a walk that has just begun leaves are all chains
-pub begun_rest : (bytes : Text) (w : Walk) → begun bytes ≡ Ok w → certificate_of bytes ≡ whole_of w.head (rest_of w)
-unfolding begun certificate_of
-begun_rest bytes w h = go (head_at bytes) h
-  where
-    go : (head : Walks CertificateParts) → (head >>= λ x. Ok (first_walk x)) ≡ Ok w
-        → (head >>= λ x. chains_at x.0.segments x.0.rungs 0 (x.0.segments * x.0.rungs) x.1 >>= λ chains. end_at chains.1 >>= λ done. Ok (record x.0 { chains = chains.0 })) ≡ whole_of w.head (rest_of w)
-    go (Ok x) h = begun_at x.0 x.1 ∙ ap (λ (v : Walk). whole_of v.head (rest_of v)) (ok_is (first_walk x) w h)
-    go (Err e) h = absurd cc
+-- what a walk that has just begun behind a heading leaves are all chains
+pub behind_rest : (heading : ℕ) (bytes : Text) (bound : ℤ) (x : CertificateParts × Place) → head_at heading bytes ≡ Ok x → certificate_behind heading bytes ≡ certificate_by (first_walk bound x)
+unfolding certificate_behind
+behind_rest heading bytes bound x h = rw h (begun_at bound x.0 x.1)
+
+-- the same of a certificate
+pub begun_rest : (bytes : Text) (w : Walk) → begun bytes ≡ Ok w → certificate_of bytes ≡ certificate_by w
+unfolding begun
+begun_rest bytes w h =
+    let x = then_ok (head_at 0 bytes) (λ x. Ok (first_walk x.0.score x)) w h in
+    behind_rest 0 bytes x.0.0.score x.0 x.1 ∙ ap certificate_by (ok_is (first_walk x.0.0.score x.0) w x.2)
 
 -- and whether they are a spelling is whether it comes to its end
 pub begun_accepted : (bytes : Text) (w : Walk) → begun bytes ≡ Ok w → accepted bytes ≡ silent (rest_of w)
@@ -104,20 +100,78 @@ begun_accepted bytes w h = ap silent (begun_rest bytes w h) ∙ quiet (rest_of w
     quiet (Ok cs) = refl
     quiet (Err e) = refl
 
--- what a walk that has just begun has read
-pub record Begins (w : Walk) : Type 0 where
-  pub bytes : Text
-  pub at : Place
-  pub head : head_at bytes ≡ Ok (w.head, at)
-  pub segment : w.segment ≡ 0
-  pub standing : w.at ≡ Ok at
+-- what any walk leaves that has just begun are all chains
+pub walk_rest : (w : Walk) (b : IsBegun w) → certificate_behind b.heading b.bytes ≡ certificate_by w
+walk_rest w b =
+    let first : first_walk w.bound (w.head, b.at) ≡ w = ap₂ (λ n at. record w { segment = n; at = at }) (sym b.segment) (sym b.standing) in
+    behind_rest b.heading b.bytes w.bound (w.head, b.at) b.head ∙ ap certificate_by first
+
+-- a certificate that a walk comes to has the form of one
+pub walk_form : (w : Walk) (c : CertificateParts) → IsBegun w → certificate_by w ≡ Ok c → IsCertificate c
+walk_form w c b h = (behind_takes b.heading b.bytes c (walk_rest w b ∙ h)).0
 
 -- a walk that has just begun stands behind its head
-pub begins : (bytes : Text) (w : Walk) → begun bytes ≡ Ok w → Begins w
+pub begins : (bytes : Text) (w : Walk) → begun bytes ≡ Ok w → IsBegun w
 unfolding begun
 begins bytes w h =
-    let x = then_ok (head_at bytes) (λ x. Ok (first_walk x)) w h in
-    subst Begins (ok_is (first_walk x.0) w x.2) (record { bytes = bytes; at = x.0.1; head = x.1; segment = refl; standing = refl })
+    let x = then_ok (head_at 0 bytes) (λ x. Ok (first_walk x.0.score x)) w h in
+    subst IsBegun (ok_is (first_walk x.0.0.score x.0) w x.2) (record { heading = 0; bytes = bytes; at = x.0.1; head = x.1; segment = refl; standing = refl })
+
+-- ---- gap certificates
+
+-- what was read before the first layer of a gap certificate
+record BeginsGapAt (bytes : Text) (w : Walk) : Type 0 where
+  bound : ℤ × Text
+  head : CertificateParts × Place
+  spelled : bound_at bytes ≡ Ok bound
+  read : head_at gap_heading bound.1 ≡ Ok head
+  is : first_walk bound.0 head ≡ w
+
+gap_at : (bytes : Text) (w : Walk) → begun_gap bytes ≡ Ok w → BeginsGapAt bytes w
+unfolding begun_gap
+gap_at bytes w h =
+    let b = then_ok (bound_at bytes) (λ bound. head_at gap_heading bound.1 >>= λ head. Ok (first_walk bound.0 head)) w h in
+    let x = then_ok (head_at gap_heading b.0.1) (λ head. Ok (first_walk b.0.0 head)) w b.2 in
+    record { bound = b.0; head = x.0; spelled = b.1; read = x.1; is = ok_is (first_walk b.0.0 x.0) w x.2 }
+
+-- a walk over a gap certificate that has just begun stands behind its head
+pub gap_begins : (bytes : Text) (w : Walk) → begun_gap bytes ≡ Ok w → IsBegun w
+gap_begins bytes w h =
+    let x = gap_at bytes w h in
+    subst IsBegun x.is (record { heading = gap_heading; bytes = x.bound.1; at = x.head.1; head = x.read; segment = refl; standing = refl })
+
+-- a bound with the certificate behind it
+abbrev pub with_bound : ℤ → Result CertificateParts Refusal → Result GapParts Refusal
+with_bound bound read = read >>= λ inner. Ok (record { bound = bound; inner = inner })
+
+-- what such a walk leaves are all chains
+pub gap_rest : (bytes : Text) (w : Walk) → begun_gap bytes ≡ Ok w → gap_of bytes ≡ with_bound w.bound (certificate_by w)
+unfolding gap_of
+gap_rest bytes w h =
+    let x = gap_at bytes w h in
+    rw x.spelled (ap (with_bound x.bound.0) (behind_rest gap_heading x.bound.1 x.bound.0 x.head x.read) ∙ ap (λ (v : Walk). with_bound v.bound (certificate_by v)) x.is)
+
+-- an answer that holds a gap certificate
+abbrev a_gap : GapParts → Result GapParts Refusal
+a_gap c = Ok c
+
+gap_is : (c d : GapParts) → a_gap c ≡ a_gap d → c ≡ d
+gap_is c d h = cc
+
+-- what such a walk comes to
+pub gap_inner : (bytes : Text) (w : Walk) (c : GapParts) → begun_gap bytes ≡ Ok w → gap_of bytes ≡ Ok c → (certificate_by w ≡ Ok c.inner) × (w.bound ≡ c.bound)
+gap_inner bytes w c h spelled =
+    let inner = then_ok (certificate_by w) (λ inner. Ok (record { bound = w.bound; inner = inner })) c (sym (gap_rest bytes w h) ∙ spelled) in
+    let same = gap_is (record { bound = w.bound; inner = inner.0 }) c inner.2 in
+    (inner.1 ∙ ap (λ (x : GapParts). Ok x.inner) same, ap (λ (x : GapParts). x.bound) same)
+
+-- and whether they are a spelling is whether it comes to its end
+pub gap_ends : (bytes : Text) (w : Walk) → begun_gap bytes ≡ Ok w → gap_accepted bytes ≡ silent (rest_of w)
+gap_ends bytes w h = ap silent (gap_rest bytes w h) ∙ quiet (rest_of w)
+  where
+    quiet : (read : Result (List ChainParts) Refusal) → silent (with_bound w.bound (whole_of w.head read)) ≡ silent read
+    quiet (Ok cs) = refl
+    quiet (Err e) = refl
 
 -- ---- one layer
 
@@ -278,8 +332,13 @@ rest_stopped w e low h = go w.at refl h
 
 -- a walk that has just begun
 pub begun_is : (bytes : Text) (answer : Result Walk InputFault) → Gives (λ w. w) answer (begun bytes) → IfOk answer IsBegun
-begun_is bytes (Ok w) h = record { bytes = bytes; is = h }
+begun_is bytes (Ok w) h = begins bytes w h
 begun_is bytes (Err fault) h = tt
+
+-- the same of a gap certificate
+pub gap_begun_is : (bytes : Text) (answer : Result Walk InputFault) → Gives (λ w. w) answer (begun_gap bytes) → IfOk answer IsBegun
+gap_begun_is bytes (Ok w) h = gap_begins bytes w h
+gap_begun_is bytes (Err fault) h = tt
 
 -- what a layer that came leaves
 pub record GoesOn (w v : Walk) : Type 0 where

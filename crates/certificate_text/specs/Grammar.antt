@@ -29,9 +29,13 @@ rungs_line = count_line (codes "rungs") most_rungs
 abbrev pub table_line : Line
 table_line = word (codes "utilities") (word (codes "table") ends)
 
+-- a line of a word and a number of thousandths of a point
+abbrev pub amount_line : Text → Line
+amount_line text = word text (signed score_digits ends)
+
 -- the score
 abbrev pub score_line : Line
-score_line = word (codes "score") (signed score_digits ends)
+score_line = amount_line (codes "score")
 
 -- the rung list
 abbrev pub plan_line : ℕ → Line
@@ -52,3 +56,11 @@ label_line per = number label_digits (number label_digits (signed label_digits (
 -- the last line
 abbrev pub end_line : Line
 end_line = word (codes "end") ends
+
+-- the first of the two lines that stand before the others in a gap certificate
+abbrev pub gap_line : Line
+gap_line = word (codes "abrlab") (word (codes "gap") (known 1 ends))
+
+-- the second: the bound
+abbrev pub bound_line : Line
+bound_line = amount_line (codes "bound")

@@ -1,5 +1,5 @@
 -- What the bytes of a certificate stand for, or their first bad line.
-use Rattle.std.specs.Prelude.{ℕ, zero, suc, ◌+◌, ◌-◌, ◌*◌, ◌/◌, ◌%◌, ◌==◌, Bool, List, [], ◌∷◌, ◌++◌, Result, Ok, Err, if◌then◌else◌, nat_le}
+use Rattle.std.specs.Prelude.{ℕ, zero, suc, ◌+◌, ◌-◌, ◌*◌, ◌/◌, ◌%◌, ◌==◌, Bool, List, [], ◌∷◌, ◌++◌, Result, Ok, Err, if◌then◌else◌, nat_le, ℤ}
 use Rattle.lab_model.specs.Steps.{◌>>=◌}
 use Rattle.lab_model.specs.declared.fault.Refusal.{Refusal}
 use Rattle.lab_io.specs.Sink.{Text}
@@ -9,7 +9,8 @@ use Rattle.certificate_text.specs.declared.head.Counts as head
 use Rattle.labels.specs.Form.{names_per, most_labels}
 use Rattle.certificate_text.specs.Fields.{Read, bad_line, value_if}
 use Rattle.certificate_text.specs.Line.{values_at}
-use Rattle.certificate_text.specs.Grammar.{end_line, label_line, layer_line, plan_line, rungs_line, score_line, segments_line, start_line, table_line, version_line}
+use Rattle.certificate_text.specs.Form.{GapParts}
+use Rattle.certificate_text.specs.Grammar.{bound_line, end_line, gap_line, label_line, layer_line, plan_line, rungs_line, score_line, segments_line, start_line, table_line, version_line}
 
 -- where a reader stands: the number of the next line, how many labels may still come, and the bytes that are left
 pub record Place : Type 0 where
@@ -25,7 +26,7 @@ Walks X = Result (X × Place) Refusal
 abbrev pub place_of : Spot → Place
 place_of spot = record { row = spot.row; left = spot.left; rest = spot.rest.now }
 
--- ---- the lines before the chains
+-- ---- the lines before the chains, behind so many lines of a heading
 
 -- whether the version is that of a setup with a utility table
 unfoldable pub version_at : ℕ → Text → Read Bool
@@ -48,28 +49,28 @@ abbrev pub counts_of : head.Counts → Counts
 counts_of c = record { table = c.table; segments = c.segments; rungs = c.rungs }
 
 -- the lines of version and counts
-unfoldable pub counts_at : Text → Read Counts
-counts_at bytes = do
-  table ← version_at 1 bytes
-  segments ← values_at 2 segments_line table.1
-  rungs ← values_at 3 rungs_line segments.1
-  rest ← table_at 4 table.0 rungs.1
+unfoldable pub counts_at : ℕ → Text → Read Counts
+counts_at heading bytes = do
+  table ← version_at (heading + 1) bytes
+  segments ← values_at (heading + 2) segments_line table.1
+  rungs ← values_at (heading + 3) rungs_line segments.1
+  rest ← table_at (heading + 4) table.0 rungs.1
   Ok (record { table = table.0; segments = segments.0.0; rungs = rungs.0.0 }, rest.1)
 
 -- the number of the line of the score
-abbrev pub score_row : Bool → ℕ
-score_row table = if table then 5 else 4
+abbrev pub score_row : ℕ → Bool → ℕ
+score_row heading table = heading + (if table then 5 else 4)
 
 -- what stands before the chains, and where these begin
-unfoldable pub head_at : Text → Walks CertificateParts
-head_at bytes = do
-  counts ← counts_at bytes
-  score ← values_at (score_row counts.0.table) score_line counts.1
-  plan ← values_at (score_row counts.0.table + 1) (plan_line counts.0.segments) score.1
-  starts ← values_at (score_row counts.0.table + 2) (start_line counts.0.rungs) plan.1
+unfoldable pub head_at : ℕ → Text → Walks CertificateParts
+head_at heading bytes = do
+  counts ← counts_at heading bytes
+  score ← values_at (score_row heading counts.0.table) score_line counts.1
+  plan ← values_at (score_row heading counts.0.table + 1) (plan_line counts.0.segments) score.1
+  starts ← values_at (score_row heading counts.0.table + 2) (start_line counts.0.rungs) plan.1
   Ok (
     record { table = counts.0.table; segments = counts.0.segments; rungs = counts.0.rungs; score = score.0.0; plan = plan.0; starts = starts.0; chains = [] },
-    record { row = score_row counts.0.table + 3; left = most_labels; rest = starts.1 },
+    record { row = score_row heading counts.0.table + 3; left = most_labels; rest = starts.1 },
   )
 
 -- ---- the chains
@@ -130,10 +131,34 @@ end_at p = do
   rest ← values_at p.row end_line p.rest
   nothing_at (p.row + 1) rest.1
 
--- the certificate that the bytes spell, or the first bad line
-unfoldable pub certificate_of : Text → Result CertificateParts Refusal
-certificate_of bytes = do
-  head ← head_at bytes
+-- the certificate that the bytes spell behind so many lines of a heading, or the first bad line, counted with these
+unfoldable pub certificate_behind : ℕ → Text → Result CertificateParts Refusal
+certificate_behind heading bytes = do
+  head ← head_at heading bytes
   chains ← chains_at head.0.segments head.0.rungs 0 (head.0.segments * head.0.rungs) head.1
   done ← end_at chains.1
   Ok (record head.0 { chains = chains.0 })
+
+-- the certificate that the bytes spell, or the first bad line
+abbrev pub certificate_of : Text → Result CertificateParts Refusal
+certificate_of bytes = certificate_behind 0 bytes
+
+-- ---- gap certificates
+
+-- how many lines stand before the certificate in a gap certificate
+abbrev pub gap_heading : ℕ
+gap_heading = 2
+
+-- these lines: the bound
+unfoldable pub bound_at : Text → Read ℤ
+bound_at bytes = do
+  gap ← values_at 1 gap_line bytes
+  bound ← values_at 2 bound_line gap.1
+  Ok (bound.0.0, bound.1)
+
+-- the gap certificate that the bytes spell, or the first bad line over the whole text
+unfoldable pub gap_of : Text → Result GapParts Refusal
+gap_of bytes = do
+  bound ← bound_at bytes
+  inner ← certificate_behind gap_heading bound.1
+  Ok (record { bound = bound.0; inner = inner })

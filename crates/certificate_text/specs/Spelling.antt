@@ -1,13 +1,14 @@
 -- The text of a certificate: its lines, each with its fields.
-use Rattle.std.specs.Prelude.{ℕ, ◌+◌, ◌/◌, ◌%◌, Bool, List, [], ◌∷◌, ◌++◌, length, take, drop, if◌then◌else◌}
+use Rattle.std.specs.Prelude.{ℕ, ◌+◌, ◌/◌, ◌%◌, Bool, List, [], ◌∷◌, ◌++◌, length, take, drop, if◌then◌else◌, ℤ}
 use Rattle.std.specs.List.{flat_map}
 use Rattle.lab_model.specs.declared.label.Label.{Label}
 use Rattle.lab_io.specs.Sink.{Text}
 use Rattle.lab_io.specs.Piece.{fields_line}
 use Rattle.labels.specs.Parts.{CertificateParts, ChainParts}
 use Rattle.certificate_text.specs.Line.{fields_of}
-use Rattle.certificate_text.specs.Grammar.{end_line, label_line, layer_line, plan_line, rungs_line, score_line, segments_line, start_line, table_line, version_line}
+use Rattle.certificate_text.specs.Grammar.{bound_line, end_line, gap_line, label_line, layer_line, plan_line, rungs_line, score_line, segments_line, start_line, table_line, version_line}
 use Rattle.labels.specs.Form.{names_per}
+use Rattle.certificate_text.specs.Form.{GapParts}
 
 -- the number of the version: 2 for a setup with a utility table
 abbrev pub version_number : Bool → ℕ
@@ -62,3 +63,11 @@ lines_text = flat_map fields_line
 -- the text of a certificate
 unfoldable pub spelling : CertificateParts → Text
 spelling c = lines_text (cert_lines c)
+
+-- the two lines that stand before the others in a gap certificate
+abbrev pub gap_lines : ℤ → List (List Text)
+gap_lines bound = fields_of gap_line tt ∷ fields_of bound_line (bound, tt) ∷ []
+
+-- the text of a gap certificate: these lines, and the spelling of the certificate behind them
+abbrev pub gap_spelling : GapParts → Text
+gap_spelling c = lines_text (gap_lines c.bound) ++ spelling c.inner

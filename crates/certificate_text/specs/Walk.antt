@@ -1,5 +1,5 @@
 -- A certificate that is read layer by layer.
-use Rattle.std.specs.Prelude.{◌≡◌, ℕ, ◌+◌, ◌-◌, ◌*◌, ◌<◌, ◌==◌, List, [], ◌++◌, take, drop, map, Option, Some, None, Result, Ok, Err, if◌then◌else◌}
+use Rattle.std.specs.Prelude.{◌≡◌, ℕ, ◌+◌, ◌-◌, ◌*◌, ◌<◌, ◌==◌, List, [], ◌++◌, take, drop, map, Option, Some, None, Result, Ok, Err, if◌then◌else◌, ℤ}
 use Rattle.lab_model.specs.Steps.{◌>>=◌}
 use Rattle.lab_model.specs.declared.fault.Refusal.{Refusal}
 use Rattle.lab_model.specs.declared.fault.InputFault.{InputFault}
@@ -9,11 +9,13 @@ use Rattle.lab_io.specs.Sink.{Text}
 use Rattle.labels.specs.Parts.{CertificateParts, ChainParts, chain_parts}
 use Rattle.certificate_text.specs.declared.certificate.Layer.{Layer}
 use Rattle.certificate_text.specs.declared.chains.Spot.{Spot}
-use Rattle.certificate_text.specs.Reading.{Place, certificate_of, chains_at, end_at, head_at, place_of}
+use Rattle.certificate_text.specs.Form.{GapParts}
+use Rattle.certificate_text.specs.Reading.{Place, bound_at, certificate_of, chains_at, end_at, gap_heading, gap_of, head_at, place_of}
 
--- what was read before the chains, the segment whose layer comes next, and the place where it begins, or the refusal that was met
+-- what was read before the chains, the bound, the segment whose layer comes next, and the place where it begins, or the refusal that was met
 pub record Walk : Type 0 where
   pub head : CertificateParts
+  pub bound : ℤ
   pub segment : ℕ
   pub at : Result Place Refusal
 
@@ -22,21 +24,42 @@ abbrev pub standing : Option Refusal → Spot → Result Place Refusal
 standing None spot = Ok (place_of spot)
 standing (Some refusal) spot = Err refusal
 
--- the walk that begins at the first line
+-- the walk that begins behind a head
+abbrev pub first_walk : ℤ → CertificateParts × Place → Walk
+first_walk bound head = record { head = head.0; bound = bound; segment = 0; at = Ok head.1 }
+
+-- the walk that begins at the first line of a certificate: its own score is the bound
 unfoldable pub begun : Text → Result Walk Refusal
 begun bytes = do
-  head ← head_at bytes
-  Ok (record { head = head.0; segment = 0; at = Ok head.1 })
+  head ← head_at 0 bytes
+  Ok (first_walk head.0.score head)
 
--- a walk that has just begun, at the first line of some bytes
+-- the walk that begins at the first line of a gap certificate
+unfoldable pub begun_gap : Text → Result Walk Refusal
+begun_gap bytes = do
+  bound ← bound_at bytes
+  head ← head_at gap_heading bound.1
+  Ok (first_walk bound.0 head)
+
+-- a walk that has just begun: it stands behind its head, which was read of some bytes behind a heading
 pub record IsBegun (w : Walk) : Type 0 where
+  pub heading : ℕ
   pub bytes : Text
-  pub is : begun bytes ≡ Ok w
+  pub at : Place
+  pub head : head_at heading bytes ≡ Ok (w.head, at)
+  pub segment : w.segment ≡ 0
+  pub standing : w.at ≡ Ok at
 
 -- that the bytes are the spelling of a certificate, or their first bad line
 abbrev pub accepted : Text → Result (Unit {0}) Refusal
 accepted bytes = do
   c ← certificate_of bytes
+  Ok tt
+
+-- the same of a gap certificate
+abbrev pub gap_accepted : Text → Result (Unit {0}) Refusal
+gap_accepted bytes = do
+  c ← gap_of bytes
   Ok tt
 
 -- the end of the walk: nothing more comes
@@ -93,6 +116,18 @@ rest_of w = do
   p ← w.at
   chains_to_end w.head.segments w.head.rungs (w.segment * w.head.rungs) ((w.head.segments - w.segment) * w.head.rungs) p
 
+-- that something was read, without what it was
+abbrev pub silent : {X : Type 0} → Result X Refusal → Result (Unit {0}) Refusal
+silent read = do
+  x ← read
+  Ok tt
+
+-- the certificate that a walk comes to that has just begun, or the bad line before its end
+abbrev pub certificate_by : Walk → Result CertificateParts Refusal
+certificate_by w = do
+  chains ← rest_of w
+  Ok (record w.head { chains = chains })
+
 -- ---- layer by layer
 
 -- a certificate without its chains
@@ -117,6 +152,12 @@ abbrev pub BeginsLayers : CertificateParts → Result Walk InputFault → Type 0
 BeginsLayers c (Ok w) = WillGive c w × (w.segment ≡ 0)
 BeginsLayers c (Err (Refused e)) = ⊥
 BeginsLayers c (Err Memory) = Unit {0}
+
+-- the same of a gap certificate: its bound comes with its head
+abbrev pub BeginsGap : GapParts → Result Walk InputFault → Type 0
+BeginsGap c (Ok w) = WillGive c.inner w × (w.segment ≡ 0) × (w.bound ≡ c.bound)
+BeginsGap c (Err (Refused e)) = ⊥
+BeginsGap c (Err Memory) = Unit {0}
 
 -- what it answers where they have a bad line: that line, or a walk that comes to it
 abbrev pub BeginsBadly : Refusal → Result Walk InputFault → Type 0

@@ -21,6 +21,16 @@ pub struct Certificate {
     pub chains: Vec<Chain>,
 }
 
+/// A certificate with a bound of its own: a claim that its rung list has its score, and that no list has a greater
+/// value than the bound.
+#[derive(Drop)]
+pub struct GapCertificate {
+    /// What no rung list has more than, in thousandths of a point.
+    pub bound: i128,
+    /// The certificate behind the bound.
+    pub inner: Certificate,
+}
+
 /// The chains of one segment, by rung.
 #[derive(Drop)]
 pub struct Layer {

@@ -1,16 +1,18 @@
-//! The lines before the chains.
+//! The lines before the chains, and those of a gap certificate before all others.
 ghost use Rattle.std.specs.Prelude.{◌≡◌, ◌+◌, ◌≤◌, ◌<◌, All, IfErr, IfOk};
 ghost use Rattle.lab_model.specs.Reading.{Gives};
 ghost use Rattle.lab_model.specs.Film.{IsWithin};
 ghost use Rattle.labels.specs.Form.{HasDigits, place_digits, rung_digits};
 ghost use Rattle.certificate_text.specs.Line.{values_at};
-ghost use Rattle.certificate_text.specs.Grammar.{count_line, list_line, score_line};
+ghost use Rattle.certificate_text.specs.Grammar.{amount_line, count_line, list_line};
 ghost use Rattle.certificate_text.specs.Form.{certificate_parts};
-ghost use Rattle.certificate_text.specs.Reading.{counts_at, counts_of, head_at, place_of, table_at, version_at};
+ghost use Rattle.certificate_text.specs.Reading.{bound_at, counts_at, counts_of, head_at, place_of, table_at, version_at};
 
 use crate::certificate::Certificate;
 use crate::chains::Spot;
-use crate::fields::{PLACE_DIGITS, push, push_numbers, signed_at, stop_before, within_at, word_at};
+use crate::fields::{
+    PLACE_DIGITS, known_at, push, push_numbers, signed_at, stop_before, within_at, word_at,
+};
 use lab_model::InputFault;
 use std::alloc::Global;
 
@@ -63,13 +65,25 @@ fn table_at(row: u32, table: bool, bytes: &[u8]) -> Result<&[u8], InputFault>
     word_at(row, "table", b'\n', rest)
 }
 
-/// The line of the score.
+/// A line of a word and a number of thousandths of a point.
 #[tactic(auto, unfolding(crate::specs::Line::values_at))]
-fn score_at(row: u32, bytes: &[u8]) -> Result<(i128, &[u8]), InputFault>
-    ensures { Gives (λ x. ((x.0, tt), x.1.now)) result (values_at row score_line bytes.now) }
+fn amount_at<'a>(row: u32, word: &str, bytes: &'a [u8]) -> Result<(i128, &'a [u8]), InputFault>
+    ensures { Gives (λ x. ((x.0, tt), x.1.now)) result
+        (values_at row (amount_line word.now) bytes.now) }
 {
-    let rest = word_at(row, "score", b' ', bytes)?;
+    let rest = word_at(row, word, b' ', bytes)?;
     signed_at(row, SCORE_DIGITS, b'\n', rest)
+}
+
+/// The two lines that stand before the others in a gap certificate: the bound.
+#[tactic(auto, unfolding(crate::specs::Reading::bound_at, crate::specs::Line::values_at))]
+pub(crate) fn bound_at(bytes: &[u8]) -> Result<(i128, &[u8]), InputFault>
+    ensures { Gives (λ x. (x.0, x.1.now)) result (bound_at bytes.now) }
+{
+    let rest = word_at(1, "abrlab", b' ', bytes)?;
+    let rest = word_at(1, "gap", b' ', rest)?;
+    let rest = known_at(1, 1, b'\n', rest)?;
+    amount_at(2, "bound", rest)
 }
 
 /// A line of a word and so many numbers.
@@ -102,15 +116,16 @@ struct Counts {
 
 /// The lines of version and counts.
 #[tactic(auto, unfolding(crate::specs::Reading::counts_at))]
-fn counts_at(bytes: &[u8]) -> Result<(Counts, &[u8]), InputFault>
-    ensures counts { Gives (λ x. (counts_of x.0, x.1.now)) result (counts_at bytes.now) }
+fn counts_at(heading: u32, bytes: &[u8]) -> Result<(Counts, &[u8]), InputFault>
+    requires { heading ≤ 2 }
+    ensures counts { Gives (λ x. (counts_of x.0, x.1.now)) result (counts_at heading bytes.now) }
     ensures segments { IfOk result (λ x. IsWithin 1 2000 x.0.segments) }
     ensures rungs { IfOk result (λ x. IsWithin 1 16 x.0.rungs) }
 {
-    let (table, rest) = version_at(1, bytes)?;
-    let (segments, rest) = count_at(2, "segments", MOST_SEGMENTS, rest)?;
-    let (rungs, rest) = count_at(3, "rungs", MOST_RUNGS, rest)?;
-    let rest = table_at(4, table, rest)?;
+    let (table, rest) = version_at(heading + 1, bytes)?;
+    let (segments, rest) = count_at(heading + 2, "segments", MOST_SEGMENTS, rest)?;
+    let (rungs, rest) = count_at(heading + 3, "rungs", MOST_RUNGS, rest)?;
+    let rest = table_at(heading + 4, table, rest)?;
     let counts = Counts {
         table,
         segments: segments as u16,
@@ -132,17 +147,24 @@ fn small_numbers(alloc: Global, numbers: &[u32]) -> Result<Vec<u8>, InputFault>
     Ok(small)
 }
 
-/// What stands before the chains, in a certificate that has none yet, and where these begin.
+/// What stands before the chains, behind so many lines of a heading, in a certificate that has no chains yet, and where
+/// these begin.
 #[tactic(auto, unfolding(crate::specs::Reading::head_at))]
-pub(crate) fn head_at(alloc: Global, bytes: &[u8]) -> Result<(Certificate, Spot<'_>), InputFault>
-    ensures head { Gives (λ x. (certificate_parts x.0, place_of x.1)) result (head_at bytes.now) }
+pub(crate) fn head_at(
+    alloc: Global,
+    heading: u32,
+    bytes: &[u8],
+) -> Result<(Certificate, Spot<'_>), InputFault>
+    requires { heading ≤ 2 }
+    ensures head { Gives (λ x. (certificate_parts x.0, place_of x.1)) result
+        (head_at heading bytes.now) }
     ensures segments { IfOk result (λ x. IsWithin 1 2000 x.0.segments) }
     ensures rungs { IfOk result (λ x. IsWithin 1 16 x.0.rungs) }
     ensures room { IfOk result (λ x. x.1.row + x.1.left ≤ 1000010) }
 {
-    let (counts, rest) = counts_at(bytes)?;
-    let row = if counts.table { 5 } else { 4 };
-    let (score, rest) = score_at(row, rest)?;
+    let (counts, rest) = counts_at(heading, bytes)?;
+    let row = heading + if counts.table { 5 } else { 4 };
+    let (score, rest) = amount_at(row, "score", rest)?;
     let (segments, rungs) = (counts.segments as usize, counts.rungs as usize);
     let (plan, rest) = list_at(alloc, row + 1, "plan", segments, RUNG_DIGITS, rest)?;
     let (starts, rest) = list_at(alloc, row + 2, "start", rungs, PLACE_DIGITS, rest)?;

@@ -17,6 +17,8 @@
 //!
 //! A number is `0`, or digits of which the first isn't `0`; V and X may have a `-` before a number that isn't 0.
 //! T, P and V have at most 18 digits, COUNT and names at most 7, and all COUNTs together are at most 1000000.
+//!
+//! A gap certificate is the lines `abrlab gap 1` and `bound Y`, with Y spelled as X is, and then a certificate.
 #![tactic(auto)]
 
 mod certificate;
@@ -26,7 +28,7 @@ mod head;
 mod lines;
 mod writer;
 
-pub use certificate::{Certificate, Layer};
+pub use certificate::{Certificate, GapCertificate, Layer};
 pub use labels::Verdict;
-pub use lines::{Lines, one_spelling, read_certificate};
-pub use writer::{put_plan, put_score, write_certificate};
+pub use lines::{Lines, one_gap_spelling, one_spelling, read_certificate, read_gap};
+pub use writer::{put_gap, put_plan, put_score, write_certificate};

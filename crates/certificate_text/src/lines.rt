@@ -6,23 +6,27 @@ ghost use Rattle.lab_model.specs.declared.fault.Refusal.{Refusal};
 ghost use Rattle.lab_model.specs.Reading.{Gives};
 ghost use Rattle.labels.specs.Parts.{CertificateParts};
 ghost use Rattle.labels.specs.Form.{IsCertificate};
-ghost use Rattle.certificate_text.specs.Form.{certificate_parts};
-ghost use Rattle.certificate_text.specs.Reading.{certificate_of};
-ghost use Rattle.certificate_text.specs.Spelling.{spelling};
-ghost use Rattle.certificate_text.specs.Walk.{BeginsBadly, BeginsLayers, GivesLayer, IsBegun, MeetsBadLine, Steps, Walk, WillGive, WillRefuse, accepted, after_fault, begun, standing};
+ghost use Rattle.certificate_text.specs.Form.{GapParts, IsGapCertificate, certificate_parts, gap_parts};
+ghost use Rattle.certificate_text.specs.Reading.{certificate_behind, certificate_of, gap_of, place_of};
+ghost use Rattle.certificate_text.specs.Spelling.{gap_spelling, spelling};
+ghost use Rattle.certificate_text.specs.Walk.{BeginsBadly, BeginsGap, BeginsLayers, GivesLayer, IsBegun, MeetsBadLine, Steps, Walk, WillGive, WillRefuse, accepted, after_fault, begun, begun_gap, first_walk, gap_accepted, rest_of, silent, standing};
 
-use crate::certificate::{Certificate, Layer};
+use crate::certificate::{Certificate, GapCertificate, Layer};
 use crate::chains::{Spot, chains_at, end_at};
-use crate::head::head_at;
+use crate::head::{bound_at, head_at};
 use lab_model::{InputFault, Refusal};
 use std::alloc::Global;
 use std::marker::Model;
 
-/// A certificate that is read layer by layer.
+/// How many lines stand before the certificate in a gap certificate.
+const GAP_HEADING: u32 = 2;
+
+/// A certificate or a gap certificate that is read layer by layer.
 #[derive(Drop)]
 pub struct Lines<'a> {
     alloc: Global,
     head: Certificate,
+    bound: i128,
     segment: u16,
     spot: Spot<'a>,
     refused: Option<Refusal>,
@@ -33,6 +37,7 @@ impl<'a> Model for Lines<'a> {
 
     ghost view = { λ l. record {
       head = certificate_parts l.head;
+      bound = l.bound;
       segment = l.segment;
       at = standing l.refused l.spot;
     } };
@@ -55,19 +60,51 @@ impl<'a> Lines<'a> {
         Self::behind_head(alloc, bytes)
     }
 
+    /// The same of a gap certificate: its bound is read too, and the bad line counts over the whole text.
+    pub fn begin_gap(alloc: Global, bytes: &'a [u8]) -> Result<Lines<'a>, InputFault>
+        ensures walk { Gives (λ lines. lines) result (begun_gap bytes.now) }
+        ensures begun { IfOk result IsBegun }
+        ensures layers { (c : GapParts) → gap_of bytes.now ≡ Ok c → BeginsGap c result }
+        ensures bad_line { (e : Refusal) → gap_of bytes.now ≡ Err e → BeginsBadly e result }
+    {
+        Self::behind_bound(alloc, bytes)
+    }
+
     /// The reader behind the lines before the first layer.
     #[tactic(auto, unfolding(crate::specs::Walk::begun))]
     fn behind_head(alloc: Global, bytes: &'a [u8]) -> Result<Lines<'a>, InputFault>
         ensures { Gives (λ lines. lines) result (begun bytes.now) }
     {
-        let (head, spot) = head_at(alloc, bytes)?;
-        Ok(Lines {
+        let (head, spot) = head_at(alloc, 0, bytes)?;
+        let bound = head.score;
+        Ok(Self::first(alloc, head, bound, spot))
+    }
+
+    /// The same of a gap certificate.
+    #[tactic(auto, unfolding(crate::specs::Walk::begun_gap))]
+    fn behind_bound(alloc: Global, bytes: &'a [u8]) -> Result<Lines<'a>, InputFault>
+        ensures { Gives (λ lines. lines) result (begun_gap bytes.now) }
+    {
+        let (bound, rest) = bound_at(bytes)?;
+        let (head, spot) = head_at(alloc, GAP_HEADING, rest)?;
+        Ok(Self::first(alloc, head, bound, spot))
+    }
+
+    /// The reader behind these lines, which stands at the first layer.
+    fn first(alloc: Global, head: Certificate, bound: i128, spot: Spot<'a>) -> Lines<'a>
+        requires segments { IsWithin 1 2000 head.segments }
+        requires rungs { IsWithin 1 16 head.rungs }
+        requires room { spot.row + spot.left ≤ 1000010 }
+        ensures { result ≡ first_walk bound (certificate_parts head, place_of spot.entry) }
+    {
+        Lines {
             alloc,
             head,
+            bound,
             segment: 0,
             spot,
             refused: None,
-        })
+        }
     }
 
     /// The next layer. None comes exactly after the last one, with the line `end` read and nothing behind it.
@@ -118,9 +155,18 @@ impl<'a> Lines<'a> {
     ///
     /// Where the lines are as `begin` answered them, it is refused exactly where the bytes are no spelling, with the
     /// first bad line.
-    pub fn read_rest(mut self) -> Result<(), InputFault>
-        ensures { (bytes : Text) → begun bytes ≡ Ok self.entry
+    pub fn read_rest(self) -> Result<(), InputFault>
+        ensures plain { (bytes : Text) → begun bytes ≡ Ok self.entry
             → Gives (λ done. done) result (accepted bytes) }
+        ensures gap { (bytes : Text) → begun_gap bytes ≡ Ok self.entry
+            → Gives (λ done. done) result (gap_accepted bytes) }
+    {
+        self.pass_rest()
+    }
+
+    /// Reads what is left.
+    fn pass_rest(mut self) -> Result<(), InputFault>
+        ensures { Gives (λ done. done) result (silent (rest_of self.entry)) }
     {
         while self.next_layer()?.is_some() {}
         Ok(())
@@ -158,6 +204,14 @@ impl<'a> Lines<'a> {
         self.head.score
     }
 
+    /// What no rung list is to have more than, in thousandths of a point: the bound of a gap certificate, or the own
+    /// score of another.
+    pub fn bound(&self) -> i128
+        ensures { result ≡ self.now.bound }
+    {
+        self.bound
+    }
+
     /// The rung list.
     pub fn plan(&self) -> &[u8]
         ensures { result.now ≡ self.now.head.plan }
@@ -186,11 +240,19 @@ pub fn one_spelling()
         → spelling c ≡ spelling d → c ≡ d }
 {}
 
-#[tactic(auto, unfolding(crate::specs::Reading::certificate_of))]
-fn certificate_of(alloc: Global, bytes: &[u8]) -> Result<Certificate, InputFault>
-    ensures { Gives certificate_parts result (certificate_of bytes.now) }
+/// No gap certificate of the form has a spelling that another one has.
+pub fn one_gap_spelling()
+    ensures { (c d : GapParts) → IsGapCertificate c → IsGapCertificate d
+        → gap_spelling c ≡ gap_spelling d → c ≡ d }
+{}
+
+/// The certificate that the bytes spell behind so many lines of a heading.
+#[tactic(auto, unfolding(crate::specs::Reading::certificate_behind))]
+fn certificate_behind(alloc: Global, heading: u32, bytes: &[u8]) -> Result<Certificate, InputFault>
+    requires { heading ≤ 2 }
+    ensures { Gives certificate_parts result (certificate_behind heading bytes.now) }
 {
-    let (head, spot) = head_at(alloc, bytes)?;
+    let (head, spot) = head_at(alloc, heading, bytes)?;
     let (segments, rungs) = (u32::from(head.segments), u32::from(head.rungs));
     let (chains, spot) = chains_at(alloc, segments, rungs, 0, segments * rungs, spot)?;
     end_at(spot)?;
@@ -208,5 +270,30 @@ pub fn read_certificate(alloc: Global, bytes: &[u8]) -> Result<Certificate, Inpu
     // Which line is the first bad one.
     ensures exact { Gives certificate_parts result (certificate_of bytes.now) }
 {
-    certificate_of(alloc, bytes)
+    certificate_behind(alloc, 0, bytes)
+}
+
+/// The gap certificate that the bytes spell.
+#[tactic(auto, unfolding(crate::specs::Reading::gap_of))]
+fn gap_of(alloc: Global, bytes: &[u8]) -> Result<GapCertificate, InputFault>
+    ensures { Gives gap_parts result (gap_of bytes.now) }
+{
+    let (bound, rest) = bound_at(bytes)?;
+    let inner = certificate_behind(alloc, GAP_HEADING, rest)?;
+    Ok(GapCertificate { bound, inner })
+}
+
+/// The gap certificate that the bytes spell. It is refused exactly where they are no spelling, with the first bad line,
+/// which counts over the whole text.
+pub fn read_gap(alloc: Global, bytes: &[u8]) -> Result<GapCertificate, InputFault>
+    // What is read is of the form, and the bytes are its spelling.
+    ensures found { IfOk result (λ c. IsGapCertificate (gap_parts c)
+        × (bytes.now ≡ gap_spelling (gap_parts c))) }
+    // What was written is read again.
+    ensures again { (c : GapParts) → IsGapCertificate c → bytes.now ≡ gap_spelling c
+        → Gives gap_parts result (Ok c) }
+    // Which line is the first bad one.
+    ensures exact { Gives gap_parts result (gap_of bytes.now) }
+{
+    gap_of(alloc, bytes)
 }

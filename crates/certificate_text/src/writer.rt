@@ -7,9 +7,9 @@ ghost use Rattle.lab_io.specs.Sink.{Puts};
 ghost use Rattle.lab_model.specs.Film.{IsWithin, rungs_of, segments_of};
 ghost use Rattle.labels.specs.Parts.{chain_parts, plan_parts};
 ghost use Rattle.certificate_text.specs.Line.{fields_of};
-ghost use Rattle.certificate_text.specs.Grammar.{plan_line, rungs_line, score_line, segments_line, start_line, version_line};
+ghost use Rattle.certificate_text.specs.Grammar.{bound_line, plan_line, rungs_line, score_line, segments_line, start_line, version_line};
 ghost use Rattle.labels.specs.Form.{AreChains, IsCertificate};
-ghost use Rattle.certificate_text.specs.Spelling.{chain_lines, chains_lines, head_lines, label_fields, label_lines, layer_fields, lines_text, spelling, table_lines, version_fields, version_number};
+ghost use Rattle.certificate_text.specs.Spelling.{chain_lines, chains_lines, gap_lines, head_lines, label_fields, label_lines, layer_fields, lines_text, spelling, table_lines, version_fields, version_number};
 
 use crate::chains::names_per;
 use lab_io::Piece::{Number, Word};
@@ -98,6 +98,23 @@ pub fn put_score<O: Sink>(out: &mut O, score: i128) -> Result<(), PutErr>
         (O.seen out.new) result }
 {
     put_fields(out, &[Word("score"), Number(score)])
+}
+
+/// Puts the two lines that stand before the others in a gap certificate: `abrlab gap 1`, and `bound` with the bound in
+/// thousandths of a point. It takes no memory of its own; after an `Err` a prefix went out.
+pub fn put_gap<O: Sink>(out: &mut O, bound: i128) -> Result<(), PutErr>
+    ensures { Puts (O.seen out.old) (lines_text (gap_lines bound)) (O.seen out.new) result }
+{
+    put_fields(out, &[Word("abrlab"), Word("gap"), Number(1)])?;
+    put_bound(out, bound)
+}
+
+/// The line of a bound, in thousandths of a point.
+fn put_bound<O: Sink>(out: &mut O, bound: i128) -> Result<(), PutErr>
+    ensures { Puts (O.seen out.old) (fields_line (fields_of bound_line (bound, tt)))
+        (O.seen out.new) result }
+{
+    put_fields(out, &[Word("bound"), Number(bound)])
 }
 
 /// The line of version 2.

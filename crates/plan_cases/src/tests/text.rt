@@ -1,5 +1,5 @@
 // Each public call on the worked examples, byte by byte, and bad lines of all kinds.
-use certificate_text::{Certificate, Lines, read_certificate, write_certificate};
+use certificate_text::{Certificate, Lines, read_certificate, read_gap, write_certificate};
 use lab_io::SureSink;
 use lab_model::{InputFault, Key, Kind, Manifest, Refusal};
 use labels::Plan;
@@ -149,6 +149,62 @@ fn bad_lines(rt: HostRuntime) -> Result<(), Fail> {
         assert_eq!(rt; walk(alloc, text.as_bytes()), bad_line(bad));
         assert_eq!(rt; rest(alloc, text.as_bytes()), bad_line(bad));
     }
+    Ok(())
+}
+
+/// The lines before that certificate, a line of it with what stands in its place, and the first bad line of the whole.
+#[rattlefmt::skip]
+const BAD_GAPS: [(&str, u32, &str, u32); 10] = [
+    ("", 0, "", 1),
+    ("abrlab gap 2\nbound -1\n", 0, "", 1),
+    ("abrlab gap 01\nbound -1\n", 0, "", 1),
+    ("abrlab gap 1\n", 0, "", 2),
+    ("abrlab gap 1\nbound 0208000\n", 0, "", 2),
+    ("abrlab gap 1\nbound -0\n", 0, "", 2),
+    ("abrlab gap 1\nbound 1000000000000000000000000\n", 0, "", 2),
+    ("abrlab gap 1\nbound -1\n", 1, "abrlab certificate 3\n", 3),
+    ("abrlab gap 1\nbound -1\n", 8, "1 1  99\n", 10),
+    ("abrlab gap 1\nbound -1\n", 9, "end\nend\n", 12),
+];
+
+/// What is refused of a gap certificate, if something is.
+fn gap_refusal_of(alloc: Global, bytes: &[u8]) -> Result<(), InputFault> {
+    read_gap(alloc, bytes)?;
+    Ok(())
+}
+
+/// The same, layer by layer.
+fn gap_rest(alloc: Global, bytes: &[u8]) -> Result<(), InputFault> {
+    Lines::begin_gap(alloc, bytes)?.read_rest()
+}
+
+#[test]
+fn bad_gap_lines(rt: HostRuntime) -> Result<(), Fail> {
+    let alloc = rt.alloc();
+    for (heading, row, line, bad) in BAD_GAPS {
+        let mut text = String::new(alloc);
+        text.push_str(heading)?;
+        text.push_str(with_line(alloc, row, line)?.as_str())?;
+        assert_eq!(rt; gap_refusal_of(alloc, text.as_bytes()), bad_line(bad));
+        assert_eq!(rt; gap_rest(alloc, text.as_bytes()), bad_line(bad));
+    }
+    Ok(())
+}
+
+#[test]
+fn bound_of_a_gap(rt: HostRuntime) -> Result<(), Fail> {
+    let alloc = rt.alloc();
+    let mut text = String::new(alloc);
+    text.push_str("abrlab gap 1\nbound 999999999999999999999999\n")?;
+    text.push_str(with_line(alloc, 0, "")?.as_str())?;
+    let read = read_gap(alloc, text.as_bytes())?;
+    assert_eq!(rt; read.bound, 999_999_999_999_999_999_999_999);
+    let lines = Lines::begin_gap(alloc, text.as_bytes())?;
+    assert_eq!(rt; lines.bound(), 999_999_999_999_999_999_999_999);
+    assert_eq!(rt; lines.score(), -1);
+    let plain = with_line(alloc, 0, "")?;
+    assert_eq!(rt; Lines::begin(alloc, plain.as_bytes())?.bound(), -1);
+    assert_eq!(rt; refusal_of(alloc, text.as_bytes()), bad_line(1));
     Ok(())
 }
 

@@ -6,7 +6,7 @@ use Rattle.certificate_text.proofs.HeadLaws.{certificate_again, is_found}
 use Rattle.certificate_text.proofs.lines.read_certificate.Goals as goal
 
 pub returns-clause-found : goal.returns-clause-found
-returns-clause-found c = is_found c.args.bytes.now c.certificate_of.result c.certificate_of.ensures
+returns-clause-found c = is_found c.args.bytes.now c.certificate_behind.result c.certificate_behind.ensures
 
 pub returns-clause-again : goal.returns-clause-again
-returns-clause-again c = λ parts form e. subst (λ read. Gives certificate_parts c.certificate_of.result read) (ap certificate_of e ∙ certificate_again parts form) c.certificate_of.ensures
+returns-clause-again c = λ parts form e. subst (λ read. Gives certificate_parts c.certificate_behind.result read) (ap certificate_of e ∙ certificate_again parts form) c.certificate_behind.ensures

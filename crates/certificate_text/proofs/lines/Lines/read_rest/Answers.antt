@@ -1,21 +1,10 @@
-use Rattle.std.proofs.Common.{◌∙◌, sym, ap}
-use Rattle.lab_model.proofs.Refusals.{fails_on, gives_error}
-use Rattle.certificate_text.proofs.WalkLaws.{begun_accepted, rest_stopped, silent, walk_on, walk_over}
+use Rattle.std.proofs.Common.{sym, subst}
+use Rattle.lab_model.specs.Reading.{Gives}
+use Rattle.certificate_text.proofs.WalkLaws.{begun_accepted, gap_ends}
 use Rattle.certificate_text.proofs.lines.Lines.read_rest.Goals as goal
 
-pub returns-in_err-next_layer : goal.returns-in_err-next_layer
-returns-in_err-next_layer c = λ bytes h.
-    gives_error _ c.from_residual.result c.in_err-next_layer.field-0.0 _ c.from_residual.ensures.1
-    (fails_on _ _ _ c.in_err-next_layer.ensures.steps.0 (λ e refused. begun_accepted bytes c.args.self h ∙ sym c.loop-self.invariant.rest ∙ ap silent (rest_stopped c.loop-self.self e c.loop-self.invariant.inside refused)))
+pub returns-clause-plain : goal.returns-clause-plain
+returns-clause-plain c = λ bytes h. subst (Gives (λ done. done) c.pass_rest.result) (sym (begun_accepted bytes c.args.self h)) c.pass_rest.ensures
 
-pub loop-self-smaller : goal.loop-self-smaller
-loop-self-smaller c = (walk_on c.loop-self.self c.next_layer.new.self c.in_ok-next_layer.field-0 c.loop-self.invariant.inside c.if-is_some.ensures c.in_ok-next_layer.ensures.steps).fewer
-
-pub loop-self-preserved : goal.loop-self-preserved
-loop-self-preserved c =
-    let on = walk_on c.loop-self.self c.next_layer.new.self c.in_ok-next_layer.field-0 c.loop-self.invariant.inside c.if-is_some.ensures c.in_ok-next_layer.ensures.steps in
-    record { inside = on.inside; rest = on.rest ∙ c.loop-self.invariant.rest }
-
-pub returns : goal.returns
-returns c = λ bytes h.
-    begun_accepted bytes c.args.self h ∙ sym c.loop-self.invariant.rest ∙ walk_over c.loop-self.self c.next_layer.new.self c.in_ok-next_layer.field-0 c.if-is_some.ensures c.in_ok-next_layer.ensures.steps
+pub returns-clause-gap : goal.returns-clause-gap
+returns-clause-gap c = λ bytes h. subst (Gives (λ done. done) c.pass_rest.result) (sym (gap_ends bytes c.args.self h)) c.pass_rest.ensures

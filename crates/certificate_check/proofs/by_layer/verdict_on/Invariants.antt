@@ -1,5 +1,5 @@
 use Rattle.certificate_check.proofs.ByLayer.{StandsAt}
-use Rattle.certificate_check.proofs.by_layer.check_lines_from.Given as goal
+use Rattle.certificate_check.proofs.by_layer.verdict_on.Given as goal
 
 -- what was found so far stands for all certificates that begin so
 abbrev pub invariant-loop-segment : goal.invariant-loop-segment

@@ -1,7 +1,6 @@
 use Rattle.std.proofs.Common.{◌≡◌, ◌-◌, ◌≤◌}
-use Rattle.certificate_text.specs.Walk.{rest_of}
-use Rattle.certificate_text.proofs.WalkLaws.{silent}
-use Rattle.certificate_text.proofs.lines.Lines.read_rest.Given as goal
+use Rattle.certificate_text.specs.Walk.{rest_of, silent}
+use Rattle.certificate_text.proofs.lines.Lines.pass_rest.Given as goal
 
 -- what is left decides as it did at first
 abbrev pub invariant-loop-self : goal.invariant-loop-self

@@ -1,0 +1,44 @@
+//! The planner on a grid.
+
+ghost use Rattle.std.specs.Prelude.{◌≡◌, ◌≤◌, IfOk};
+ghost use Rattle.lab_model.specs.Fit.{SetupFits};
+ghost use Rattle.player_core.specs.Available.{all_ahead};
+ghost use Rattle.player_core.specs.Scene.{task_of};
+ghost use Rattle.labels.specs.Grid.{IsGrid, exact};
+ghost use Rattle.frontier_planner.specs.Planned.{CoarseAnswer, ExactAnswer};
+ghost use Rattle.gap_plan.specs.Gap.{CertifiesGap};
+
+use frontier_planner::{CoarsePlan, Grid, PlanErr, plan_from};
+use lab_model::{Manifest, Setup};
+use network_clock::Clock;
+use std::alloc::Global;
+
+/// So many milliseconds of media ahead that all of a film is there at instant 0.
+const ALL_AHEAD: u32 = 120_000_000;
+
+/// The plan of a film on demand on a grid: the rung list that is read off the coarse frontiers with its true value, and
+/// the greatest end value of their labels, which no rung list passes. They may have as many labels as the budget,
+/// 1 to 1000000: `BudgetSpent` names the first segment at whose end they have more.
+pub fn plan_coarse(
+    alloc: Global,
+    film: &Manifest,
+    clock: &Clock,
+    setup: &Setup,
+    grid: Grid,
+    budget: u32,
+) -> Result<CoarsePlan, PlanErr>
+    requires setup { SetupFits setup.now film.now }
+    requires grid { IsGrid grid }
+    requires budget { (1 ≤ budget) × (budget ≤ 1000000) }
+    ensures coarse { CoarseAnswer grid (task_of film.now clock.now setup.now all_ahead)
+        budget result }
+    // Its gap certificate has a text and is valid.
+    ensures certificate { IfOk result
+        (CertifiesGap (task_of film.now clock.now setup.now all_ahead)) }
+    // On the grid 1, 1 the chains are the frontiers, the list is the best one, and the bound is its score.
+    ensures exact { ExactAnswer grid (task_of film.now clock.now setup.now all_ahead)
+        budget result }
+    ensures bound { grid ≡ exact → IfOk result (λ c. c.bound ≡ c.plan.score) }
+{
+    plan_from(alloc, film, clock, setup, ALL_AHEAD, grid, budget)
+}
