@@ -20,10 +20,11 @@ pub struct Printed {
 /// stands twice, its first file counts.
 ///
 /// The status is the one that words and files ask for, with just their text on `out` and their note on `err`; or it is 9
-/// where memory was wanting, with a prefix of the text and the note on want of memory.
+/// where memory was wanting, with a prefix of the text and the note on want of memory. Where memory for the note itself was
+/// wanting, the count of wants of `err` tells so, and a prefix of the note stands there.
 pub fn run_in_memory(alloc: Global, words: &[String], files: Vec<(String, Vec<u8>)>) -> Printed
     ensures { IsPrinted (map string_bytes words.now) (file_of (told_files files.items))
-        result.status result.out.written result.err.written }
+        result.status result.out result.err }
 {
     let mut shelf = MemShelf::new(alloc, files, Vec::new(alloc));
     let mut out = SureSink::new(alloc);

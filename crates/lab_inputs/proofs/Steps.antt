@@ -1,10 +1,13 @@
 -- One file after the other: what those before it gave, and what one more adds or refuses.
 use Rattle.std.specs.Option.{option_copied}
-use Rattle.std.specs.Prelude.{Bor}
+use Rattle.std.specs.Borrow.{Bor}
+use Rattle.std.specs.List.{All, slice_get}
+use Rattle.std.specs.Prelude.{IfSome}
 use Rattle.std.proofs.Common.{◌≡◌, ℕ, ◌+◌, ◌≤◌, ◌++◌, List, [], ◌∷◌, map, option_map, string_bytes, String, Option, Some, None, Result, Ok, Err, IsOk, ap, sym, ◌∙◌, refl, inl, inr, arith, append_assoc, length, ◌<◌, take, drop, get_or, add-one, drop-cons, subst}
 use Rattle.std.proofs.lemmas.List.{length-map, length-take-le, map-append, take-append-drop}
 use Rattle.std.proofs.Math.Seq.{take-suc}
 use Rattle.std.specs.Result.{IsErrAnd}
+use Rattle.std.proofs.lemmas.Option.{slice_get-map}
 use Rattle.std.proofs.lemmas.Result.{err_from_is_err_and}
 use Rattle.lab_model.specs.declared.fault.Refusal.{Refusal}
 use Rattle.lab_model.specs.Film.{Film}
@@ -275,6 +278,16 @@ mapped_ok named seen seen2 f meant old new r x z e k h =
     (c.0, λ files t. rw (c.1 files t, k) refl)
 
 -- what a reference in an option points to, seen in another way
-pub seen_behind : {A B : Type 0} (f : A → B) (o : Option (Bor A)) → option_map (λ (x : Bor A). f x.now) o ≡ option_map f (option_copied o)
+seen_behind : {A B : Type 0} (f : A → B) (o : Option (Bor A)) → option_map (λ (x : Bor A). f x.now) o ≡ option_map f (option_copied o)
 seen_behind f None = refl
 seen_behind f (Some x) = refl
+
+-- a reference to the first of some elements shows the first of what they are seen as
+pub first_seen : {A B : Type 0} (f : A → B) (xs : List A) (ys : List B) (o : Option (Bor A)) → option_copied o ≡ slice_get xs 0 → map f xs ≡ ys → option_map (λ (x : Bor A). f x.now) o ≡ slice_get ys 0
+first_seen f xs ys o e h = seen_behind f o ∙ ap (option_map f) e ∙ sym (slice_get-map f xs 0) ∙ ap (λ l. slice_get l 0) h
+
+-- what holds of all that they are seen as holds of it
+pub first_holds : {A B : Type 0} (P : B → Type 0) (f : A → B) (ys : List B) (o : Option (Bor A)) → option_map (λ (x : Bor A). f x.now) o ≡ slice_get ys 0 → All P ys → IfSome o (λ (x : Bor A). P (f x.now))
+first_holds P f ys None e h = tt
+first_holds P f [] (Some x) e h = cc
+first_holds P f (y ∷ ys) (Some x) e h = let same : f x.now ≡ y = cc in subst P (sym same) (h 0 y (omega arith))

@@ -9,7 +9,7 @@ returns c =
     let line = map string_bytes c.args.words.now in
     let run = c.run-status.ensures.runs in
     let done = printed_in_memory line c.new-shelf.result c.new-out.result c.run-status.new.out c.new-err.result c.run-status.new.err (mem_shelved c.run-status.new.shelf)
-        (ap (λ (o : SureText). o.written) c.new-out.ensures) (ap (λ (o : SureText). o.written) c.new-err.ensures)
+        (ap (λ (o : SureText). o.written) c.new-out.ensures) (ap (λ (o : SureText). o.wants) c.new-out.ensures) (ap (λ (o : SureText). o.written) c.new-err.ensures) (ap (λ (o : SureText). o.wants) c.new-err.ensures)
         (ap (λ (s : MemFiles). s.failing) c.new-shelf.ensures ∙ c.new.ensures.items) (ap (λ (s : MemFiles). s.failed) c.new-shelf.ensures) run.0 run.2 in
     let files = ap (λ (s : MemFiles). file_of s.files) c.new-shelf.ensures in
-    rw run.1 (subst (λ f. IsPrinted line f _ c.run-status.new.out.written c.run-status.new.err.written) files done)
+    rw run.1 (subst (λ f. IsPrinted line f _ c.run-status.new.out c.run-status.new.err) files done)
