@@ -5,6 +5,8 @@ use Rattle.std.specs.Result.{IsErrAnd}
 use Rattle.std.proofs.lemmas.Result.{err_from_is_err_and}
 use Rattle.lab_io.specs.declared.PutErr.{PutErr}
 use Rattle.lab_io.specs.Sink.{Text, Seen, Puts}
+use Rattle.lab_model.proofs.Steps.{then_ok}
+use Rattle.lab_model.specs.Steps.{◌>>=◌}
 use Rattle.lab_model.specs.declared.fault.Refusal.{Refusal}
 use Rattle.lab_model.specs.declared.fault.InputFault.{InputFault}
 use Rattle.lab_model.specs.declared.fault.InputFault.TheVariants.{Memory, Refused}
@@ -17,10 +19,8 @@ use Rattle.player_core.specs.Scene.{Task}
 use Rattle.labels.specs.Parts.{CertificateParts, ChainParts}
 use Rattle.labels.specs.declared.verdict.Verdict.{Verdict}
 use Rattle.labels.specs.declared.verdict.Verdict.TheVariants.{Yes, No}
-use Rattle.certificate_text.specs.Fields.{◌>>=◌}
 use Rattle.certificate_text.specs.Reading.{Place, Walks, certificate_of, chains_at, end_at, head_at}
 use Rattle.certificate_text.specs.Walk.{Walk, accepted, begun}
-use Rattle.certificate_text.proofs.FieldLaws.{bind_ok}
 use Rattle.certificate_text.specs.Walk.{rest_of}
 use Rattle.certificate_text.proofs.WalkLaws.{begun_rest, whole_of}
 use Rattle.certificate_check.specs.Verdict.{lines_verdict, verdict_of}
@@ -92,7 +92,7 @@ bad_judged i n (Refused why) e h = ((refl, refl, why, refl), rw (e, h) refl)
 pub misfit_judged : (i : InputValues) (n : Text × List Period) (why : Stop) → slice_get i.networks 0 ≡ Some n → settled i ≡ Err why → accepted i.certificate ≡ Ok tt → Judges i (Err (ending.Stopped why))
 unfolding check
 misfit_judged i n why e m a =
-    let x = bind_ok (certificate_of i.certificate) (λ cert. Ok tt) tt a in
+    let x = then_ok (certificate_of i.certificate) (λ cert. Ok tt) tt a in
     (late_setting of_a_check.checks i (misfit i.setup i.rules i.film) why m, rw (e, x.1, m) refl)
 
 -- then the verdict
@@ -100,7 +100,7 @@ pub verdict_judged : (i : InputValues) (n : Text × List Period) (g : Task) (w :
     → begun i.certificate ≡ Ok w → j.score ≡ w.head.score → lines_verdict g i.certificate ≡ Ok j.verdict → Judges i (Ok j)
 unfolding check
 verdict_judged i n g w j e fits task b score said =
-    let x = bind_ok (certificate_of i.certificate) (λ cert. Ok (verdict_of g cert cert.score)) j.verdict said in
+    let x = then_ok (certificate_of i.certificate) (λ cert. Ok (verdict_of g cert cert.score)) j.verdict said in
     let own : x.0.score ≡ j.score = sym (score ∙ score_is i.certificate w x.0 b x.1) in
     let told : verdict_of (task_on i n.1) x.0 x.0.score ≡ j.verdict = ap (λ t. verdict_of t x.0 x.0.score) (sym task) ∙ ok_same _ _ j.verdict refl x.2 in
     rw (e, x.1, fits) (ap (λ v. Ok (told_verdict x.0.score v)) told ∙ ap (λ z. Ok (told_verdict z j.verdict)) own)

@@ -15,7 +15,7 @@ use Rattle.labels.specs.Frontier.{frontier}
 use Rattle.labels.specs.Grid.{exact}
 use Rattle.player_core.specs.Scene.{Task, task_of}
 use Rattle.labels.specs.Parts.{CertificateParts}
-use Rattle.labels.specs.Read.{certificate_of, labels_before, labels_in}
+use Rattle.labels.specs.Read.{certificate_from, labels_before, labels_in}
 use Rattle.certificate_text.specs.Spelling.{spelling}
 use Rattle.abrlab_top.specs.declared.ending.Ending.TheVariants as ending
 use Rattle.abrlab_top.specs.Answer.{Outcome, printed, unless_stopped}
@@ -26,7 +26,7 @@ task_on i periods = task_of i.film periods i.setup all_ahead
 
 -- the certificate that is read off the frontiers of a task
 abbrev pub certificate_on : Task → CertificateParts
-certificate_on g = certificate_of exact g (frontier g)
+certificate_on g = certificate_from exact g (frontier g)
 
 -- the number of labels in the frontiers of a task
 abbrev pub labels_on : Task → ℕ

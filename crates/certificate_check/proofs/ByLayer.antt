@@ -2,6 +2,8 @@
 use Rattle.std.proofs.Common.{◌≡◌, ◌∙◌, ℕ, ℤ, ◌+◌, ◌*◌, ◌<◌, ◌≤◌, List, [], ◌++◌, length, map, get_or, Option, Some, None, Result, Ok, Err, refl, sym, ap, subst, append_assoc, length-append, arith}
 use Rattle.std.proofs.lemmas.List.{get_or-append-add, get_or_append_left, length-map}
 use Rattle.std.proofs.lemmas.Nat.{div-mul-add}
+use Rattle.lab_model.proofs.Steps.{then_ok}
+use Rattle.lab_model.specs.Steps.{◌>>=◌}
 use Rattle.lab_model.specs.Reading.{Fails}
 use Rattle.lab_model.proofs.Refusals.{fails_on}
 use Rattle.lab_model.specs.declared.fault.InputFault.{InputFault}
@@ -14,12 +16,10 @@ use Rattle.labels.specs.Valid.{no_chain}
 use Rattle.certificate_text.specs.declared.certificate.Layer.{Layer}
 use Rattle.labels.specs.declared.verdict.Verdict.{Verdict}
 use Rattle.labels.specs.declared.verdict.Verdict.TheVariants.{Yes}
-use Rattle.certificate_text.specs.Fields.{◌>>=◌}
 use Rattle.labels.specs.Form.{AreChains, IsChain, IsHead, label_count, names_per}
 use Rattle.certificate_text.specs.Reading.{Place, certificate_of}
 use Rattle.certificate_text.specs.Walk.{IsBegun, Walk, begun, layer_of, layer_parts, prepended, rest_of}
 use Rattle.certificate_text.proofs.CertificateLaws.{chains_take}
-use Rattle.certificate_text.proofs.FieldLaws.{bind_ok}
 use Rattle.certificate_text.proofs.Loops.{ok_is}
 use Rattle.certificate_text.proofs.HeadLaws.{certificate_takes, head_takes}
 use Rattle.certificate_text.proofs.WalkLaws.{begins, begun_rest, layer_ends, layer_reads, rest_more, rest_stopped, whole_of}
@@ -28,7 +28,7 @@ use Rattle.certificate_check.specs.Scheme.{both}
 use Rattle.certificate_check.specs.Clauses.{counts_verdict, ends_verdict, chains_by_rung, names_verdict, plan_verdict, ranges_verdict, score_verdict, starts_held, starts_verdict}
 use Rattle.certificate_check.specs.Layers.{AreBoth, IsLayer, IsLayerOf, MayEnd}
 use Rattle.certificate_check.specs.Verdict.{SaysValid, bounded_verdict, lines_verdict, verdict_of}
-use Rattle.certificate_check.proofs.Progress.{StandsFor, are_both, may_end, stands_first, stands_last, stands_more}
+use Rattle.certificate_check.proofs.Progress.{HasFound, are_both, may_end, stands_first, stands_last, stands_more}
 use Rattle.certificate_check.proofs.Slices.{count_at, form_at}
 use Rattle.certificate_check.proofs.Sound.{valid_accepted, yes_certifies}
 use Rattle.certificate_check.proofs.Verdicts.{per_inside, per_last, yes_valid}
@@ -77,7 +77,7 @@ pub record StandsAt (g : Task) (first w : Walk) (i : ℕ) (here : List Chain) (f
   pub long : length here ≡ first.head.rungs
   pub form : IsLayer (names_per first.head.segments first.head.rungs i) here
   -- whatever chains come later
-  pub stands : (more : List ChainParts) → StandsFor g (with_chains first.head (before ++ (map chain_parts here ++ more))) i f
+  pub stands : (more : List ChainParts) → HasFound g (with_chains first.head (before ++ (map chain_parts here ++ more))) i f
 
 -- what is known of a layer that was read
 pub record LayerRead (w v : Walk) (i : ℕ) (here : List Chain) : Type 0 where
@@ -195,7 +195,7 @@ stands_on g first w v i here next f h begun inside s read ranges claims =
           stands_more g c i here next f h inside
           (subst (λ (cs : List ChainParts). IsLayerOf (with_chains first.head cs) i here) same (layer_there first.head s.before (map chain_parts next ++ more) i here past long))
           (layer_there first.head (s.before ++ map chain_parts here) more (i + 1) next later next_long)
-          (subst (λ (cs : List ChainParts). StandsFor g (with_chains first.head cs) i f) same (s.stands (map chain_parts next ++ more))) ranges claims;
+          (subst (λ (cs : List ChainParts). HasFound g (with_chains first.head cs) i f) same (s.stands (map chain_parts next ++ more))) ranges claims;
     }
   where
     prepended_twice : (front more : List ChainParts) (read : Result (List ChainParts) Refusal) → prepended front (prepended more read) ≡ prepended (front ++ more) read
@@ -263,7 +263,7 @@ at_end g first w v i here f None last s h = (layer_ends w v h).1
 
 -- what was read is the whole
 whole_read : (g : Task) (bytes : List ℕ) (first w v : Walk) (i : ℕ) (here : List Chain) (f : Found) (layer : Option Layer) → begun bytes ≡ Ok first → i + 1 ≡ first.head.segments → StandsAt g first w i here f
-    → layer_of w ≡ Ok (layer_parts layer, v) → (s : List ChainParts) × (certificate_of bytes ≡ Ok (with_chains first.head s)) × StandsFor g (with_chains first.head s) i f × IsLayerOf (with_chains first.head s) i here
+    → layer_of w ≡ Ok (layer_parts layer, v) → (s : List ChainParts) × (certificate_of bytes ≡ Ok (with_chains first.head s)) × HasFound g (with_chains first.head s) i f × IsLayerOf (with_chains first.head s) i here
 whole_read g bytes first w v i here f layer is last s h = (
   s.before ++ (map chain_parts here ++ []),
   begun_rest bytes first is ∙ ap (whole_of first.head) (s.rest ∙ ap (prepended (s.before ++ map chain_parts here)) (at_end g first w v i here f layer last s h))
@@ -299,8 +299,8 @@ said_valid g bytes bound v said c is =
 -- a Yes proves what the head claims
 pub yes_said : (g : Task) (bytes : List ℕ) (bound : ℤ) (first : Walk) → IsTask g → begun bytes ≡ Ok first → bounded_verdict g bytes bound ≡ Ok Yes → Settles g first.head.plan first.head.score bound
 yes_said g bytes bound first is begun said =
-    let read = bind_ok (certificate_of bytes) (λ c. Ok (verdict_of g c bound)) Yes said in
-    let whole = bind_ok (rest_of first) (λ cs. Ok (with_chains first.head cs)) read.0 (sym (begun_rest bytes first begun) ∙ read.1) in
+    let read = then_ok (certificate_of bytes) (λ c. Ok (verdict_of g c bound)) Yes said in
+    let whole = then_ok (rest_of first) (λ cs. Ok (with_chains first.head cs)) read.0 (sym (begun_rest bytes first begun) ∙ read.1) in
     let same : with_chains first.head whole.0 ≡ read.0 = ok_is (with_chains first.head whole.0) read.0 whole.2 in
     let own : verdict_of g read.0 bound ≡ Yes = ok_is (verdict_of g read.0 bound) Yes read.2 in
     subst (λ (c : CertificateParts). Settles g c.plan c.score bound) (sym same) (yes_certifies g read.0 bound is (certificate_takes bytes read.0 read.1).0 own)

@@ -3,8 +3,9 @@ use Rattle.std.proofs.Common.{◌≡◌, ℕ, ◌<◌, ◌≤◌, true, List, ar
 use Rattle.std.specs.Prelude.{ℤ, nat_le, nat_lt, slice_index}
 use Rattle.std.proofs.lemmas.Bool.{and_parts, leb-true, ltb-true}
 use Rattle.std.proofs.lemmas.Int.{ints}
+use Rattle.lab_model.specs.Number.{IsNear}
 use Rattle.lab_model.specs.declared.label.Label.{Label}
-use Rattle.labels.specs.Near.{CanFollow, IsNear, farthest_ms}
+use Rattle.labels.specs.Near.{CanFollow, farthest_ms}
 use Rattle.labels.specs.Parts.{ChainParts}
 use Rattle.labels.specs.Read.{no_label}
 use Rattle.labels.specs.declared.verdict.Verdict.TheVariants.{Yes}

@@ -52,7 +52,7 @@ held_agree g rungs starts a b here =
 -- ---- the layers of a certificate
 
 -- what was found stands for so many segments of the certificate, whose next one has come
-pub record StandsFor (g : Task) (c : CertificateParts) (n : ℕ) (f : Found) : Type 0 where
+pub record HasFound (g : Task) (c : CertificateParts) (n : ℕ) (f : Found) : Type 0 where
   pub ranges : f.ranges ≡ ranges_up_to g c n
   pub claims : f.ranges ≡ Yes → f.claims ≡ claims_up_to g c n
 
@@ -112,7 +112,7 @@ claims_next g c n =
 pub stands_first : (g : Task) (c : CertificateParts) (head : Verdict) (first : List Chain) (f : Found) → length c.starts ≡ c.rungs → IsLayerOf c 0 first
     → head ≡ both (counts_verdict g c.table c.segments c.rungs) (plan_verdict c.segments c.rungs c.plan)
     → f.ranges ≡ both head (starts_verdict (length c.starts) c.starts (chains_by_rung first))
-    → (f.ranges ≡ Yes → f.claims ≡ starts_held g (length c.starts) c.starts (chains_by_rung first)) → StandsFor g c 0 f
+    → (f.ranges ≡ Yes → f.claims ≡ starts_held g (length c.starts) c.starts (chains_by_rung first)) → HasFound g c 0 f
 unfolding ranges_up_to claims_up_to
 stands_first g c head first f long h is ranges claims =
     let v1 = counts_verdict g c.table c.segments c.rungs in
@@ -126,9 +126,9 @@ stands_first g c head first f long h is ranges claims =
     }
 
 -- after one more
-pub stands_more : (g : Task) (c : CertificateParts) (i : ℕ) (here next : List Chain) (f h : Found) → i + 1 < c.segments → IsLayerOf c i here → IsLayerOf c (i + 1) next → StandsFor g c i f
+pub stands_more : (g : Task) (c : CertificateParts) (i : ℕ) (here next : List Chain) (f h : Found) → i + 1 < c.segments → IsLayerOf c i here → IsLayerOf c (i + 1) next → HasFound g c i f
     → h.ranges ≡ both f.ranges (ranges_verdict (length next) (length here) i (chains_by_rung here) (chains_by_rung next))
-    → (h.ranges ≡ Yes → h.claims ≡ both f.claims (names_verdict g (length next) (length here) i (chains_by_rung here) (chains_by_rung next))) → StandsFor g c (i + 1) h
+    → (h.ranges ≡ Yes → h.claims ≡ both f.claims (names_verdict g (length next) (length here) i (chains_by_rung here) (chains_by_rung next))) → HasFound g c (i + 1) h
 stands_more g c i here next f h inside own more s ranges claims =
     record {
       ranges = ranges ∙ ap₂ both s.ranges (ranges_of c i here next inside own more) ∙ ranges_next g c i;
@@ -136,7 +136,7 @@ stands_more g c i here next f h inside own more s ranges claims =
     }
 
 -- after the last
-pub stands_last : (g : Task) (c : CertificateParts) (bound : ℤ) (i : ℕ) (last : List Chain) (f : Found) (v : Verdict) → i + 1 ≡ c.segments → IsLayerOf c i last → StandsFor g c i f
+pub stands_last : (g : Task) (c : CertificateParts) (bound : ℤ) (i : ℕ) (last : List Chain) (f : Found) (v : Verdict) → i + 1 ≡ c.segments → IsLayerOf c i last → HasFound g c i f
     → v ≡ both (both f.ranges (ranges_verdict 0 (length last) i (chains_by_rung last) (chains_by_rung []))) (both f.claims (both (ends_verdict g bound (length last) i (chains_by_rung last)) (score_verdict g c.plan c.score)))
     → v ≡ verdict_of g c bound
 unfolding verdict_of ends_in
@@ -154,19 +154,19 @@ stands_last g c bound i last f v end own s is =
 -- ---- what a Yes so far says
 
 -- the counts are the film's
-pub counts_so_far : (g : Task) (c : CertificateParts) (n : ℕ) (f : Found) → StandsFor g c n f → f.ranges ≡ Yes → (c.segments ≡ segments_of g.film) × (c.rungs ≡ rungs_of g.film)
+pub counts_so_far : (g : Task) (c : CertificateParts) (n : ℕ) (f : Found) → HasFound g c n f → f.ranges ≡ Yes → (c.segments ≡ segments_of g.film) × (c.rungs ≡ rungs_of g.film)
 unfolding ranges_up_to
 counts_so_far g c n f s passed = let h = counts_match g c (both_first (counts_verdict g c.table c.segments c.rungs) _ (sym s.ranges ∙ passed)) in (h.segments, h.rungs)
 
 -- the next two layers may be tested
-pub are_both : (g : Task) (c : CertificateParts) (i : ℕ) (here next : List Chain) (f : Found) → i + 1 < c.segments → IsLayerOf c i here → IsLayerOf c (i + 1) next → StandsFor g c i f → f.ranges ≡ Yes → AreBoth g i here next
+pub are_both : (g : Task) (c : CertificateParts) (i : ℕ) (here next : List Chain) (f : Found) → i + 1 < c.segments → IsLayerOf c i here → IsLayerOf c (i + 1) next → HasFound g c i f → f.ranges ≡ Yes → AreBoth g i here next
 are_both g c i here next f inside own more s passed =
     let h = counts_so_far g c i f s passed in
     let segments = h.0 in
     record { segment = omega (arith, inside, segments); rungs = own.count ∙ h.1; next_rungs = more.count ∙ h.1 }
 
 -- the last layer and the plan may be tested
-pub may_end : (g : Task) (c : CertificateParts) (i : ℕ) (last : List Chain) (f : Found) → i + 1 ≡ c.segments → length c.plan ≡ c.segments → IsLayerOf c i last → StandsFor g c i f → f.ranges ≡ Yes → MayEnd g i last c.plan
+pub may_end : (g : Task) (c : CertificateParts) (i : ℕ) (last : List Chain) (f : Found) → i + 1 ≡ c.segments → length c.plan ≡ c.segments → IsLayerOf c i last → HasFound g c i f → f.ranges ≡ Yes → MayEnd g i last c.plan
 unfolding ranges_up_to
 may_end g c i last f end long own s passed =
     let h = counts_so_far g c i f s passed in

@@ -1,12 +1,12 @@
 -- The verdict on a certificate: the first failing clause, each over the whole certificate, with the first place where it fails.
 use Rattle.std.specs.Prelude.{◌≡◌, ◌↔◌, ℕ, ◌+◌, ◌-◌, ℤ, List, Result, Ok}
+use Rattle.lab_model.specs.Steps.{◌>>=◌}
 use Rattle.lab_model.specs.declared.fault.Refusal.{Refusal}
 use Rattle.player_core.specs.Scene.{Task}
 use Rattle.labels.specs.Parts.{CertificateParts}
 use Rattle.labels.specs.Valid.{IsValid, chain_in}
 use Rattle.labels.specs.declared.verdict.Verdict.{Verdict}
 use Rattle.labels.specs.declared.verdict.Verdict.TheVariants.{Yes}
-use Rattle.certificate_text.specs.Fields.{◌>>=◌}
 use Rattle.labels.specs.Form.{names_per}
 use Rattle.certificate_text.specs.Reading.{certificate_of}
 use Rattle.certificate_check.specs.Scheme.{both, first_no}

@@ -35,27 +35,27 @@ fn next_layer(lines: &mut Lines<'_>) -> Result<Layer, InputFault>
 ///
 /// The faults are those of the lines, and come before any verdict. It holds two layers at a time.
 pub fn check_lines_from(
-    m: &Manifest,
+    film: &Manifest,
     clock: &Clock,
-    set: &Setup,
+    setup: &Setup,
     ahead: u32,
     lines: Lines<'_>,
     bound: i128,
 ) -> Result<Verdict, InputFault>
-    requires setup { SetupFits set.now m.now }
+    requires setup { SetupFits setup.now film.now }
     requires ahead { ahead ≤ 120000000 }
     requires begun { IsBegun lines }
     // A bad line comes first, then the verdict on the whole certificate.
     ensures verdict { (bytes : List ℕ) → begun bytes ≡ Ok lines.entry → Gives (λ v. v) result
-        (bounded_verdict (task_of m.now clock.now set.now ahead) bytes bound) }
+        (bounded_verdict (task_of film.now clock.now setup.now ahead) bytes bound) }
     ensures valid { (bytes : List ℕ) → begun bytes ≡ Ok lines.entry → IfOk result
-        (SaysValid (task_of m.now clock.now set.now ahead) bytes bound) }
+        (SaysValid (task_of film.now clock.now setup.now ahead) bytes bound) }
     // A yes proves that the rung list has the score, and that no rung list has a value above the bound.
     ensures sound { IfOk result (λ v. v ≡ Yes →
-        Settles (task_of m.now clock.now set.now ahead) lines.entry.head.plan
+        Settles (task_of film.now clock.now setup.now ahead) lines.entry.head.plan
         lines.entry.head.score bound) }
 {
-    let checker = Checker::new(m, clock, set, ahead);
+    let checker = Checker::new(film, clock, setup, ahead);
     let mut lines = lines;
     let head = checker.head_verdict(lines.table(), lines.segments(), lines.rungs(), lines.plan());
     let last = lines.segments() - 1;
@@ -75,21 +75,21 @@ pub fn check_lines_from(
 /// The verdict for a film on demand on a certificate that is read layer by layer, with its own score as the bound: see
 /// `check_lines_from`.
 pub fn check_lines(
-    m: &Manifest,
+    film: &Manifest,
     clock: &Clock,
-    set: &Setup,
+    setup: &Setup,
     lines: Lines<'_>,
 ) -> Result<Verdict, InputFault>
-    requires setup { SetupFits set.now m.now }
+    requires setup { SetupFits setup.now film.now }
     requires begun { IsBegun lines }
     ensures verdict { (bytes : List ℕ) → begun bytes ≡ Ok lines.entry → Gives (λ v. v) result
-        (lines_verdict (task_of m.now clock.now set.now all_ahead) bytes) }
+        (lines_verdict (task_of film.now clock.now setup.now all_ahead) bytes) }
     ensures valid { (bytes : List ℕ) → begun bytes ≡ Ok lines.entry → IfOk result
-        (SaysValid (task_of m.now clock.now set.now all_ahead) bytes lines.entry.head.score) }
+        (SaysValid (task_of film.now clock.now setup.now all_ahead) bytes lines.entry.head.score) }
     ensures sound { IfOk result (λ v. v ≡ Yes →
-        Settles (task_of m.now clock.now set.now all_ahead) lines.entry.head.plan
+        Settles (task_of film.now clock.now setup.now all_ahead) lines.entry.head.plan
         lines.entry.head.score lines.entry.head.score) }
 {
     let score = lines.score();
-    check_lines_from(m, clock, set, ALL_AHEAD, lines, score)
+    check_lines_from(film, clock, setup, ALL_AHEAD, lines, score)
 }

@@ -47,14 +47,14 @@ pub(crate) struct Found {
 
 impl<'a> Checker<'a> {
     /// The checker against these. The setup fits the film, and the media ahead are at most 120000000 ms.
-    pub fn new(m: &'a Manifest, clock: &'a Clock, set: &'a Setup, ahead: u32) -> Checker<'a>
-        requires setup { SetupFits set.now m.now }
+    pub fn new(film: &'a Manifest, clock: &'a Clock, setup: &'a Setup, ahead: u32) -> Checker<'a>
+        requires setup { SetupFits setup.now film.now }
         requires ahead { ahead ≤ 120000000 }
-        ensures value { result ≡ task_of m.entry.now clock.entry.now set.entry.now ahead }
+        ensures value { result ≡ task_of film.entry.now clock.entry.now setup.entry.now ahead }
         ensures task { IsTask result }
     {
         Checker {
-            scene: Scene::new(m, clock, set, ahead),
+            scene: Scene::new(film, clock, setup, ahead),
         }
     }
 

@@ -63,58 +63,58 @@ fn verdict_on(checker: &Checker<'_>, cert: &Certificate, bound: i128) -> Verdict
 /// A yes means that the certificate's rung list has its score, and that no rung list has a value above the bound,
 /// whoever made the certificate. It takes no memory.
 pub fn check_from(
-    m: &Manifest,
+    film: &Manifest,
     clock: &Clock,
-    set: &Setup,
+    setup: &Setup,
     ahead: u32,
     cert: &Certificate,
     bound: i128,
 ) -> Verdict
-    requires setup { SetupFits set.now m.now }
+    requires setup { SetupFits setup.now film.now }
     requires ahead { ahead ≤ 120000000 }
     requires form { IsCertificate (certificate_parts cert.now) }
     ensures verdict { result ≡
-        verdict_of (task_of m.now clock.now set.now ahead) (certificate_parts cert.now) bound }
+        verdict_of (task_of film.now clock.now setup.now ahead) (certificate_parts cert.now) bound }
     ensures valid { (result ≡ Yes) ↔
-        IsValid (task_of m.now clock.now set.now ahead) (certificate_parts cert.now) bound }
+        IsValid (task_of film.now clock.now setup.now ahead) (certificate_parts cert.now) bound }
     ensures sound { result ≡ Yes →
-        Settles (task_of m.now clock.now set.now ahead) cert.now.plan.items cert.now.score bound }
+        Settles (task_of film.now clock.now setup.now ahead) cert.now.plan.items cert.now.score bound }
 {
-    let checker = Checker::new(m, clock, set, ahead);
+    let checker = Checker::new(film, clock, setup, ahead);
     verdict_on(&checker, cert, bound)
 }
 
 /// The verdict for a film on demand: see `check_from`.
 pub fn check_bound(
-    m: &Manifest,
+    film: &Manifest,
     clock: &Clock,
-    set: &Setup,
+    setup: &Setup,
     cert: &Certificate,
     bound: i128,
 ) -> Verdict
-    requires setup { SetupFits set.now m.now }
+    requires setup { SetupFits setup.now film.now }
     requires form { IsCertificate (certificate_parts cert.now) }
     ensures verdict { result ≡
-        verdict_of (task_of m.now clock.now set.now all_ahead) (certificate_parts cert.now) bound }
+        verdict_of (task_of film.now clock.now setup.now all_ahead) (certificate_parts cert.now) bound }
     ensures valid { (result ≡ Yes) ↔
-        IsValid (task_of m.now clock.now set.now all_ahead) (certificate_parts cert.now) bound }
-    ensures sound { result ≡ Yes → Settles (task_of m.now clock.now set.now all_ahead)
+        IsValid (task_of film.now clock.now setup.now all_ahead) (certificate_parts cert.now) bound }
+    ensures sound { result ≡ Yes → Settles (task_of film.now clock.now setup.now all_ahead)
         cert.now.plan.items cert.now.score bound }
 {
-    check_from(m, clock, set, ALL_AHEAD, cert, bound)
+    check_from(film, clock, setup, ALL_AHEAD, cert, bound)
 }
 
 /// The verdict for a film on demand, with the certificate's own score as the bound. A yes means that its rung list
 /// has its score, and that no rung list has a greater value.
-pub fn check(m: &Manifest, clock: &Clock, set: &Setup, cert: &Certificate) -> Verdict
-    requires setup { SetupFits set.now m.now }
+pub fn check(film: &Manifest, clock: &Clock, setup: &Setup, cert: &Certificate) -> Verdict
+    requires setup { SetupFits setup.now film.now }
     requires form { IsCertificate (certificate_parts cert.now) }
-    ensures verdict { result ≡ verdict_of (task_of m.now clock.now set.now all_ahead)
+    ensures verdict { result ≡ verdict_of (task_of film.now clock.now setup.now all_ahead)
         (certificate_parts cert.now) cert.now.score }
-    ensures valid { (result ≡ Yes) ↔ IsValid (task_of m.now clock.now set.now all_ahead)
+    ensures valid { (result ≡ Yes) ↔ IsValid (task_of film.now clock.now setup.now all_ahead)
         (certificate_parts cert.now) cert.now.score }
-    ensures sound { result ≡ Yes → Settles (task_of m.now clock.now set.now all_ahead)
+    ensures sound { result ≡ Yes → Settles (task_of film.now clock.now setup.now all_ahead)
         cert.now.plan.items cert.now.score cert.now.score }
 {
-    check_bound(m, clock, set, cert, cert.score)
+    check_bound(film, clock, setup, cert, cert.score)
 }

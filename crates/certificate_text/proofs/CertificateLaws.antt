@@ -6,18 +6,20 @@ use Rattle.std.proofs.lemmas.List.{drop_at, length-drop, length-take, take_at, t
 use Rattle.std.proofs.lemmas.List.Concat.{flat_map-append}
 use Rattle.std.proofs.lemmas.List.Elements.{All-append, All-cons, All-drop, All-head, All-nil, All-tail, All-take}
 use Rattle.std.proofs.Math.Nat.{div-le_self, mod-lt}
+use Rattle.lab_model.proofs.Steps.{then_ok}
+use Rattle.lab_model.specs.Steps.{◌>>=◌}
 use Rattle.lab_model.specs.declared.label.Label.{Label}
 use Rattle.lab_io.specs.Sink.{Text}
 use Rattle.lab_io.specs.Piece.{fields_line}
 use Rattle.labels.specs.Parts.{ChainParts}
-use Rattle.certificate_text.specs.Fields.{◌>>=◌, value_if}
+use Rattle.certificate_text.specs.Fields.{value_if}
 use Rattle.labels.specs.Form.{HasDigits, place_digits, AreChains, IsChain, IsSpelled, label_count, names_per}
 use Rattle.certificate_text.specs.Line.{Holds, Values, values_at}
 use Rattle.certificate_text.specs.Grammar.{label_line, layer_line}
 use Rattle.certificate_text.specs.Reading.{Place, chain_at, chains_at, joined, label_at, labels_at, layer_at}
 use Rattle.certificate_text.specs.Spelling.{chain_lines, chains_lines, label_fields, label_lines, layer_fields, lines_text}
 use Rattle.certificate_text.proofs.Loops.{given, ok_is}
-use Rattle.certificate_text.proofs.FieldLaws.{bind_ok, value_if_ok}
+use Rattle.certificate_text.proofs.FieldLaws.{value_if_ok}
 use Rattle.certificate_text.proofs.LineLaws.{IsSpellable, line_again, line_takes}
 
 -- where a reader stands
@@ -50,7 +52,7 @@ record TakesLabel (per : ℕ) (bytes : Text) (x : ChainParts × Text) : Type 0 w
 label_takes : (row per : ℕ) (bytes : Text) (x : ChainParts × Text) → label_at row per bytes ≡ Ok x → TakesLabel per bytes x
 unfolding label_at
 label_takes row per bytes x h =
-    let l = bind_ok (values_at row (label_line per) bytes) (λ label. Ok (one_label (label_of per label.0) label.0.1.1.1, label.1)) x h in
+    let l = then_ok (values_at row (label_line per) bytes) (λ label. Ok (one_label (label_of per label.0) label.0.1.1.1, label.1)) x h in
     let t = line_takes row (label_line per) bytes l.0 (can_label per) (omega arith) l.1 in
     subst (λ (y : ChainParts × Text). TakesLabel per bytes y) (ok_is (one_label (label_of per l.0.0) l.0.0.1.1.1, l.0.1) x l.2) (record {
       label = label_of per l.0.0;
@@ -88,8 +90,8 @@ labels_take row per zero bytes x h =
     subst (λ (y : ChainParts × Text). TakesLabels per 0 bytes y) (ok_is (none, bytes) x h)
     (record { text = refl; count_is = refl; chain = record { labels = All-nil IsSpelled; whole = omega arith; names = All-nil (HasDigits place_digits) } })
 labels_take row per (suc more) bytes x h =
-    let one = bind_ok (label_at row per bytes) (λ one. labels_at (row + 1) per more one.1 >>= λ others. Ok (joined one.0 others.0, others.1)) x h in
-    let others = bind_ok (labels_at (row + 1) per more one.0.1) (λ others. Ok (joined one.0.0 others.0, others.1)) x one.2 in
+    let one = then_ok (label_at row per bytes) (λ one. labels_at (row + 1) per more one.1 >>= λ others. Ok (joined one.0 others.0, others.1)) x h in
+    let others = then_ok (labels_at (row + 1) per more one.0.1) (λ others. Ok (joined one.0.0 others.0, others.1)) x one.2 in
     let t = label_takes row per bytes one.0 one.1 in
     let ts = labels_take (row + 1) per more one.0.1 others.0 others.1 in
     let whole : (joined (one_label t.label t.own) others.0.0, others.0.1) ≡ x = ap (λ (c : ChainParts). (joined c others.0.0, others.0.1)) (sym t.alone) ∙ ok_is (joined one.0.0 others.0.0, others.0.1) x others.2 in
@@ -142,7 +144,7 @@ can_layer segment rung = (refl, ((lit≤ tt, lit≤ tt), tt))
 layer_takes : (row segment rung left : ℕ) (bytes : Text) (x : ℕ × Text) → layer_at row segment rung left bytes ≡ Ok x → (bytes ≡ fields_line (layer_fields segment rung x.0) ++ x.1) × (x.0 ≤ left)
 unfolding layer_at
 layer_takes row segment rung left bytes x h =
-    let n = bind_ok (values_at row (layer_line segment rung) bytes) (λ count. value_if row (nat_le count.0.0 left) (count.0.0, count.1)) x h in
+    let n = then_ok (values_at row (layer_line segment rung) bytes) (λ count. value_if row (nat_le count.0.0 left) (count.0.0, count.1)) x h in
     let p = value_if_ok row (nat_le n.0.0.0 left) (n.0.0.0, n.0.1) x n.2 in
     let t = line_takes row (layer_line segment rung) bytes n.0 (can_layer segment rung) (lit≤ tt) n.1 in
     subst (λ (y : ℕ × Text). (bytes ≡ fields_line (layer_fields segment rung y.0) ++ y.1) × (y.0 ≤ left)) p.1 (t.text, grind (arith, nat_tests, p.0))
@@ -163,8 +165,8 @@ record TakesChain (per segment rung : ℕ) (p : Place) (x : ChainParts × Place)
 chain_takes : (per segment rung : ℕ) (p : Place) (x : ChainParts × Place) → chain_at per segment rung p ≡ Ok x → TakesChain per segment rung p x
 unfolding chain_at
 chain_takes per segment rung p x h =
-    let n = bind_ok (layer_at p.row segment rung p.left p.rest) (λ count. labels_at (p.row + 1) per count.0 count.1 >>= λ chain. Ok (chain.0, place (p.row + 1 + count.0) (p.left - count.0) chain.1)) x h in
-    let c = bind_ok (labels_at (p.row + 1) per n.0.0 n.0.1) (λ chain. Ok (chain.0, place (p.row + 1 + n.0.0) (p.left - n.0.0) chain.1)) x n.2 in
+    let n = then_ok (layer_at p.row segment rung p.left p.rest) (λ count. labels_at (p.row + 1) per count.0 count.1 >>= λ chain. Ok (chain.0, place (p.row + 1 + count.0) (p.left - count.0) chain.1)) x h in
+    let c = then_ok (labels_at (p.row + 1) per n.0.0 n.0.1) (λ chain. Ok (chain.0, place (p.row + 1 + n.0.0) (p.left - n.0.0) chain.1)) x n.2 in
     let tn = layer_takes p.row segment rung p.left p.rest n.0 n.1 in
     let tc = labels_take (p.row + 1) per n.0.0 n.0.1 c.0 c.1 in
     subst (λ (y : ChainParts × Place). TakesChain per segment rung p y) (ok_is (c.0.0, place (p.row + 1 + n.0.0) (p.left - n.0.0) c.0.1) x c.2) (record {
@@ -201,8 +203,8 @@ chains_take segments rungs number zero p x h =
     subst (λ (y : List ChainParts × Place). TakesChains segments rungs number 0 p y) (ok_is ([], p) x h) (record { text = refl; count_is = refl; chains = tt; left = omega arith })
 chains_take segments rungs number (suc more) p x h =
     let own = chain_lines (names_per segments rungs (number / rungs)) (number / rungs) (number % rungs) in
-    let one = bind_ok (chain_at (names_per segments rungs (number / rungs)) (number / rungs) (number % rungs) p) (λ chain. chains_at segments rungs (number + 1) more chain.1 >>= λ others. Ok (chain.0 ∷ others.0, others.1)) x h in
-    let others = bind_ok (chains_at segments rungs (number + 1) more one.0.1) (λ others. Ok (one.0.0 ∷ others.0, others.1)) x one.2 in
+    let one = then_ok (chain_at (names_per segments rungs (number / rungs)) (number / rungs) (number % rungs) p) (λ chain. chains_at segments rungs (number + 1) more chain.1 >>= λ others. Ok (chain.0 ∷ others.0, others.1)) x h in
+    let others = then_ok (chains_at segments rungs (number + 1) more one.0.1) (λ others. Ok (one.0.0 ∷ others.0, others.1)) x one.2 in
     let t = chain_takes (names_per segments rungs (number / rungs)) (number / rungs) (number % rungs) p one.0 one.1 in
     let ts = chains_take segments rungs (number + 1) more one.0.1 others.0 others.1 in
     subst (λ (y : List ChainParts × Place). TakesChains segments rungs number (suc more) p y) (ok_is (one.0.0 ∷ others.0.0, others.0.1) x others.2) (record {

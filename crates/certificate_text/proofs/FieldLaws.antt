@@ -13,22 +13,19 @@ use Rattle.std.proofs.lemmas.List.Sums.{position_or_len_is}
 use Rattle.std.proofs.lemmas.Slice.Eq.{bytes_eq-Decides}
 use Rattle.std.proofs.Math.Nat.{pow-le-pow_right}
 use Rattle.std.proofs.Math.Seq.{get_or-append_seam}
+use Rattle.lab_model.proofs.Steps.{then_ok}
+use Rattle.lab_model.specs.Steps.{◌>>=◌}
 use Rattle.lab_model.specs.declared.fault.Refusal.{Refusal}
 use Rattle.lab_io.specs.Sink.{Text}
 use Rattle.lab_io.specs.Number.{numeral}
 use Rattle.lab_io.specs.Piece.{later_fields}
 use Rattle.lab_io.proofs.Numbers.{decimal-spelling, digit_at, numeral-decimal, numeral-takes}
 use Rattle.lab_model.specs.Film.{IsWithin}
-use Rattle.certificate_text.specs.Fields.{◌>>=◌, field_at, known_at, negative, number_at, numbers_at, parted, value_if, signed_at, signed_of, some_at, stop_before, unsigned_of, within_at, word_at}
+use Rattle.certificate_text.specs.Fields.{field_at, known_at, negative, number_at, numbers_at, parted, value_if, signed_at, signed_of, some_at, stop_before, unsigned_of, within_at, word_at}
 use Rattle.labels.specs.Form.{HasDigits, HasSignedDigits, place_digits}
 use Rattle.certificate_text.proofs.Loops.{given, ok_is}
 
 -- ---- steps
-
--- the value of a step that was not refused
-pub bind_ok : {X Y : Type 0} (r : Result X Refusal) (f : X → Result Y Refusal) (y : Y) → (r >>= f) ≡ Ok y → (x : X) × (r ≡ Ok x) × (f x ≡ Ok y)
-bind_ok (Ok x) f y h = (x, refl, h)
-bind_ok (Err e) f y h = absurd cc
 
 -- a test that passed
 pub value_if_ok : {X : Type 0} (row : ℕ) (b : Bool) (x y : X) → value_if row b x ≡ Ok y → (b ≡ true) × (x ≡ y)
@@ -98,7 +95,7 @@ bytes_eq-same x y h = (bytes_eq-Decides x y).0 h
 pub word_takes : (row : ℕ) (word : Text) (stop : ℕ) (bytes rest : Text) → word_at row word stop bytes ≡ Ok rest → bytes ≡ word ++ stop ∷ rest
 unfolding word_at
 word_takes row word stop bytes rest h =
-    let f = bind_ok (field_at row stop bytes) (λ field. value_if row (bytes_eq field.0 word) field.1) rest h in
+    let f = then_ok (field_at row stop bytes) (λ field. value_if row (bytes_eq field.0 word) field.1) rest h in
     let p = value_if_ok row (bytes_eq f.0.0 word) f.0.1 rest f.2 in
     let t = field_takes row stop bytes f.0 f.1 in
     let e : f.0.0 ≡ word = bytes_eq-same f.0.0 word p.0 in
@@ -138,8 +135,8 @@ decimal_free stop n low lt = digits_free stop (decimal n) (omega arith) (decimal
 pub number_takes : (row digits stop : ℕ) (bytes : Text) (x : ℕ × Text) → digits ≤ 64 → number_at row digits stop bytes ≡ Ok x → (bytes ≡ decimal x.0 ++ stop ∷ x.1) × HasDigits digits x.0
 unfolding number_at
 number_takes row digits stop bytes x short h =
-    let f = bind_ok (field_at row stop bytes) (λ field. some_at row (numeral digits field.0) >>= λ n. Ok (n, field.1)) x h in
-    let n = bind_ok (some_at row (numeral digits f.0.0)) (λ n. Ok (n, f.0.1)) x f.2 in
+    let f = then_ok (field_at row stop bytes) (λ field. some_at row (numeral digits field.0) >>= λ n. Ok (n, field.1)) x h in
+    let n = then_ok (some_at row (numeral digits f.0.0)) (λ n. Ok (n, f.0.1)) x f.2 in
     let t = field_takes row stop bytes f.0 f.1 in
     let s = numeral-takes digits f.0.0 n.0 short (some_ok row (numeral digits f.0.0) n.0 n.1) in
     subst (λ (y : ℕ × Text). (bytes ≡ decimal y.0 ++ stop ∷ y.1) × HasDigits digits y.0) (ok_is (n.0, f.0.1) x n.2) (t ∙ ap (λ (w : Text). w ++ stop ∷ f.0.1) s.0, s.1)
@@ -154,7 +151,7 @@ number_again row digits stop n rest one short low lt =
 pub known_takes : (row known stop : ℕ) (bytes rest : Text) → known_at row known stop bytes ≡ Ok rest → (bytes ≡ decimal known ++ stop ∷ rest) × HasDigits place_digits known
 unfolding known_at
 known_takes row known stop bytes rest h =
-    let n = bind_ok (number_at row place_digits stop bytes) (λ n. value_if row (n.0 == known) n.1) rest h in
+    let n = then_ok (number_at row place_digits stop bytes) (λ n. value_if row (n.0 == known) n.1) rest h in
     let p = value_if_ok row (n.0.0 == known) n.0.1 rest n.2 in
     let t = number_takes row place_digits stop bytes n.0 (lit≤ tt) n.1 in
     let e : n.0.0 ≡ known = eqb-true n.0.0 known p.0 in
@@ -169,7 +166,7 @@ known_again row known stop rest low lt = rw (number_again row place_digits stop 
 pub within_takes : (row low high stop : ℕ) (bytes : Text) (x : ℕ × Text) → within_at row low high stop bytes ≡ Ok x → (bytes ≡ decimal x.0 ++ stop ∷ x.1) × IsWithin low high x.0
 unfolding within_at
 within_takes row low high stop bytes x h =
-    let n = bind_ok (number_at row place_digits stop bytes) (λ n. value_if row (nat_le low n.0 && nat_le n.0 high) n) x h in
+    let n = then_ok (number_at row place_digits stop bytes) (λ n. value_if row (nat_le low n.0 && nat_le n.0 high) n) x h in
     let p = value_if_ok row (nat_le low n.0.0 && nat_le n.0.0 high) n.0 x n.2 in
     let both = and_parts (nat_le low n.0.0) (nat_le n.0.0 high) p.0 in
     let t = number_takes row place_digits stop bytes n.0 (lit≤ tt) n.1 in
@@ -187,7 +184,7 @@ within_again row low high stop n rest end short within =
 
 negative_takes : (row digits : ℕ) (text : Text) (z : ℤ) → digits ≤ 64 → negative row digits text ≡ Ok z → (45 ∷ text ≡ signed_decimal z) × HasSignedDigits digits z
 negative_takes row digits text z short h =
-    let n = bind_ok (some_at row (numeral digits text)) (λ n. value_if row (nat_le 1 n) (pos 0 -ℤ pos n)) z h in
+    let n = then_ok (some_at row (numeral digits text)) (λ n. value_if row (nat_le 1 n) (pos 0 -ℤ pos n)) z h in
     let p = value_if_ok row (nat_le 1 n.0) (pos 0 -ℤ pos n.0) z n.2 in
     let s = numeral-takes digits text n.0 short (some_ok row (numeral digits text) n.0 n.1) in
     go n.0 s.0 s.1 p.0 p.1
@@ -200,7 +197,7 @@ negative_takes row digits text z short h =
 
 unsigned_takes : (row digits : ℕ) (text : Text) (z : ℤ) → digits ≤ 64 → unsigned_of row digits text ≡ Ok z → (text ≡ signed_decimal z) × HasSignedDigits digits z
 unsigned_takes row digits text z short h =
-    let n = bind_ok (some_at row (numeral digits text)) (λ n. Ok (pos n)) z h in
+    let n = then_ok (some_at row (numeral digits text)) (λ n. Ok (pos n)) z h in
     let s = numeral-takes digits text n.0 short (some_ok row (numeral digits text) n.0 n.1) in
     subst (λ (y : ℤ). (text ≡ signed_decimal y) × HasSignedDigits digits y) (ok_is (pos n.0) z n.2) (s.0, (omega (arith, ints, s.1), omega (arith, ints, s.1)))
 
@@ -243,8 +240,8 @@ signed_free stop digits (negsuc m) short low fits =
 pub signed_takes : (row digits stop : ℕ) (bytes : Text) (x : ℤ × Text) → digits ≤ 64 → signed_at row digits stop bytes ≡ Ok x → (bytes ≡ signed_decimal x.0 ++ stop ∷ x.1) × HasSignedDigits digits x.0
 unfolding signed_at
 signed_takes row digits stop bytes x short h =
-    let f = bind_ok (field_at row stop bytes) (λ field. signed_of row digits field.0 >>= λ z. Ok (z, field.1)) x h in
-    let z = bind_ok (signed_of row digits f.0.0) (λ z. Ok (z, f.0.1)) x f.2 in
+    let f = then_ok (field_at row stop bytes) (λ field. signed_of row digits field.0 >>= λ z. Ok (z, field.1)) x h in
+    let z = then_ok (signed_of row digits f.0.0) (λ z. Ok (z, f.0.1)) x f.2 in
     let t = field_takes row stop bytes f.0 f.1 in
     let s = signed_of_takes row digits f.0.0 z.0 short z.1 in
     subst (λ (y : ℤ × Text). (bytes ≡ signed_decimal y.0 ++ stop ∷ y.1) × HasSignedDigits digits y.0) (ok_is (z.0, f.0.1) x z.2) (t ∙ ap (λ (w : Text). w ++ stop ∷ f.0.1) s.0, s.1)
@@ -284,8 +281,8 @@ unfolding numbers_at
 numbers_take row digits zero bytes x short h =
     subst (TakesNumbers digits 0 bytes) (ok_is ([], bytes) x h) (record { text = refl; count_is = refl; digits_are = All-nil (HasDigits digits) })
 numbers_take row digits (suc more) bytes x short h =
-    let n = bind_ok (number_at row digits (stop_before more) bytes) (λ n. numbers_at row digits more n.1 >>= λ ns. Ok (n.0 ∷ ns.0, ns.1)) x h in
-    let ns = bind_ok (numbers_at row digits more n.0.1) (λ ns. Ok (n.0.0 ∷ ns.0, ns.1)) x n.2 in
+    let n = then_ok (number_at row digits (stop_before more) bytes) (λ n. numbers_at row digits more n.1 >>= λ ns. Ok (n.0 ∷ ns.0, ns.1)) x h in
+    let ns = then_ok (numbers_at row digits more n.0.1) (λ ns. Ok (n.0.0 ∷ ns.0, ns.1)) x n.2 in
     let first = number_takes row digits (stop_before more) bytes n.0 short n.1 in
     let rest = numbers_take row digits more n.0.1 ns.0 short ns.1 in
     subst (TakesNumbers digits (suc more) bytes) (ok_is (n.0.0 ∷ ns.0.0, ns.0.1) x ns.2) (record {

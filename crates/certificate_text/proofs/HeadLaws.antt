@@ -1,6 +1,8 @@
 -- The lines before the chains: what is read is of the form and spelled so, and what is of the form is read from its spelling.
 use Rattle.std.proofs.Common.{◌≡◌, ◌∙◌, ◌+◌, ◌*◌, ◌≤◌, ◌==◌, ◌++◌, ℕ, zero, suc, List, [], ◌∷◌, Bool, true, false, Result, Ok, Err, codes, length, refl, sym, ap, subst, ℤ, append_assoc, append-nil, arith, lit≤}
 use Rattle.std.specs.Prelude.{IfOk}
+use Rattle.lab_model.proofs.Steps.{then_ok}
+use Rattle.lab_model.specs.Steps.{◌>>=◌}
 use Rattle.lab_model.specs.declared.fault.InputFault.{InputFault}
 use Rattle.lab_model.specs.Reading.{Gives}
 use Rattle.lab_model.specs.Film.{IsWithin}
@@ -8,7 +10,6 @@ use Rattle.lab_io.specs.Sink.{Text}
 use Rattle.lab_io.specs.Piece.{fields_line}
 use Rattle.labels.specs.Parts.{CertificateParts}
 use Rattle.certificate_text.specs.declared.certificate.Certificate.{Certificate}
-use Rattle.certificate_text.specs.Fields.{◌>>=◌}
 use Rattle.labels.specs.Form.{place_digits, most_labels, rung_digits, IsCertificate, IsHead}
 use Rattle.certificate_text.specs.Line.{Holds, fields_of, values_at}
 use Rattle.certificate_text.specs.Grammar.{end_line, list_line, plan_line, rungs_line, score_line, segments_line, start_line, table_line, version_line}
@@ -17,7 +18,7 @@ use Rattle.certificate_text.specs.Reading.{Counts, Place, certificate_of, chains
 use Rattle.certificate_text.specs.Walk.{without_chains}
 use Rattle.certificate_text.specs.Spelling.{chains_lines, head_lines, lines_text, spelling, table_lines, version_fields, version_number}
 use Rattle.certificate_text.proofs.Loops.{ok_is}
-use Rattle.certificate_text.proofs.FieldLaws.{bind_ok, is_free}
+use Rattle.certificate_text.proofs.FieldLaws.{is_free}
 use Rattle.certificate_text.proofs.LineLaws.{IsSpellable, line_again, line_takes}
 use Rattle.certificate_text.proofs.CertificateLaws.{chains_again, chains_take}
 use Rattle.certificate_text.proofs.Texts.{counts_text, head_text, lists_text, spelling_parts}
@@ -67,7 +68,7 @@ one_or_two (suc (suc (suc n))) h = absurd (omega (arith, h.1))
 version_takes : (row : ℕ) (bytes : Text) (x : Bool × Text) → version_at row bytes ≡ Ok x → bytes ≡ fields_line (version_fields x.0) ++ x.1
 unfolding version_at
 version_takes row bytes x h =
-    let v = bind_ok (values_at row version_line bytes) (λ version. Ok (version.0.0 == 2, version.1)) x h in
+    let v = then_ok (values_at row version_line bytes) (λ version. Ok (version.0.0 == 2, version.1)) x h in
     let t = line_takes row version_line bytes v.0 can_version (lit≤ tt) v.1 in
     let number : v.0.0.0 ≡ version_number (v.0.0.0 == 2) = one_or_two v.0.0.0 t.holds.0 in
     subst (λ (y : Bool × Text). bytes ≡ fields_line (version_fields y.0) ++ y.1) (ok_is (v.0.0.0 == 2, v.0.1) x v.2)
@@ -117,10 +118,10 @@ record TakesCounts (bytes : Text) (x : Counts × Text) : Type 0 where
 counts_take : (bytes : Text) (x : Counts × Text) → counts_at bytes ≡ Ok x → TakesCounts bytes x
 unfolding counts_at
 counts_take bytes x h =
-    let v = bind_ok (version_at 1 bytes) (λ table. values_at 2 segments_line table.1 >>= λ segments. values_at 3 rungs_line segments.1 >>= λ rungs. table_at 4 table.0 rungs.1 >>= λ rest. Ok (counts table.0 segments.0.0 rungs.0.0, rest.1)) x h in
-    let n = bind_ok (values_at 2 segments_line v.0.1) (λ segments. values_at 3 rungs_line segments.1 >>= λ rungs. table_at 4 v.0.0 rungs.1 >>= λ rest. Ok (counts v.0.0 segments.0.0 rungs.0.0, rest.1)) x v.2 in
-    let r = bind_ok (values_at 3 rungs_line n.0.1) (λ rungs. table_at 4 v.0.0 rungs.1 >>= λ rest. Ok (counts v.0.0 n.0.0.0 rungs.0.0, rest.1)) x n.2 in
-    let t = bind_ok (table_at 4 v.0.0 r.0.1) (λ rest. Ok (counts v.0.0 n.0.0.0 r.0.0.0, rest.1)) x r.2 in
+    let v = then_ok (version_at 1 bytes) (λ table. values_at 2 segments_line table.1 >>= λ segments. values_at 3 rungs_line segments.1 >>= λ rungs. table_at 4 table.0 rungs.1 >>= λ rest. Ok (counts table.0 segments.0.0 rungs.0.0, rest.1)) x h in
+    let n = then_ok (values_at 2 segments_line v.0.1) (λ segments. values_at 3 rungs_line segments.1 >>= λ rungs. table_at 4 v.0.0 rungs.1 >>= λ rest. Ok (counts v.0.0 segments.0.0 rungs.0.0, rest.1)) x v.2 in
+    let r = then_ok (values_at 3 rungs_line n.0.1) (λ rungs. table_at 4 v.0.0 rungs.1 >>= λ rest. Ok (counts v.0.0 n.0.0.0 rungs.0.0, rest.1)) x n.2 in
+    let t = then_ok (table_at 4 v.0.0 r.0.1) (λ rest. Ok (counts v.0.0 n.0.0.0 r.0.0.0, rest.1)) x r.2 in
     let tv = version_takes 1 bytes v.0 v.1 in
     let tn = line_takes 2 segments_line v.0.1 n.0 can_segments (lit≤ tt) n.1 in
     let tr = line_takes 3 rungs_line n.0.1 r.0 can_rungs (lit≤ tt) r.1 in
@@ -175,10 +176,10 @@ pub record TakesHead (bytes : Text) (x : CertificateParts × Place) : Type 0 whe
 pub head_takes : (bytes : Text) (x : CertificateParts × Place) → head_at bytes ≡ Ok x → TakesHead bytes x
 unfolding head_at
 head_takes bytes x h =
-    let k = bind_ok (counts_at bytes) (λ counts. values_at (score_row counts.0.table) score_line counts.1 >>= λ score. values_at (score_row counts.0.table + 1) (plan_line counts.0.segments) score.1 >>= λ plan. values_at (score_row counts.0.table + 2) (start_line counts.0.rungs) plan.1 >>= λ starts. Ok (made_head counts.0 score.0.0 plan.0 starts.0, first_place counts.0.table starts.1)) x h in
-    let z = bind_ok (values_at (score_row k.0.0.table) score_line k.0.1) (λ score. values_at (score_row k.0.0.table + 1) (plan_line k.0.0.segments) score.1 >>= λ plan. values_at (score_row k.0.0.table + 2) (start_line k.0.0.rungs) plan.1 >>= λ starts. Ok (made_head k.0.0 score.0.0 plan.0 starts.0, first_place k.0.0.table starts.1)) x k.2 in
-    let p = bind_ok (values_at (score_row k.0.0.table + 1) (plan_line k.0.0.segments) z.0.1) (λ plan. values_at (score_row k.0.0.table + 2) (start_line k.0.0.rungs) plan.1 >>= λ starts. Ok (made_head k.0.0 z.0.0.0 plan.0 starts.0, first_place k.0.0.table starts.1)) x z.2 in
-    let s = bind_ok (values_at (score_row k.0.0.table + 2) (start_line k.0.0.rungs) p.0.1) (λ starts. Ok (made_head k.0.0 z.0.0.0 p.0.0 starts.0, first_place k.0.0.table starts.1)) x p.2 in
+    let k = then_ok (counts_at bytes) (λ counts. values_at (score_row counts.0.table) score_line counts.1 >>= λ score. values_at (score_row counts.0.table + 1) (plan_line counts.0.segments) score.1 >>= λ plan. values_at (score_row counts.0.table + 2) (start_line counts.0.rungs) plan.1 >>= λ starts. Ok (made_head counts.0 score.0.0 plan.0 starts.0, first_place counts.0.table starts.1)) x h in
+    let z = then_ok (values_at (score_row k.0.0.table) score_line k.0.1) (λ score. values_at (score_row k.0.0.table + 1) (plan_line k.0.0.segments) score.1 >>= λ plan. values_at (score_row k.0.0.table + 2) (start_line k.0.0.rungs) plan.1 >>= λ starts. Ok (made_head k.0.0 score.0.0 plan.0 starts.0, first_place k.0.0.table starts.1)) x k.2 in
+    let p = then_ok (values_at (score_row k.0.0.table + 1) (plan_line k.0.0.segments) z.0.1) (λ plan. values_at (score_row k.0.0.table + 2) (start_line k.0.0.rungs) plan.1 >>= λ starts. Ok (made_head k.0.0 z.0.0.0 plan.0 starts.0, first_place k.0.0.table starts.1)) x z.2 in
+    let s = then_ok (values_at (score_row k.0.0.table + 2) (start_line k.0.0.rungs) p.0.1) (λ starts. Ok (made_head k.0.0 z.0.0.0 p.0.0 starts.0, first_place k.0.0.table starts.1)) x p.2 in
     let tk = counts_take bytes k.0 k.1 in
     let tz = line_takes (score_row k.0.0.table) score_line k.0.1 z.0 can_score (lit≤ tt) z.1 in
     let tp = line_takes (score_row k.0.0.table + 1) (plan_line k.0.0.segments) z.0.1 p.0 (can_plan k.0.0.segments tk.segments.0.0) (omega arith) p.1 in
@@ -219,7 +220,7 @@ nothing_takes row (b ∷ bytes) u h = absurd cc
 end_takes : (p : Place) (u : Unit {0}) → end_at p ≡ Ok u → p.rest ≡ fields_line (fields_of end_line tt)
 unfolding end_at
 end_takes p u h =
-    let w = bind_ok (values_at p.row end_line p.rest) (λ rest. nothing_at (p.row + 1) rest.1) u h in
+    let w = then_ok (values_at p.row end_line p.rest) (λ rest. nothing_at (p.row + 1) rest.1) u h in
     (line_takes p.row end_line p.rest w.0 can_end (lit≤ tt) w.1).text
     ∙ ap (λ (t : Text). fields_line (fields_of end_line tt) ++ t) (nothing_takes (p.row + 1) w.0.1 u w.2) ∙ append-nil (fields_line (fields_of end_line tt))
 
@@ -236,9 +237,9 @@ end_again p e =
 pub certificate_takes : (bytes : Text) (c : CertificateParts) → certificate_of bytes ≡ Ok c → IsCertificate c × (bytes ≡ spelling c)
 unfolding certificate_of
 certificate_takes bytes c h =
-    let a = bind_ok (head_at bytes) (λ head. chains_at head.0.segments head.0.rungs 0 (head.0.segments * head.0.rungs) head.1 >>= λ chains. end_at chains.1 >>= λ done. Ok (record head.0 { chains = chains.0 })) c h in
-    let b = bind_ok (chains_at a.0.0.segments a.0.0.rungs 0 (a.0.0.segments * a.0.0.rungs) a.0.1) (λ chains. end_at chains.1 >>= λ done. Ok (record a.0.0 { chains = chains.0 })) c a.2 in
-    let d = bind_ok (end_at b.0.1) (λ done. Ok (record a.0.0 { chains = b.0.0 })) c b.2 in
+    let a = then_ok (head_at bytes) (λ head. chains_at head.0.segments head.0.rungs 0 (head.0.segments * head.0.rungs) head.1 >>= λ chains. end_at chains.1 >>= λ done. Ok (record head.0 { chains = chains.0 })) c h in
+    let b = then_ok (chains_at a.0.0.segments a.0.0.rungs 0 (a.0.0.segments * a.0.0.rungs) a.0.1) (λ chains. end_at chains.1 >>= λ done. Ok (record a.0.0 { chains = chains.0 })) c a.2 in
+    let d = then_ok (end_at b.0.1) (λ done. Ok (record a.0.0 { chains = b.0.0 })) c b.2 in
     let ta = head_takes bytes a.0 a.1 in
     let tb = chains_take a.0.0.segments a.0.0.rungs 0 (a.0.0.segments * a.0.0.rungs) a.0.1 b.0 b.1 in
     let td = end_takes b.0.1 d.0 d.1 in

@@ -3,6 +3,8 @@ use Rattle.std.proofs.Common.{◌≡◌, ◌∙◌, ◌+◌, ◌*◌, ◌<◌, �
 use Rattle.std.specs.Prelude.{map}
 use Rattle.std.proofs.Math.Seq.{drop-append_seam, take-append_seam}
 use Rattle.std.proofs.lemmas.List.{drop-drop}
+use Rattle.lab_model.proofs.Steps.{then_ok}
+use Rattle.lab_model.specs.Steps.{◌>>=◌}
 use Rattle.lab_model.specs.declared.fault.Refusal.{Refusal}
 use Rattle.lab_model.specs.declared.fault.InputFault.{InputFault}
 use Rattle.lab_model.specs.declared.fault.InputFault.TheVariants.{Memory, Refused}
@@ -10,11 +12,9 @@ use Rattle.lab_model.specs.Reading.{Gives}
 use Rattle.lab_io.specs.Sink.{Text}
 use Rattle.labels.specs.Parts.{CertificateParts, ChainParts, chain_parts}
 use Rattle.certificate_text.specs.declared.certificate.Layer.{Layer}
-use Rattle.certificate_text.specs.Fields.{◌>>=◌}
 use Rattle.certificate_text.specs.Reading.{Walks, certificate_of, chains_at, end_at, head_at}
 use Rattle.certificate_text.specs.Walk.{BeginsBadly, BeginsLayers, GivesLayer, MeetsBadLine, Steps, Walk, WillGive, WillRefuse, begun, layer_in, layer_of, layer_parts, prepended, rest_of, without_chains}
 use Rattle.certificate_text.proofs.CertificateLaws.{chains_take}
-use Rattle.certificate_text.proofs.FieldLaws.{bind_ok}
 use Rattle.certificate_text.proofs.HeadLaws.{head_takes}
 use Rattle.certificate_text.proofs.Loops.{ok_is}
 use Rattle.certificate_text.proofs.WalkLaws.{begins, begun_rest, first_walk, layer_ends, layer_reads, rest_more, rest_stopped, whole_of}
@@ -40,7 +40,7 @@ begun_gives : (bytes : Text) (w : Walk) (c : CertificateParts) → begun bytes �
 begun_gives bytes w c is spelled =
     let b = begins bytes w is in
     let none = (head_takes b.bytes (w.head, b.at) b.head).none in
-    let cs = bind_ok (rest_of w) (λ chains. Ok (record w.head { chains = chains })) c (sym (begun_rest bytes w is) ∙ spelled) in
+    let cs = then_ok (rest_of w) (λ chains. Ok (record w.head { chains = chains })) c (sym (begun_rest bytes w is) ∙ spelled) in
     let same : record w.head { chains = cs.0 } ≡ c = ok_is (record w.head { chains = cs.0 }) c cs.2 in
     let head : w.head ≡ without_chains c = ap (λ (chains : List ChainParts). record w.head { chains = chains }) none ∙ ap without_chains same in
     let own : cs.0 ≡ drop (w.segment * c.rungs) c.chains =

@@ -2,13 +2,15 @@
 use Rattle.std.proofs.Common.{◌≡◌, ◌∙◌, ◌≤◌, ◌++◌, ℕ, suc, List, [], ◌∷◌, true, Ok, length, map, refl, sym, ap, subst, append_assoc, arith}
 use Rattle.std.specs.Fmt.{decimal, signed_decimal}
 use Rattle.std.proofs.lemmas.List.{length-map}
+use Rattle.lab_model.proofs.Steps.{then_ok}
+use Rattle.lab_model.specs.Steps.{◌>>=◌}
 use Rattle.lab_io.specs.Sink.{Text}
 use Rattle.lab_io.specs.Piece.{fields_line, later_fields}
-use Rattle.certificate_text.specs.Fields.{◌>>=◌, known_at, number_at, numbers_at, signed_at, stop_before, within_at, word_at}
+use Rattle.certificate_text.specs.Fields.{known_at, number_at, numbers_at, signed_at, stop_before, within_at, word_at}
 use Rattle.labels.specs.Form.{HasDigits, place_digits}
 use Rattle.certificate_text.specs.Line.{Holds, Line, Values, ends, field_count, fields_of, known, number, numbers, signed, stop_of, values_at, within, word}
 use Rattle.certificate_text.proofs.Loops.{ok_is}
-use Rattle.certificate_text.proofs.FieldLaws.{bind_ok, is_free, known_again, known_takes, number_again, number_takes, numbers_again, numbers_take, numbers_text, signed_again, signed_takes, stop_low, within_again, within_takes, word_again, word_takes}
+use Rattle.certificate_text.proofs.FieldLaws.{is_free, known_again, known_takes, number_again, number_takes, numbers_again, numbers_take, numbers_text, signed_again, signed_takes, stop_low, within_again, within_takes, word_again, word_takes}
 
 -- ---- fields and the bytes that end them
 
@@ -78,14 +80,14 @@ fields_take row (numbers count digits) bytes x can h =
     let t = numbers_take row digits count bytes x can.1 h in
     record { holds = (t.count_is, t.digits_are); text = t.text ∙ ap (λ (w : Text). w ++ x.1) (numbers_fields x.0) }
 fields_take row (word text more) bytes x can h =
-    let w = bind_ok (word_at row text (stop_of more) bytes) (λ rest. values_at row more rest) x h in
+    let w = then_ok (word_at row text (stop_of more) bytes) (λ rest. values_at row more rest) x h in
     let later = fields_take row more w.0 x can.1 w.2 in
     record {
       holds = later.holds;
       text = field_behind text (fields_of more x.0) (field_count more) bytes w.0 x.1 (held_count more x.0 later.holds) (word_takes row text (stop_of more) bytes w.0 w.1) later.text;
     }
 fields_take row (known n more) bytes x can h =
-    let w = bind_ok (known_at row n (stop_of more) bytes) (λ rest. values_at row more rest) x h in
+    let w = then_ok (known_at row n (stop_of more) bytes) (λ rest. values_at row more rest) x h in
     let own = known_takes row n (stop_of more) bytes w.0 w.1 in
     let later = fields_take row more w.0 x can w.2 in
     record {
@@ -93,8 +95,8 @@ fields_take row (known n more) bytes x can h =
       text = field_behind (decimal n) (fields_of more x.0) (field_count more) bytes w.0 x.1 (held_count more x.0 later.holds) own.0 later.text;
     }
 fields_take row (number digits more) bytes x can h =
-    let n = bind_ok (number_at row digits (stop_of more) bytes) (λ n. values_at row more n.1 >>= λ values. Ok ((n.0, values.0), values.1)) x h in
-    let v = bind_ok (values_at row more n.0.1) (λ values. Ok ((n.0.0, values.0), values.1)) x n.2 in
+    let n = then_ok (number_at row digits (stop_of more) bytes) (λ n. values_at row more n.1 >>= λ values. Ok ((n.0, values.0), values.1)) x h in
+    let v = then_ok (values_at row more n.0.1) (λ values. Ok ((n.0.0, values.0), values.1)) x n.2 in
     let own = number_takes row digits (stop_of more) bytes n.0 can.0.1 n.1 in
     let later = fields_take row more n.0.1 v.0 can.1 v.1 in
     subst (Takes (number digits more) bytes) (ok_is ((n.0.0, v.0.0), v.0.1) x v.2) (record {
@@ -102,8 +104,8 @@ fields_take row (number digits more) bytes x can h =
       text = field_behind (decimal n.0.0) (fields_of more v.0.0) (field_count more) bytes n.0.1 v.0.1 (held_count more v.0.0 later.holds) own.0 later.text;
     })
 fields_take row (within low high more) bytes x can h =
-    let n = bind_ok (within_at row low high (stop_of more) bytes) (λ n. values_at row more n.1 >>= λ values. Ok ((n.0, values.0), values.1)) x h in
-    let v = bind_ok (values_at row more n.0.1) (λ values. Ok ((n.0.0, values.0), values.1)) x n.2 in
+    let n = then_ok (within_at row low high (stop_of more) bytes) (λ n. values_at row more n.1 >>= λ values. Ok ((n.0, values.0), values.1)) x h in
+    let v = then_ok (values_at row more n.0.1) (λ values. Ok ((n.0.0, values.0), values.1)) x n.2 in
     let own = within_takes row low high (stop_of more) bytes n.0 n.1 in
     let later = fields_take row more n.0.1 v.0 can.1 v.1 in
     subst (Takes (within low high more) bytes) (ok_is ((n.0.0, v.0.0), v.0.1) x v.2) (record {
@@ -111,8 +113,8 @@ fields_take row (within low high more) bytes x can h =
       text = field_behind (decimal n.0.0) (fields_of more v.0.0) (field_count more) bytes n.0.1 v.0.1 (held_count more v.0.0 later.holds) own.0 later.text;
     })
 fields_take row (signed digits more) bytes x can h =
-    let z = bind_ok (signed_at row digits (stop_of more) bytes) (λ z. values_at row more z.1 >>= λ values. Ok ((z.0, values.0), values.1)) x h in
-    let v = bind_ok (values_at row more z.0.1) (λ values. Ok ((z.0.0, values.0), values.1)) x z.2 in
+    let z = then_ok (signed_at row digits (stop_of more) bytes) (λ z. values_at row more z.1 >>= λ values. Ok ((z.0, values.0), values.1)) x h in
+    let v = then_ok (values_at row more z.0.1) (λ values. Ok ((z.0.0, values.0), values.1)) x z.2 in
     let own = signed_takes row digits (stop_of more) bytes z.0 can.0.1 z.1 in
     let later = fields_take row more z.0.1 v.0 can.1 v.1 in
     subst (Takes (signed digits more) bytes) (ok_is ((z.0.0, v.0.0), v.0.1) x v.2) (record {

@@ -1,10 +1,11 @@
 -- What the loops of the reader have read, one step at a time.
 use Rattle.std.proofs.Common.{◌≡◌, ◌+◌, ◌-◌, ◌/◌, ◌%◌, ◌<◌, ◌≤◌, ℕ, suc, List, [], ◌∷◌, ◌++◌, Result, Ok, Err, refl, sym, ap, append_assoc, append-nil, arith}
+use Rattle.lab_model.specs.Steps.{◌>>=◌}
 use Rattle.lab_model.specs.declared.fault.Refusal.{Refusal}
 use Rattle.lab_io.specs.Sink.{Text}
 use Rattle.labels.specs.Parts.{ChainParts}
 use Rattle.labels.specs.Form.{names_per}
-use Rattle.certificate_text.specs.Fields.{◌>>=◌, Read, number_at, numbers_at, prepended, stop_before}
+use Rattle.certificate_text.specs.Fields.{Read, number_at, numbers_at, prepended, stop_before}
 use Rattle.certificate_text.specs.Reading.{Place, Walks, behind, chain_at, chains_at, joined, label_at, labels_at}
 
 -- an answer that holds a value

@@ -2,6 +2,8 @@
 use Rattle.std.proofs.Common.{◌≡◌, ◌∙◌, ◌+◌, ◌-◌, ◌*◌, ◌/◌, ◌%◌, ◌<◌, ◌≤◌, ◌==◌, ◌++◌, ℕ, zero, suc, List, [], ◌∷◌, Bool, true, false, Option, Some, None, Result, Ok, Err, refl, sym, ap, subst, cond, arith}
 use Rattle.std.specs.Prelude.{IfOk, map}
 use Rattle.std.specs.Option.{is_some}
+use Rattle.lab_model.proofs.Steps.{then_ok}
+use Rattle.lab_model.specs.Steps.{◌>>=◌}
 use Rattle.lab_model.specs.declared.fault.Refusal.{Refusal}
 use Rattle.lab_model.specs.declared.fault.InputFault.{InputFault}
 use Rattle.lab_model.specs.Reading.{Gives}
@@ -9,10 +11,8 @@ use Rattle.lab_io.specs.Sink.{Text}
 use Rattle.labels.specs.Parts.{CertificateParts, ChainParts, chain_parts}
 use Rattle.certificate_text.specs.declared.certificate.Layer.{Layer}
 use Rattle.labels.specs.Form.{names_per}
-use Rattle.certificate_text.specs.Fields.{◌>>=◌}
 use Rattle.certificate_text.specs.Reading.{Place, Walks, certificate_of, chain_at, chains_at, end_at, head_at}
 use Rattle.certificate_text.specs.Walk.{IsBegun, Walk, accepted, begun, chains_to_end, ended, layer_of, layer_parts, prepended, rest_of, went}
-use Rattle.certificate_text.proofs.FieldLaws.{bind_ok}
 use Rattle.certificate_text.proofs.Loops.{ok_is, with_front}
 
 -- ---- chains in two parts
@@ -116,7 +116,7 @@ pub record Begins (w : Walk) : Type 0 where
 pub begins : (bytes : Text) (w : Walk) → begun bytes ≡ Ok w → Begins w
 unfolding begun
 begins bytes w h =
-    let x = bind_ok (head_at bytes) (λ x. Ok (first_walk x)) w h in
+    let x = then_ok (head_at bytes) (λ x. Ok (first_walk x)) w h in
     subst Begins (ok_is (first_walk x.0) w x.2) (record { bytes = bytes; at = x.0.1; head = x.1; segment = refl; standing = refl })
 
 -- ---- one layer
@@ -147,15 +147,15 @@ other_count a b h e = grind arith
 pub layer_reads : (w v : Walk) (parts : List ChainParts) → layer_of w ≡ Ok (Some parts, v) → Reads w parts v
 unfolding layer_of
 layer_reads w v parts h =
-    let p = bind_ok w.at (λ p. stepped w p (w.segment == w.head.segments)) (Some parts, v) h in
+    let p = then_ok w.at (λ p. stepped w p (w.segment == w.head.segments)) (Some parts, v) h in
     go p.0 p.1 (w.segment == w.head.segments) refl p.2
   where
     go : (p : Place) → w.at ≡ Ok p → (last : Bool) → (w.segment == w.head.segments) ≡ last → stepped w p last ≡ Ok (Some parts, v) → Reads w parts v
     go p standing true e h =
-        let end = bind_ok (end_at p) (λ done. Ok (None, w)) (Some parts, v) h in
+        let end = then_ok (end_at p) (λ done. Ok (None, w)) (Some parts, v) h in
         absurd (none_some parts (ap (λ (x : Option (List ChainParts) × Walk). x.0) (ok_is (None, w) (Some parts, v) end.2)))
     go p standing false e h =
-        let cs = bind_ok (chains_at w.head.segments w.head.rungs (w.segment * w.head.rungs) w.head.rungs p) (λ chains. Ok (Some chains.0, record w { segment = w.segment + 1; at = Ok chains.1 })) (Some parts, v) h in
+        let cs = then_ok (chains_at w.head.segments w.head.rungs (w.segment * w.head.rungs) w.head.rungs p) (λ chains. Ok (Some chains.0, record w { segment = w.segment + 1; at = Ok chains.1 })) (Some parts, v) h in
         let both = ok_is (Some cs.0.0, record w { segment = w.segment + 1; at = Ok cs.0.1 }) (Some parts, v) cs.2 in
         let own : cs.0.0 ≡ parts = some_is cs.0.0 parts (ap (λ (x : Option (List ChainParts) × Walk). x.0) both) in
         record {
@@ -230,19 +230,19 @@ rest_last w p standing e =
 pub layer_ends : (w v : Walk) → layer_of w ≡ Ok (None, v) → (w.segment ≡ w.head.segments) × (rest_of w ≡ Ok []) × (v ≡ w)
 unfolding layer_of
 layer_ends w v h =
-    let p = bind_ok w.at (λ p. stepped w p (w.segment == w.head.segments)) (None, v) h in
+    let p = then_ok w.at (λ p. stepped w p (w.segment == w.head.segments)) (None, v) h in
     go p.0 p.1 (w.segment == w.head.segments) refl p.2
   where
     go : (p : Place) → w.at ≡ Ok p → (last : Bool) → (w.segment == w.head.segments) ≡ last → stepped w p last ≡ Ok (None, v) → (w.segment ≡ w.head.segments) × (rest_of w ≡ Ok []) × (v ≡ w)
     go p standing true e h =
-        let end = bind_ok (end_at p) (λ done. Ok (None, w)) (None, v) h in
+        let end = then_ok (end_at p) (λ done. Ok (None, w)) (None, v) h in
         let same = same_count w.segment w.head.segments e in (
           same,
           rest_last w p standing same ∙ ap (λ (read : Result (Unit {0}) Refusal). read >>= λ done. Ok []) end.1,
           sym (ap (λ (x : Option (List ChainParts) × Walk). x.1) (ok_is (None, w) (None, v) end.2)),
         )
     go p standing false e h =
-        let cs = bind_ok (chains_at w.head.segments w.head.rungs (w.segment * w.head.rungs) w.head.rungs p) (λ chains. Ok (Some chains.0, record w { segment = w.segment + 1; at = Ok chains.1 })) (None, v) h in
+        let cs = then_ok (chains_at w.head.segments w.head.rungs (w.segment * w.head.rungs) w.head.rungs p) (λ chains. Ok (Some chains.0, record w { segment = w.segment + 1; at = Ok chains.1 })) (None, v) h in
         absurd (none_some cs.0.0 (sym (ap (λ (x : Option (List ChainParts) × Walk). x.0) (ok_is (Some cs.0.0, record w { segment = w.segment + 1; at = Ok cs.0.1 }) (None, v) cs.2))))
 
 -- an answer that is refused

@@ -5,15 +5,10 @@ use Rattle.lab_model.specs.declared.fault.Kind.TheVariants as kind
 use Rattle.lab_model.specs.declared.fault.Key.TheVariants as key
 use Rattle.lab_model.specs.declared.fault.Refusal.{Refusal}
 use Rattle.lab_model.specs.Reading.{refusal}
+use Rattle.lab_model.specs.Steps.{◌>>=◌}
 use Rattle.lab_io.specs.Sink.{Text}
 use Rattle.lab_io.specs.Number.{numeral}
 use Rattle.labels.specs.Form.{place_digits}
-
-infixl 10 ◌>>=◌
--- one step and then the next, unless the first was refused
-abbrev pub ◌>>=◌ : {X Y : Type 0} → Result X Refusal → (X → Result Y Refusal) → Result Y Refusal
-(Ok x) >>= f = f x
-(Err e) >>= f = Err e
 
 -- what was read and the bytes behind it, or the refusal
 abbrev pub Read : Type 0 → Type 0

@@ -1,7 +1,8 @@
 -- The lines of a certificate: the form of each, for those who write it and those who read it.
 use Rattle.std.specs.Prelude.{ℕ, codes}
+use Rattle.lab_model.specs.Film.{most_rungs, most_segments}
 use Rattle.lab_io.specs.Sink.{Text}
-use Rattle.labels.specs.Form.{label_digits, most_rungs, most_segments, place_digits, rung_digits, score_digits}
+use Rattle.labels.specs.Form.{label_digits, place_digits, rung_digits, score_digits}
 use Rattle.certificate_text.specs.Line.{Line, ends, known, number, numbers, signed, within, word}
 
 -- a line of a word and a number from 1 to the most

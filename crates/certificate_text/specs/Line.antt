@@ -3,9 +3,10 @@
 use Rattle.std.specs.Prelude.{◌≡◌, ℕ, suc, List, [], ◌∷◌, length, map, Ok, ℤ}
 use Rattle.std.specs.List.{All}
 use Rattle.std.specs.Fmt.{decimal, signed_decimal}
+use Rattle.lab_model.specs.Steps.{◌>>=◌}
 use Rattle.lab_model.specs.Film.{IsWithin}
 use Rattle.lab_io.specs.Sink.{Text}
-use Rattle.certificate_text.specs.Fields.{◌>>=◌, Read, known_at, number_at, numbers_at, signed_at, stop_before, within_at, word_at}
+use Rattle.certificate_text.specs.Fields.{Read, known_at, number_at, numbers_at, signed_at, stop_before, within_at, word_at}
 use Rattle.labels.specs.Form.{HasDigits, HasSignedDigits, place_digits}
 
 -- a form: no field more; so many numbers of at most so many digits, and no field more; or a field and then more of them, which is this word,

@@ -1,12 +1,13 @@
 -- What the bytes of a certificate stand for, or their first bad line.
 use Rattle.std.specs.Prelude.{ℕ, zero, suc, ◌+◌, ◌-◌, ◌*◌, ◌/◌, ◌%◌, ◌==◌, Bool, List, [], ◌∷◌, ◌++◌, Result, Ok, Err, if◌then◌else◌, nat_le}
+use Rattle.lab_model.specs.Steps.{◌>>=◌}
 use Rattle.lab_model.specs.declared.fault.Refusal.{Refusal}
 use Rattle.lab_io.specs.Sink.{Text}
 use Rattle.labels.specs.Parts.{CertificateParts, ChainParts}
 use Rattle.certificate_text.specs.declared.chains.Spot.{Spot}
 use Rattle.certificate_text.specs.declared.head.Counts as head
 use Rattle.labels.specs.Form.{names_per, most_labels}
-use Rattle.certificate_text.specs.Fields.{◌>>=◌, Read, bad_line, value_if}
+use Rattle.certificate_text.specs.Fields.{Read, bad_line, value_if}
 use Rattle.certificate_text.specs.Line.{values_at}
 use Rattle.certificate_text.specs.Grammar.{end_line, label_line, layer_line, plan_line, rungs_line, score_line, segments_line, start_line, table_line, version_line}
 

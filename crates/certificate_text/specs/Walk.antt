@@ -1,5 +1,6 @@
 -- A certificate that is read layer by layer.
 use Rattle.std.specs.Prelude.{◌≡◌, ℕ, ◌+◌, ◌-◌, ◌*◌, ◌<◌, ◌==◌, List, [], ◌++◌, take, drop, map, Option, Some, None, Result, Ok, Err, if◌then◌else◌}
+use Rattle.lab_model.specs.Steps.{◌>>=◌}
 use Rattle.lab_model.specs.declared.fault.Refusal.{Refusal}
 use Rattle.lab_model.specs.declared.fault.InputFault.{InputFault}
 use Rattle.lab_model.specs.declared.fault.InputFault.TheVariants.{Memory, Refused}
@@ -8,7 +9,6 @@ use Rattle.lab_io.specs.Sink.{Text}
 use Rattle.labels.specs.Parts.{CertificateParts, ChainParts, chain_parts}
 use Rattle.certificate_text.specs.declared.certificate.Layer.{Layer}
 use Rattle.certificate_text.specs.declared.chains.Spot.{Spot}
-use Rattle.certificate_text.specs.Fields.{◌>>=◌}
 use Rattle.certificate_text.specs.Reading.{Place, certificate_of, chains_at, end_at, head_at, place_of}
 
 -- what was read before the chains, the segment whose layer comes next, and the place where it begins, or the refusal that was met

@@ -111,25 +111,25 @@ fn put_table<O: Sink>(out: &mut O, table: bool) -> Result<(), PutErr>
 }
 
 /// The lines of version and counts.
-fn put_counts<O: Sink>(out: &mut O, m: &Manifest, table: bool) -> Result<(), PutErr>
+fn put_counts<O: Sink>(out: &mut O, film: &Manifest, table: bool) -> Result<(), PutErr>
     ensures { Puts (O.seen out.old)
         (fields_line (version_fields table)
-        ++ (fields_line (fields_of segments_line (segments_of m.now, tt))
-        ++ (fields_line (fields_of rungs_line (rungs_of m.now, tt))
+        ++ (fields_line (fields_of segments_line (segments_of film.now, tt))
+        ++ (fields_line (fields_of rungs_line (rungs_of film.now, tt))
         ++ lines_text (table_lines table)))) (O.seen out.new) result }
 {
     put_version(out, version_number(table))?;
-    put_count(out, "segments", m.segments())?;
-    put_count(out, "rungs", u16::from(m.rungs()))?;
+    put_count(out, "segments", film.segments())?;
+    put_count(out, "rungs", u16::from(film.rungs()))?;
     put_table(out, table)
 }
 
 /// The lines before the chains.
-fn put_head<O: Sink>(out: &mut O, m: &Manifest, plan: &Plan) -> Result<(), PutErr>
-    ensures { Puts (O.seen out.old) (lines_text (head_lines (plan_parts m.now plan.now)))
+fn put_head<O: Sink>(out: &mut O, film: &Manifest, plan: &Plan) -> Result<(), PutErr>
+    ensures { Puts (O.seen out.old) (lines_text (head_lines (plan_parts film.now plan.now)))
         (O.seen out.new) result }
 {
-    put_counts(out, m, plan.table)?;
+    put_counts(out, film, plan.table)?;
     put_score(out, plan.score)?;
     put_plan(out, &plan.rungs)?;
     put_starts(out, &plan.starts)
@@ -271,11 +271,16 @@ fn put_chains<O: Sink>(
 ///
 /// The plan's counts are the film's, and its numbers have no more digits than the text allows. After an `Err` a
 /// prefix of the text went out, as for every writer.
-pub fn write_certificate<O: Sink>(m: &Manifest, plan: &Plan, out: &mut O) -> Result<(), PutErr>
-    requires { IsCertificate (plan_parts m.now plan.now) }
-    ensures { Puts (O.seen out.old) (spelling (plan_parts m.now plan.now)) (O.seen out.new) result }
+pub fn write_certificate<O: Sink>(film: &Manifest, plan: &Plan, out: &mut O) -> Result<(), PutErr>
+    requires { IsCertificate (plan_parts film.now plan.now) }
+    ensures { Puts (O.seen out.old) (spelling (plan_parts film.now plan.now)) (O.seen out.new) result }
 {
-    put_head(out, m, plan)?;
-    put_chains(out, m.segments() as usize, m.rungs() as usize, &plan.chains)?;
+    put_head(out, film, plan)?;
+    put_chains(
+        out,
+        film.segments() as usize,
+        film.rungs() as usize,
+        &plan.chains,
+    )?;
     put_line(out, "end")
 }

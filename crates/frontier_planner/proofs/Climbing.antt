@@ -5,6 +5,7 @@ use Rattle.std.proofs.lemmas.Bool.{cases_lt, false≢true}
 use Rattle.std.proofs.lemmas.Int.{ints}
 use Rattle.std.proofs.lemmas.List.{get_or_default}
 use Rattle.std.proofs.lemmas.List.Sums.{fails_before_first}
+use Rattle.lab_model.proofs.Orders.{≤ℤ_trans}
 use Rattle.lab_model.specs.declared.label.Label.{Label}
 use Rattle.frontier_planner.specs.Climbing.{ClimbsTo, IsClimbing, Reaches}
 use Rattle.labels.specs.Covers.{HasAbove}
@@ -19,13 +20,10 @@ use Rattle.labels.proofs.Kept.{dominates_from}
 abbrev pub ClimbsBelow : List Label → ℕ → Type 0
 ClimbsBelow chain n = (i j : ℕ) → i < j → j < n → ClimbsTo (get_or chain i no_label) (get_or chain j no_label)
 
-z_trans : (a b c : ℤ) → a ≤ℤ b → b ≤ℤ c → a ≤ℤ c
-z_trans a b c h k = omega (arith, ints)
-
 climbs_trans : (a b c : Label) → ClimbsTo a b → ClimbsTo b c → ClimbsTo a c
 climbs_trans a b c h k =
     let t = h.0 in let u = k.0 in let p = h.1 in let q = k.1 in
-    (omega (arith, t, u), omega (arith, p, q), z_trans a.v b.v c.v h.2 k.2)
+    (omega (arith, t, u), omega (arith, p, q), ≤ℤ_trans a.v b.v c.v h.2 k.2)
 
 -- one label alone climbs
 pub climbs_one : (chain : List Label) → ClimbsBelow chain 1

@@ -8,6 +8,7 @@ use Rattle.std.proofs.lemmas.List.{get_or_append_left, get_or_default, length_pu
 use Rattle.std.proofs.lemmas.Nat.{mod_below}
 use Rattle.std.proofs.Math.Nat.{div-lt_iff_lt-mul}
 use Rattle.std.proofs.Math.Seq.{get_or-append_seam}
+use Rattle.lab_model.proofs.Orders.{≤ℤ_trans}
 use Rattle.lab_model.specs.declared.label.Label.{Label}
 use Rattle.frontier_planner.specs.declared.blocks.Finder.{Finder}
 use Rattle.frontier_planner.specs.declared.blocks.Level.{Level}
@@ -104,9 +105,6 @@ built_all chain level begin some small h late = record {
 pub block_inside : (chain : List Label) (level : Level) (place : ℕ) → IsLevel chain level → place < length chain → place / level.size < length level.blocks.items
 block_inside chain level place h low = let some = h.some in let all = h.all in (div-lt_iff_lt-mul {k = level.size} {x = place} {y = length level.blocks.items} (omega (arith, some))).1 (omega (arith, low, all))
 
-z_trans : (a b c : ℤ) → a ≤ℤ b → b ≤ℤ c → a ≤ℤ c
-z_trans a b c h k = omega (arith, ints)
-
 n_trans : (a b c : ℕ) → a ≤ b → b ≤ c → a ≤ c
 n_trans a b c h k = omega arith
 
@@ -114,7 +112,7 @@ n_trans a b c h k = omega arith
 under_less : (steps : List Label) (m l : Label) → dominates m l ≡ true → HasUnder steps m.p m.v → HasUnder steps l.p l.v
 under_less steps m l e h =
     let d = dominates_true m l e in
-    (h.0, h.1, n_trans h.0.p m.p l.p h.2 d.1, z_trans l.v m.v h.0.v d.2 h.3)
+    (h.0, h.1, n_trans h.0.p m.p l.p h.2 d.1, ≤ℤ_trans l.v m.v h.0.v d.2 h.3)
 
 -- where the staircase of a place's block doesn't cover a label, no label up to the block's end dominates it
 pub block_passed : (chain : List Label) (level : Level) (place : ℕ) (s : Staircase) (l : Label) → IsLevel chain level → place < length chain → NoneBefore chain l place

@@ -18,7 +18,7 @@ use Rattle.labels.specs.Grid.{exact}
 use Rattle.labels.specs.Grown.{grown, CanPlan, grown_labels}
 use Rattle.frontier_planner.specs.Layers.{FrontiersAnswer, HoldAll, HoldPlan, rungs_read}
 use Rattle.labels.specs.Parts.{CertificateParts, ChainParts, plan_parts}
-use Rattle.labels.specs.Read.{SpentAt, bound_of, certificate_of, chain_list, end_of_plan, has_table, labels_in, list_of_plan, list_value, starts_of}
+use Rattle.labels.specs.Read.{SpentAt, bound_of, certificate_from, chain_list, end_of_plan, has_table, labels_in, list_of_plan, list_value, starts_of}
 use Rattle.labels.specs.Form.{HasSignedDigits, IsCertificate, score_digits}
 use Rattle.labels.specs.Valid.{IsValid}
 use Rattle.labels.specs.Best.{Settles}
@@ -45,10 +45,10 @@ module _ (d : Grid) (g : Task) (case : CanPlan d g) (budget : ℕ) where
       subst (λ n. Contains (grown_labels d g n) c) (sym at) (subst (Contains (grown_labels d g (segments_of g.film - 1))) (sym end) (end_found d g case.grid case.task).0)
 
   -- a plan with the certificate of the coarse frontiers is the coarse plan
-  pub coarse_is : budget ≤ 1000000 → (p : Plan) (most : ℤ) → plan_parts g.film p ≡ certificate_of d g (grown d g) → p.labels ≡ labels_in g (grown d g) → p.labels ≤ budget → most ≡ bound_of g (grown d g)
+  pub coarse_is : budget ≤ 1000000 → (p : Plan) (most : ℤ) → plan_parts g.film p ≡ certificate_from d g (grown d g) → p.labels ≡ labels_in g (grown d g) → p.labels ≤ budget → most ≡ bound_of g (grown d g)
       → IsPlanOf d g (grown d g) budget p most
   coarse_is small p most parts labels within bound =
-      let made = certificate_of d g (grown d g) in
+      let made = certificate_from d g (grown d g) in
       let b = bound_of g (grown d g) in
       let few : labels_in g (grown d g) ≤ 1000000 = omega (arith, labels, within, small) in
       let settles : Settles g p.rungs.items p.score b = subst (λ (c : CertificateParts). Settles g c.plan c.score b) (sym parts) (coarse_settles d case.grid g case.task) in
@@ -66,7 +66,7 @@ module _ (d : Grid) (g : Task) (case : CanPlan d g) (budget : ℕ) where
   -- the parts of its certificate, one by one
   pub parts_are : (table : Bool) (rungs starts : List ℕ) (score : ℤ) (chains : List ChainParts) → table ≡ has_table g.setup → rungs ≡ list_of_plan d g (grown d g) → score ≡ list_value g rungs
       → starts ≡ starts_of g (grown d g) → chains ≡ chain_list g (grown d g)
-      → record { table = table; segments = segments_of g.film; rungs = rungs_of g.film; score = score; plan = rungs; starts = starts; chains = chains } ≡ certificate_of d g (grown d g)
+      → record { table = table; segments = segments_of g.film; rungs = rungs_of g.film; score = score; plan = rungs; starts = starts; chains = chains } ≡ certificate_from d g (grown d g)
   parts_are table rungs starts score chains a b e f h =
       let n = segments_of g.film in
       let r = rungs_of g.film in

@@ -9,6 +9,7 @@ use Rattle.std.proofs.lemmas.Int.{ints}
 use Rattle.std.proofs.lemmas.List.{get_or-append_right, get_or-drop, get_or-take, get_or_append_left, get_or_default, length-drop, length-take-le}
 use Rattle.std.proofs.lemmas.List.Elements.{All-contains_itself, All-weaker, Contains-append_cases, Contains-append_left, Contains-append_right, Contains-get_or}
 use Rattle.std.proofs.lemmas.List.Kept.{AllPairs-cons}
+use Rattle.lab_model.proofs.Orders.{≤ℤ_trans}
 use Rattle.lab_model.specs.declared.label.Label.{Label}
 use Rattle.frontier_planner.specs.Staircase.{IsRising, IsStep}
 use Rattle.frontier_planner.specs.Sweep.{HasUnder}
@@ -34,13 +35,10 @@ int_le_true a b h = grind (arith, ints)
 pub le_int_le : (a b : ℤ) → a ≤ℤ b → int_le a b ≡ true
 le_int_le a b h = grind (arith, ints)
 
-z_trans : (a b c : ℤ) → a ≤ℤ b → b ≤ℤ c → a ≤ℤ c
-z_trans a b c h k = omega (arith, ints)
-
 -- along a staircase the values up to a number come before those above it
 pub parted_by_value : (steps : List Label) (v : ℤ) → IsRising steps → IsPartitionedBy (λ s. int_le s.v v) steps
 parted_by_value steps v rising i j d low inside h =
-    le_int_le (get_or steps i d).v v (z_trans (get_or steps i d).v (get_or steps j d).v v (rising_between steps rising i j d low inside).1 (int_le_true (get_or steps j d).v v h))
+    le_int_le (get_or steps i d).v v (≤ℤ_trans (get_or steps i d).v (get_or steps j d).v v (rising_between steps rising i j d low inside).1 (int_le_true (get_or steps j d).v v h))
 
 -- where the test fails, the second is less
 pub int_le_false : (a b : ℤ) → int_le a b ≡ false → b <ℤ a
@@ -60,7 +58,7 @@ covers_last steps count p v d rising bound above h =
     ⊎_elim (λ (low : k < count).
     let at : get_or steps k d ≡ h.0 = get_or_default steps k d h.0 inside ∙ h.1.2 in
     let more = (rising_between steps rising k (count - 1) d (omega (arith, low)) (omega (arith, low, bound))).1 in
-    (omega (arith, low), z_trans v (get_or steps k d).v (get_or steps (count - 1) d).v (subst (λ (s : Label). v ≤ℤ s.v) (sym at) h.3) more))
+    (omega (arith, low), ≤ℤ_trans v (get_or steps k d).v (get_or steps (count - 1) d).v (subst (λ (s : Label). v ≤ℤ s.v) (sym at) h.3) more))
     (λ (late : count ≤ k). let far = subst (λ (s : Label). p < s.p) h.1.2 (above k h.0 late inside) in absurd (omega (arith, far, short))) (cases_lt k count)
 
 -- where the first steps have no greater delay, and the last of them no less a value, some step is under these
@@ -174,7 +172,7 @@ module _ (steps : List Label) (l : Label) (from to : ℕ) (rising : IsRising ste
       let p' : l.p ≤ x.p = subst (λ (s : Label). l.p ≤ s.p) read (behind k x late inside) in
       let v' : x.v ≤ℤ l.v = subst (λ (s : Label). s.v ≤ℤ l.v) read (worth k x (omega arith) idle) in
       let q = h.2 in
-      (l, Contains-append_right (take from steps) (l ∷ drop to steps) l (at_head l (drop to steps)), omega (arith, p', q), z_trans v x.v l.v h.3 v'))
+      (l, Contains-append_right (take from steps) (l ∷ drop to steps) l (at_head l (drop to steps)), omega (arith, p', q), ≤ℤ_trans v x.v l.v h.3 v'))
       (λ (back : to ≤ k).
       let there : Contains (drop to steps) x = (k - to, omega (arith, tail, inside, back), get_or-drop to steps (k - to) x ∙ ap (λ n. get_or steps n x) (omega (arith, back)) ∙ read) in
       (x, Contains-append_right (take from steps) (l ∷ drop to steps) x (at_tail l (drop to steps) x there), h.2, h.3)) (cases_lt k to)) (cases_lt k from)

@@ -12,6 +12,7 @@ use Rattle.std.proofs.lemmas.Cmp.{back_total, int_cmp_total, nat_cmp_total, on_t
 use Rattle.std.proofs.lemmas.List.{get_or-take, get_or_default, length-take-le}
 use Rattle.std.proofs.lemmas.List.Elements.{All-append, All-nil, All-cons, Contains-append_left, Contains-push, Contains-push_cases, recursion_from_All, All-from_recursion}
 use Rattle.std.proofs.lemmas.List.Sorted.{Contains-permutation, IsPermutation-sym, ranks_by, sorted_far}
+use Rattle.lab_model.proofs.Orders.{≤ℤ_trans}
 use Rattle.lab_model.specs.declared.label.Label.{Label}
 use Rattle.labels.specs.Covers.{HasAbove}
 use Rattle.labels.specs.Frontier.{label_cmp, undominated}
@@ -46,9 +47,6 @@ by_time a b h = grind (arith, nat_tests)
 
 by_delay : (a b : Label) → a.t ≡ b.t → a.p < b.p → label_cmp a b ≡ Less
 by_delay a b h low = grind (arith, nat_tests)
-
-z_trans : (a b c : ℤ) → a ≤ℤ b → b ≤ℤ c → a ≤ℤ c
-z_trans a b c h k = omega (arith, ints)
 
 -- what is swept before, and doesn't dominate, is less
 less_before : (a b : Label) → NotBefore a b → (Dominates a b → ⊥) → label_cmp a b ≡ Less

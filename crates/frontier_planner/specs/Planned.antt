@@ -11,14 +11,14 @@ use Rattle.labels.specs.Grid.{exact}
 use Rattle.labels.specs.Grown.{grown}
 use Rattle.labels.specs.Parts.{plan_parts}
 use Rattle.labels.specs.Form.{HasSignedDigits, IsCertificate, score_digits}
-use Rattle.labels.specs.Read.{Chains, SpentAt, bound_of, certificate_of, labels_in}
+use Rattle.labels.specs.Read.{Chains, SpentAt, bound_of, certificate_from, labels_in}
 use Rattle.labels.specs.Valid.{IsValid}
 use Rattle.labels.specs.Best.{Settles}
 
 -- the plan that is read off these chains of a task on a grid, within a budget, and a bound for all rung lists
 pub record IsPlanOf (d : Grid) (g : Task) (chains : Chains) (budget : ℕ) (p : Plan) (most : ℤ) : Type 0 where
   -- its certificate is the one that is read off the chains
-  pub parts : plan_parts g.film p ≡ certificate_of d g chains
+  pub parts : plan_parts g.film p ≡ certificate_from d g chains
   -- they have so many labels, and no more than the budget
   pub labels : p.labels ≡ labels_in g chains
   pub within : p.labels ≤ budget

@@ -120,10 +120,14 @@ fn finders_by_rung(alloc: Global, chains: &[Vec<Label>]) -> Result<Vec<Finder>, 
 }
 
 /// The finders of the chains of the segment behind one, if there is such a segment.
-pub fn next_finders(alloc: Global, layers: &[Layer], seg: u16) -> Result<Vec<Finder>, AllocError>
-    ensures { IfOk result (λ v. AreOver layers.now (seg + 1) v.items) }
+pub fn next_finders(
+    alloc: Global,
+    layers: &[Layer],
+    segment: u16,
+) -> Result<Vec<Finder>, AllocError>
+    ensures { IfOk result (λ v. AreOver layers.now (segment + 1) v.items) }
 {
-    match layers.get(seg as usize + 1) {
+    match layers.get(segment as usize + 1) {
         Some(layer) => finders_by_rung(alloc, &layer.chains),
         None => Ok(Vec::new(alloc)),
     }

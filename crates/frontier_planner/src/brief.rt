@@ -1,10 +1,11 @@
 //! What is planned.
 
 ghost use Rattle.std.specs.Prelude.{◌≡◌, ◌-◌, ◌<◌, ◌≤◌};
+ghost use Rattle.lab_model.specs.Number.{IsNear};
 ghost use Rattle.lab_model.specs.Film.{rungs_of, segments_of};
 ghost use Rattle.labels.specs.Grid.{IsGrid, rounded};
 ghost use Rattle.labels.specs.Labels.{end_value, next_label, request_at, start_label};
-ghost use Rattle.labels.specs.Near.{CanFollow, IsNear};
+ghost use Rattle.labels.specs.Near.{CanFollow};
 ghost use Rattle.labels.specs.Read.{has_table};
 ghost use Rattle.frontier_planner.specs.Planning.{IsPlanning};
 
@@ -89,35 +90,35 @@ impl<'a> Brief<'a> {
         start_on(&self.scene, rung)
     }
 
-    /// The successor, to segment `seg` on `rung`, of a label of the segment before with its rung.
-    pub(crate) fn next(&self, seg: u16, old: (u8, Label), rung: u8) -> Label
-        requires seg { (1 ≤ seg) × (seg < segments_of self.now.scene.film) }
+    /// The successor, to segment `segment` on `rung`, of a label of the segment before with its rung.
+    pub(crate) fn next(&self, segment: u16, old: (u8, Label), rung: u8) -> Label
+        requires segment { (1 ≤ segment) × (segment < segments_of self.now.scene.film) }
         requires old_rung { old.0 < rungs_of self.now.scene.film }
         requires old { CanFollow old.1 }
         requires rung { rung < rungs_of self.now.scene.film }
-        ensures { result ≡ next_label self.now.scene seg old.0 old.1 rung }
+        ensures { result ≡ next_label self.now.scene segment old.0 old.1 rung }
     {
-        next_on(&self.scene, seg, old.0, old.1, rung)
+        next_on(&self.scene, segment, old.0, old.1, rung)
     }
 
     /// The instant at which a segment is asked for after a label of the segment before.
-    pub(crate) fn request(&self, seg: u16, old: Label) -> u64
-        requires seg { seg < segments_of self.now.scene.film }
+    pub(crate) fn request(&self, segment: u16, old: Label) -> u64
+        requires segment { segment < segments_of self.now.scene.film }
         requires old { CanFollow old }
-        ensures { result ≡ request_at self.now.scene seg old }
+        ensures { result ≡ request_at self.now.scene segment old }
     {
-        request_on(&self.scene, seg, old)
+        request_on(&self.scene, segment, old)
     }
 
     /// The value of the successor.
-    pub(crate) fn next_value(&self, seg: u16, old: (u8, Label), rung: u8) -> i64
-        requires seg { seg < segments_of self.now.scene.film }
+    pub(crate) fn next_value(&self, segment: u16, old: (u8, Label), rung: u8) -> i64
+        requires segment { segment < segments_of self.now.scene.film }
         requires old_rung { old.0 < rungs_of self.now.scene.film }
         requires old { CanFollow old.1 }
         requires rung { rung < rungs_of self.now.scene.film }
-        ensures { result ≡ (next_label self.now.scene seg old.0 old.1 rung).v }
+        ensures { result ≡ (next_label self.now.scene segment old.0 old.1 rung).v }
     {
-        value_on(&self.scene, seg, old.0, old.1.v, rung)
+        value_on(&self.scene, segment, old.0, old.1.v, rung)
     }
 
     /// What a label comes to at the end, in thousandths of a point.

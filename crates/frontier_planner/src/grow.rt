@@ -56,21 +56,21 @@ fn undominated_labels(alloc: Global, labels: Vec<Label>) -> Result<Vec<Label>, A
 fn successors(
     alloc: Global,
     brief: &Brief,
-    seg: u16,
+    segment: u16,
     followed: &[(u8, Label)],
     rung: u8,
 ) -> Result<Vec<Label>, AllocError>
-    requires seg { (1 ≤ seg) × (seg < segments_of brief.now.scene.film) }
+    requires segment { (1 ≤ segment) × (segment < segments_of brief.now.scene.film) }
     requires rung { rung < rungs_of brief.now.scene.film }
-    requires followed { AreFollowed brief.now seg followed.now }
+    requires followed { AreFollowed brief.now segment followed.now }
     ensures { IfOk result (λ v. v.items ≡ map
-        (λ c. rounded brief.now.grid (next_label brief.now.scene seg c.0 c.1 rung))
+        (λ c. rounded brief.now.grid (next_label brief.now.scene segment c.0 c.1 rung))
         followed.now) }
 {
     prove!(brief.segments() > 0);
     let mut made = Vec::with_capacity(alloc, followed.len())?;
     for old in followed {
-        let next = brief.next(seg, *old, rung);
+        let next = brief.next(segment, *old, rung);
         made.push(brief.round(next))?;
     }
     Ok(made)
@@ -80,24 +80,24 @@ fn successors(
 fn frontier(
     alloc: Global,
     brief: &Brief,
-    seg: u16,
+    segment: u16,
     followed: &[(u8, Label)],
     rung: u8,
 ) -> Result<Vec<Label>, AllocError>
-    requires seg { seg < segments_of brief.now.scene.film }
+    requires segment { segment < segments_of brief.now.scene.film }
     requires rung { rung < rungs_of brief.now.scene.film }
-    requires followed { 0 < seg → AreFollowed brief.now seg followed.now }
+    requires followed { 0 < segment → AreFollowed brief.now segment followed.now }
     ensures { IfOk result (λ v. v.items
-        ≡ grown brief.now.grid brief.now.scene seg rung) }
+        ≡ grown brief.now.grid brief.now.scene segment rung) }
 {
     prove!(brief.segments() > 0);
-    if seg == 0 {
+    if segment == 0 {
         let start = brief.start(rung);
         let mut only = Vec::new(alloc);
         only.push(brief.round(start))?;
         return Ok(only);
     }
-    let candidates = successors(alloc, brief, seg, followed, rung)?;
+    let candidates = successors(alloc, brief, segment, followed, rung)?;
     undominated_labels(alloc, candidates)
 }
 
@@ -105,18 +105,18 @@ fn frontier(
 fn followed_labels(
     alloc: Global,
     brief: &Brief,
-    seg: u16,
+    segment: u16,
     before: &[(u8, Label)],
 ) -> Result<Vec<(u8, Label)>, AllocError>
-    requires seg { seg < segments_of brief.now.scene.film }
-    requires before { 0 < seg
-        → before.now ≡ grown_labels brief.now.grid brief.now.scene (seg - 1) }
-    ensures { IfOk result (λ v. 0 < seg → AreFollowed brief.now seg v.items) }
+    requires segment { segment < segments_of brief.now.scene.film }
+    requires before { 0 < segment
+        → before.now ≡ grown_labels brief.now.grid brief.now.scene (segment - 1) }
+    ensures { IfOk result (λ v. 0 < segment → AreFollowed brief.now segment v.items) }
 {
-    if seg == 0 {
+    if segment == 0 {
         return Ok(Vec::new(alloc));
     }
-    labels_to_follow(alloc, brief, seg, before)
+    labels_to_follow(alloc, brief, segment, before)
 }
 
 /// The frontiers of one segment.
@@ -144,22 +144,22 @@ fn add_chain(labels: &mut Vec<(u8, Label)>, rung: u8, chain: &[Label]) -> Result
 fn grown_layer(
     alloc: Global,
     brief: &Brief,
-    seg: u16,
+    segment: u16,
     before: &[(u8, Label)],
     left: u32,
 ) -> Result<Layer, PlanErr>
-    requires seg { seg < segments_of brief.now.scene.film }
-    requires before { 0 < seg
-        → before.now ≡ grown_labels brief.now.grid brief.now.scene (seg - 1) }
-    ensures { LayerAnswer brief.now.grid brief.now.scene seg left result }
+    requires segment { segment < segments_of brief.now.scene.film }
+    requires before { 0 < segment
+        → before.now ≡ grown_labels brief.now.grid brief.now.scene (segment - 1) }
+    ensures { LayerAnswer brief.now.grid brief.now.scene segment left result }
 {
-    let followed = followed_labels(alloc, brief, seg, before)?;
+    let followed = followed_labels(alloc, brief, segment, before)?;
     let mut labels = Vec::new(alloc);
     let mut chains = Vec::new(alloc);
     for rung in 0..brief.rungs() {
-        let chain = frontier(alloc, brief, seg, &followed, rung)?;
+        let chain = frontier(alloc, brief, segment, &followed, rung)?;
         if chain.len() > left as usize - labels.len() {
-            return Err(PlanErr::BudgetSpent { segment: seg });
+            return Err(PlanErr::BudgetSpent { segment: segment });
         }
         add_chain(&mut labels, rung, &chain)?;
         chains.push(chain)?;
@@ -193,9 +193,9 @@ pub fn grown_frontiers(alloc: Global, brief: &Brief, budget: u32) -> Result<Fron
 {
     let mut layers = Vec::new(alloc);
     let mut left = budget;
-    for seg in 0..brief.segments() {
+    for segment in 0..brief.segments() {
         let before = last_labels(&layers);
-        let next = grown_layer(alloc, brief, seg, before, left)?;
+        let next = grown_layer(alloc, brief, segment, before, left)?;
         left -= next.labels.len() as u32;
         layers.push(next)?;
     }

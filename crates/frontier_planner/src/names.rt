@@ -39,28 +39,32 @@ pub fn starts(alloc: Global, brief: &Brief, layers: &[Layer]) -> Result<Vec<u32>
 /// a place near which it may be.
 fn name_of(
     brief: &Brief,
-    seg: u16,
+    segment: u16,
     reached: (u8, Label),
     rung: u8,
     chain: &[Label],
     finder: &Finder,
     hint: usize,
 ) -> u32
-    requires seg { seg + 1 < segments_of brief.now.scene.film }
+    requires segment { segment + 1 < segments_of brief.now.scene.film }
     requires reached { CanGoOn brief.now reached rung }
     requires few { length chain.now ≤ 1000000 }
     requires finder { IsFinder chain.now finder.now }
     requires above { HasAbove chain.now
-        (next_label brief.now.scene (seg + 1) reached.0 reached.1 rung) }
+        (next_label brief.now.scene (segment + 1) reached.0 reached.1 rung) }
     ensures { result ≡ place_above chain.now
-        (next_label brief.now.scene (seg + 1) reached.0 reached.1 rung) }
+        (next_label brief.now.scene (segment + 1) reached.0 reached.1 rung) }
 {
     prove!(brief.segments() > 0);
     if finder.climbs {
-        let value = brief.next_value(seg + 1, reached, rung);
+        let value = brief.next_value(segment + 1, reached, rung);
         return place_of_value(chain, hint, value) as u32;
     }
-    first_above(chain, &finder.levels, brief.next(seg + 1, reached, rung))
+    first_above(
+        chain,
+        &finder.levels,
+        brief.next(segment + 1, reached, rung),
+    )
 }
 
 /// The name that stands so many places before the end, as a hint for the next one, and 0 where there is none.
@@ -76,25 +80,25 @@ fn name_label(
     brief: &Brief,
     layers: &[Layer],
     finders: &[Finder],
-    seg: u16,
+    segment: u16,
     reached: (u8, Label),
     names: &mut Vec<u32>,
 ) -> Result<(), AllocError>
     requires layers { HoldPlan brief.now.grid brief.now.scene layers.now }
-    requires finders { AreOver layers.now (seg + 1) finders.now }
-    requires seg { seg + 1 < segments_of brief.now.scene.film }
+    requires finders { AreOver layers.now (segment + 1) finders.now }
+    requires segment { segment + 1 < segments_of brief.now.scene.film }
     requires reached { Contains
-        (grown_labels brief.now.grid brief.now.scene seg) reached }
+        (grown_labels brief.now.grid brief.now.scene segment) reached }
     ensures { IfOk result (λ _. names.new.items
-        ≡ names.old.items ++ names_read brief.now.grid brief.now.scene seg reached) }
+        ≡ names.old.items ++ names_read brief.now.grid brief.now.scene segment reached) }
 {
-    let next = &layers[seg as usize + 1].chains;
+    let next = &layers[segment as usize + 1].chains;
     let rungs = brief.rungs();
     for rung in 0..rungs {
         let hint = hint_in(names, rungs);
         let chain = &next[rung as usize];
         let finder = &finders[rung as usize];
-        let place = name_of(brief, seg, reached, rung, chain, finder, hint);
+        let place = name_of(brief, segment, reached, rung, chain, finder, hint);
         names.push(place)?;
     }
     Ok(())
@@ -106,20 +110,20 @@ fn names(
     brief: &Brief,
     layers: &[Layer],
     finders: &[Finder],
-    seg: u16,
+    segment: u16,
     rung: u8,
 ) -> Result<Vec<u32>, AllocError>
     requires layers { HoldPlan brief.now.grid brief.now.scene layers.now }
-    requires finders { AreOver layers.now (seg + 1) finders.now }
-    requires seg { seg + 1 < segments_of brief.now.scene.film }
+    requires finders { AreOver layers.now (segment + 1) finders.now }
+    requires segment { segment + 1 < segments_of brief.now.scene.film }
     requires rung { rung < rungs_of brief.now.scene.film }
     ensures { IfOk result (λ v. v.items
-        ≡ flat_map (λ l. names_read brief.now.grid brief.now.scene seg (rung, l))
-        (grown brief.now.grid brief.now.scene seg rung)) }
+        ≡ flat_map (λ l. names_read brief.now.grid brief.now.scene segment (rung, l))
+        (grown brief.now.grid brief.now.scene segment rung)) }
 {
     let mut names = Vec::new(alloc);
-    for l in &layers[seg as usize].chains[rung as usize] {
-        name_label(brief, layers, finders, seg, (rung, *l), &mut names)?;
+    for l in &layers[segment as usize].chains[rung as usize] {
+        name_label(brief, layers, finders, segment, (rung, *l), &mut names)?;
     }
     Ok(names)
 }
@@ -130,19 +134,19 @@ fn named_chain(
     brief: &Brief,
     layers: &[Layer],
     finders: &[Finder],
-    seg: u16,
+    segment: u16,
     rung: u8,
 ) -> Result<Chain, AllocError>
     requires layers { HoldPlan brief.now.grid brief.now.scene layers.now }
-    requires finders { AreOver layers.now (seg + 1) finders.now }
-    requires seg { seg < segments_of brief.now.scene.film }
+    requires finders { AreOver layers.now (segment + 1) finders.now }
+    requires segment { segment < segments_of brief.now.scene.film }
     requires rung { rung < rungs_of brief.now.scene.film }
     ensures { IfOk result (λ c. chain_parts c
-        ≡ chain_read brief.now.grid brief.now.scene seg rung) }
+        ≡ chain_read brief.now.grid brief.now.scene segment rung) }
 {
-    let labels = Vec::from_slice(alloc, &layers[seg as usize].chains[rung as usize])?;
-    let names = if seg + 1 < brief.segments() {
-        names(alloc, brief, layers, finders, seg, rung)?
+    let labels = Vec::from_slice(alloc, &layers[segment as usize].chains[rung as usize])?;
+    let names = if segment + 1 < brief.segments() {
+        names(alloc, brief, layers, finders, segment, rung)?
     } else {
         Vec::new(alloc)
     };
@@ -154,18 +158,18 @@ fn add_named(
     alloc: Global,
     brief: &Brief,
     layers: &[Layer],
-    seg: u16,
+    segment: u16,
     chains: &mut Vec<Chain>,
 ) -> Result<(), AllocError>
     requires layers { HoldPlan brief.now.grid brief.now.scene layers.now }
-    requires seg { seg < segments_of brief.now.scene.film }
+    requires segment { segment < segments_of brief.now.scene.film }
     ensures { IfOk result (λ _. map chain_parts chains.new.items
         ≡ map chain_parts chains.old.items
-        ++ chains_read brief.now.grid brief.now.scene seg) }
+        ++ chains_read brief.now.grid brief.now.scene segment) }
 {
-    let finders = next_finders(alloc, layers, seg)?;
+    let finders = next_finders(alloc, layers, segment)?;
     for rung in 0..brief.rungs() {
-        let chain = named_chain(alloc, brief, layers, &finders, seg, rung)?;
+        let chain = named_chain(alloc, brief, layers, &finders, segment, rung)?;
         chains.push(chain)?;
     }
     Ok(())
@@ -179,8 +183,8 @@ pub fn chains(alloc: Global, brief: &Brief, layers: &[Layer]) -> Result<Vec<Chai
         (grown brief.now.grid brief.now.scene)) }
 {
     let mut chains = Vec::new(alloc);
-    for seg in 0..brief.segments() {
-        add_named(alloc, brief, layers, seg, &mut chains)?;
+    for segment in 0..brief.segments() {
+        add_named(alloc, brief, layers, segment, &mut chains)?;
     }
     Ok(chains)
 }

@@ -50,22 +50,22 @@ fn plan_of(alloc: Global, brief: &Brief, budget: u32) -> Result<CoarsePlan, Plan
 /// end they have more.
 pub fn plan_from(
     alloc: Global,
-    m: &Manifest,
+    film: &Manifest,
     clock: &Clock,
-    set: &Setup,
+    setup: &Setup,
     ahead: u32,
     grid: Grid,
     budget: u32,
 ) -> Result<CoarsePlan, PlanErr>
-    requires setup { SetupFits set.now m.now }
+    requires setup { SetupFits setup.now film.now }
     requires ahead { ahead ≤ 120000000 }
     requires grid { IsGrid grid }
     requires budget { (1 ≤ budget) × (budget ≤ 1000000) }
-    ensures coarse { CoarseAnswer grid (task_of m.now clock.now set.now ahead) budget result }
-    ensures exact { ExactAnswer grid (task_of m.now clock.now set.now ahead) budget result }
+    ensures coarse { CoarseAnswer grid (task_of film.now clock.now setup.now ahead) budget result }
+    ensures exact { ExactAnswer grid (task_of film.now clock.now setup.now ahead) budget result }
     ensures bound { grid ≡ exact → IfOk result (λ c. c.bound ≡ c.plan.score) }
 {
-    let scene = Scene::new(m, clock, set, ahead);
+    let scene = Scene::new(film, clock, setup, ahead);
     plan_of(alloc, &Brief::new(scene, grid), budget)
 }
 
@@ -76,15 +76,15 @@ const ALL_AHEAD: u32 = 120_000_000;
 /// budget, 1 to 1000000: `BudgetSpent` names the first segment at whose end they have more.
 pub fn plan(
     alloc: Global,
-    m: &Manifest,
+    film: &Manifest,
     clock: &Clock,
-    set: &Setup,
+    setup: &Setup,
     budget: u32,
 ) -> Result<Plan, PlanErr>
-    requires setup { SetupFits set.now m.now }
+    requires setup { SetupFits setup.now film.now }
     requires budget { (1 ≤ budget) × (budget ≤ 1000000) }
-    ensures { PlanAnswer (task_of m.now clock.now set.now all_ahead) budget result }
+    ensures { PlanAnswer (task_of film.now clock.now setup.now all_ahead) budget result }
 {
     let exact = Grid { time: 1, value: 1 };
-    Ok(plan_from(alloc, m, clock, set, ALL_AHEAD, exact, budget)?.plan)
+    Ok(plan_from(alloc, film, clock, setup, ALL_AHEAD, exact, budget)?.plan)
 }

@@ -43,21 +43,21 @@ pub fn best_end(brief: &Brief, last: &[(u8, Label)]) -> (u8, Label)
 /// The first of the labels of the segment before whose rounded successor is this one.
 fn parent(
     brief: &Brief,
-    seg: u16,
+    segment: u16,
     before: &[(u8, Label)],
     reached: (u8, Label),
 ) -> Option<(u8, Label)>
-    requires seg { (1 ≤ seg) × (seg < segments_of brief.now.scene.film) }
+    requires segment { (1 ≤ segment) × (segment < segments_of brief.now.scene.film) }
     requires before { before.now
-        ≡ grown_labels brief.now.grid brief.now.scene (seg - 1) }
+        ≡ grown_labels brief.now.grid brief.now.scene (segment - 1) }
     requires reached { Contains
-        (grown_labels brief.now.grid brief.now.scene seg) reached }
+        (grown_labels brief.now.grid brief.now.scene segment) reached }
     ensures { result ≡ find
-        (λ b. leads_to brief.now.grid brief.now.scene seg b reached) before.now }
+        (λ b. leads_to brief.now.grid brief.now.scene segment b reached) before.now }
 {
     prove!(brief.segments() > 0);
     for old in before {
-        let next = brief.next(seg, *old, reached.0);
+        let next = brief.next(segment, *old, reached.0);
         if brief.round(next) == reached.1 {
             return Some(*old);
         }
@@ -70,26 +70,26 @@ pub fn rungs_to(
     alloc: Global,
     brief: &Brief,
     layers: &[Layer],
-    seg: u16,
+    segment: u16,
     reached: (u8, Label),
 ) -> Result<Vec<u8>, AllocError>
-    requires seg { (seg < segments_of brief.now.scene.film) × (seg < length layers.now) }
+    requires segment { (segment < segments_of brief.now.scene.film) × (segment < length layers.now) }
     requires layers { HoldAll brief.now.grid brief.now.scene layers.now }
     requires reached { Contains
-        (grown_labels brief.now.grid brief.now.scene seg) reached }
+        (grown_labels brief.now.grid brief.now.scene segment) reached }
     ensures { IfOk result (λ v. v.items
-        ≡ rungs_read brief.now.grid brief.now.scene seg reached) }
+        ≡ rungs_read brief.now.grid brief.now.scene segment reached) }
 {
-    if seg == 0 {
+    if segment == 0 {
         let mut rungs = Vec::with_capacity(alloc, layers.len())?;
         rungs.push(reached.0)?;
         return Ok(rungs);
     }
-    let before = &layers[seg as usize - 1].labels;
-    let Some(old) = parent(brief, seg, before, reached) else {
+    let before = &layers[segment as usize - 1].labels;
+    let Some(old) = parent(brief, segment, before, reached) else {
         unreachable!()
     };
-    let mut rungs = rungs_to(alloc, brief, layers, seg - 1, old)?;
+    let mut rungs = rungs_to(alloc, brief, layers, segment - 1, old)?;
     rungs.push(reached.0)?;
     Ok(rungs)
 }
@@ -102,9 +102,9 @@ pub fn value_of_list(brief: &Brief, rungs: &[u8]) -> i128
 {
     prove!(brief.segments() > 0);
     let mut label = brief.start(rungs[0]);
-    for seg in 1..brief.segments() {
-        let old_rung = rungs[seg as usize - 1];
-        label = brief.next(seg, (old_rung, label), rungs[seg as usize]);
+    for segment in 1..brief.segments() {
+        let old_rung = rungs[segment as usize - 1];
+        label = brief.next(segment, (old_rung, label), rungs[segment as usize]);
     }
     brief.end_value(label)
 }

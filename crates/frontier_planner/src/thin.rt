@@ -22,16 +22,16 @@ use std::alloc::{AllocError, Global};
 fn waiting_labels(
     alloc: Global,
     brief: &Brief,
-    seg: u16,
+    segment: u16,
     before: &[(u8, Label)],
 ) -> Result<Vec<(u8, Label)>, AllocError>
-    requires seg { (1 ≤ seg) × (seg < segments_of brief.now.scene.film) }
+    requires segment { (1 ≤ segment) × (segment < segments_of brief.now.scene.film) }
     requires before { All (λ c. CanFollow c.1) before.now }
-    ensures { IfOk result (λ v. v.items ≡ map (waiting brief.now.scene seg) before.now) }
+    ensures { IfOk result (λ v. v.items ≡ map (waiting brief.now.scene segment) before.now) }
 {
     let mut waits = Vec::with_capacity(alloc, before.len())?;
     for old in before {
-        let request = brief.request(seg, old.1);
+        let request = brief.request(segment, old.1);
         waits.push((
             old.0,
             Label {
@@ -52,15 +52,15 @@ fn put_in_order(labels: &mut Vec<(u8, Label)>)
 }
 
 /// What a change of rung costs at a segment at most: 0 to 10^12 thousandths of a point.
-fn dearest_change(brief: &Brief, seg: u16) -> u64
-    requires { seg < segments_of brief.now.scene.film }
-    ensures most { CoversChange brief.now.scene seg result }
+fn dearest_change(brief: &Brief, segment: u16) -> u64
+    requires { segment < segments_of brief.now.scene.film }
+    ensures most { CoversChange brief.now.scene segment result }
     ensures limit { result ≤ 1000000000000 }
 {
     let weights = brief.weights();
     let mut top = 0;
     for rung in 0..brief.rungs() {
-        top = weights.utility(seg, rung).max(top);
+        top = weights.utility(segment, rung).max(top);
     }
     weights.switch() as u64 * top as u64
 }
@@ -107,16 +107,16 @@ fn leaders(
 pub fn labels_to_follow(
     alloc: Global,
     brief: &Brief,
-    seg: u16,
+    segment: u16,
     before: &[(u8, Label)],
 ) -> Result<Vec<(u8, Label)>, AllocError>
-    requires seg { (1 ≤ seg) × (seg < segments_of brief.now.scene.film) }
+    requires segment { (1 ≤ segment) × (segment < segments_of brief.now.scene.film) }
     requires before { before.now
-        ≡ grown_labels brief.now.grid brief.now.scene (seg - 1) }
-    ensures { IfOk result (λ v. AreFollowed brief.now seg v.items) }
+        ≡ grown_labels brief.now.grid brief.now.scene (segment - 1) }
+    ensures { IfOk result (λ v. AreFollowed brief.now segment v.items) }
 {
     prove!(brief.segments() > 0);
-    let mut waits = waiting_labels(alloc, brief, seg, before)?;
+    let mut waits = waiting_labels(alloc, brief, segment, before)?;
     put_in_order(&mut waits);
-    leaders(alloc, &waits, dearest_change(brief, seg))
+    leaders(alloc, &waits, dearest_change(brief, segment))
 }

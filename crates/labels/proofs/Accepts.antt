@@ -17,7 +17,7 @@ use Rattle.player_core.specs.Scene.{IsTask, Task}
 use Rattle.labels.specs.Parts.{CertificateParts, ChainParts}
 use Rattle.labels.specs.Grid.{IsGrid}
 use Rattle.labels.specs.Grown.{grown}
-use Rattle.labels.specs.Read.{Chains, bound_of, certificate_of, chain_with_names, names_of_label, no_label, place_above}
+use Rattle.labels.specs.Read.{Chains, bound_of, certificate_from, chain_with_names, names_of_label, no_label, place_above}
 use Rattle.labels.specs.Covers.{Covers, HasAbove}
 use Rattle.labels.specs.Valid.{IsPlace, IsValid, chain_in, count_in, label_in, name_in, no_chain, start_in}
 use Rattle.labels.proofs.Covered.{rung_at}
@@ -75,10 +75,10 @@ place_found chain l h =
 
 module _ (d : Grid) (g : Task) (chains : Chains) where
   abbrev c : CertificateParts
-  c = certificate_of d g chains
+  c = certificate_from d g chains
 
   -- the chain of a segment and a rung is the one given, with its names
-  pub chain_at : (i q : ℕ) → i < segments_of g.film → q < rungs_of g.film → chain_in (certificate_of d g chains) i q ≡ chain_with_names g chains i q
+  pub chain_at : (i q : ℕ) → i < segments_of g.film → q < rungs_of g.film → chain_in (certificate_from d g chains) i q ≡ chain_with_names g chains i q
   chain_at i q low rung =
       let f = λ (k : ℕ). map (λ r. chain_with_names g chains k r) (rungs_below (rungs_of g.film)) in
       row_at f (rungs_of g.film) (λ k. map_below_length (λ r. chain_with_names g chains k r) (rungs_of g.film)) (rungs_below (segments_of g.film)) i q 0 no_chain
@@ -86,20 +86,20 @@ module _ (d : Grid) (g : Task) (chains : Chains) where
       ∙ ap (λ k. get_or (f k) q no_chain) (below_at (segments_of g.film) i 0 low) ∙ map_below_at (λ r. chain_with_names g chains i r) (rungs_of g.film) q no_chain rung
 
   -- it has as many labels as the one given
-  pub count_at : (i q : ℕ) → i < segments_of g.film → q < rungs_of g.film → count_in (certificate_of d g chains) i q ≡ length (chains i q)
+  pub count_at : (i q : ℕ) → i < segments_of g.film → q < rungs_of g.film → count_in (certificate_from d g chains) i q ≡ length (chains i q)
   count_at i q low rung = ap (λ (x : ChainParts). length x.labels) (chain_at i q low rung)
 
   -- its labels are those of the one given
-  pub label_is : (i q k : ℕ) → i < segments_of g.film → q < rungs_of g.film → label_in (certificate_of d g chains) i q k ≡ get_or (chains i q) k no_label
+  pub label_is : (i q k : ℕ) → i < segments_of g.film → q < rungs_of g.film → label_in (certificate_from d g chains) i q k ≡ get_or (chains i q) k no_label
   label_is i q k low rung = ap (λ (x : ChainParts). get_or x.labels k no_label) (chain_at i q low rung)
 
   -- the start of a rung is the first place in its first chain whose label dominates the rung's start label
-  pub start_is : (q : ℕ) → q < rungs_of g.film → start_in (certificate_of d g chains) q ≡ place_above (chains 0 q) (start_label g q)
+  pub start_is : (q : ℕ) → q < rungs_of g.film → start_in (certificate_from d g chains) q ≡ place_above (chains 0 q) (start_label g q)
   start_is q rung = map_below_at (λ r. place_above (chains 0 r) (start_label g r)) (rungs_of g.film) q 0 rung
 
   -- the name of a label, for a next rung, is the first place there whose label dominates the successor
   pub name_is : (i q k r : ℕ) → suc i < segments_of g.film → q < rungs_of g.film → k < length (chains i q) → r < rungs_of g.film
-      → name_in (certificate_of d g chains) i q k r ≡ place_above (chains (suc i) r) (next_label g (suc i) q (get_or (chains i q) k no_label) r)
+      → name_in (certificate_from d g chains) i q k r ≡ place_above (chains (suc i) r) (next_label g (suc i) q (get_or (chains i q) k no_label) r)
   name_is i q k r low rung inside next =
       let names = flat_map (names_of_label g chains i q) (chains i q) in
       let more = nat_lt (suc i) (segments_of g.film) in
@@ -112,7 +112,7 @@ module _ (d : Grid) (g : Task) (chains : Chains) where
 
 module _ (d : Grid) (grid : IsGrid d) (g : Task) (is : IsTask g) where
   abbrev made : CertificateParts
-  made = certificate_of d g (grown d g)
+  made = certificate_from d g (grown d g)
 
   covers : Covers g (grown d g)
   covers = grown_covers d g grid

@@ -1,6 +1,6 @@
 -- The player of a rung list stays beside the labels along it until its end, and what it shows there.
-use Rattle.std.proofs.Common.{◌≡◌, ◌∙◌, ℕ, zero, suc, ◌+◌, ◌-◌, ◌*◌, ◌<◌, ◌≤◌, ⊎_elim, true, false, ◌&&◌, eqb, List, [], ◌∷◌, ◌++◌, length, refl, sym, ap, subst, arith, length-append, mul-le-mul_right}
-use Rattle.std.proofs.lemmas.Bool.{and_parts, cases_Bool, cases_lt, cond_both, eqb-true, true≢false}
+use Rattle.std.proofs.Common.{◌≡◌, ◌∙◌, ℕ, zero, suc, ◌+◌, ◌-◌, ◌*◌, ◌<◌, ◌≤◌, true, false, ◌&&◌, eqb, List, [], ◌∷◌, ◌++◌, length, refl, sym, ap, subst, arith, length-append}
+use Rattle.std.proofs.lemmas.Bool.{and_parts, cond_both, eqb-true, true≢false}
 use Rattle.std.proofs.lemmas.List.{append-nil, nil_from_length}
 use Rattle.lab_model.specs.declared.label.Label.{Label}
 use Rattle.lab_model.specs.Film.{segments_of}
@@ -10,11 +10,11 @@ use Rattle.player_core.specs.Parts.{arrival, finish, instant, is_ended, is_playi
 use Rattle.player_core.specs.Session.{end_of, ends_at, last_player, player_after}
 use Rattle.player_core.specs.Sound.{Sound}
 use Rattle.player_core.proofs.Counts.{begun_all}
-use Rattle.player_core.proofs.Ends.{end_before, end_early, end_found}
+use Rattle.player_core.proofs.Ends.{end_before}
 use Rattle.player_core.proofs.Moves.{finish_stays}
+use Rattle.player_core.proofs.Over.{last_stopped, over_next, stopped_over}
 use Rattle.player_core.proofs.Players.{gone_on, instant_sound, player_next, player_sound, stopped}
 use Rattle.player_core.proofs.Soundness.{arrival_sound}
-use Rattle.player_core.proofs.Turned.{last_is, turn_goes}
 use Rattle.player_core.proofs.Waits.{instant_still}
 use Rattle.labels.specs.Labels.{AreRungs, label_at}
 use Rattle.player_core.specs.Scene.{IsTask, Task}
@@ -92,23 +92,11 @@ before_goes (suc i) = refl
 
 module _ (g : Task) (is : IsTask g) (rungs : List ℕ) (fits : AreRungs g (segments_of g.film) rungs) where
   module _ (from : ℕ) (l : Label) (p : Player) (h : Sound (case_along g rungs) from p) (a : Along g rungs 0 l p) where
-    -- where all is played all is loaded, and nothing is left that hasn't begun
-    over_next : p.x ≡ segments_of g.film * g.film.seg_ms → p.k ≡ segments_of g.film
-    over_next e =
-        let n = segments_of g.film in
-        let next = h.next in
-        let position = h.position in
-        let end = h.loaded_end in
-        let some = is.film.seg_ms.0 in
-        ⊎_elim (λ (short : p.k < n).
-        let less : (p.k + 1) * g.film.seg_ms ≤ n * g.film.seg_ms = mul-le-mul_right g.film.seg_ms (omega (arith, short)) in
-        absurd (omega (arith, e, position, end, some, less)))
-        (λ (all : n ≤ p.k). omega (arith, next, all)) (cases_lt p.k n)
-
+    -- where all is played nothing is left that hasn't begun
     over_loaded : p.x ≡ segments_of g.film * g.film.seg_ms → p.loaded ≡ []
     over_loaded e =
         let n = segments_of g.film in
-        let next = over_next e in
+        let next = over_next (case_along g rungs) (along_case g is rungs fits) from p h e in
         let count = fits.0 in
         let all = ap length a.listed ∙ played_length rungs p.k (omega (arith, next, count)) in
         let parts = length-append p.played p.loaded in
@@ -125,7 +113,7 @@ module _ (g : Task) (is : IsTask g) (rungs : List ℕ) (fits : AreRungs g (segme
 
     over_along : p.x ≡ segments_of g.film * g.film.seg_ms → Over g rungs p
     over_along e =
-        let next = over_next e in
+        let next = over_next (case_along g rungs) (along_case g is rungs fits) from p h e in
         let some = is.film.segments.0 in
         record {
           played = sym (append-nil p.played) ∙ ap (λ ps. p.played ++ ps) (sym (over_loaded e)) ∙ a.listed ∙ ap (λ k. rungs_played rungs k) next;
@@ -151,7 +139,4 @@ module _ (g : Task) (is : IsTask g) (rungs : List ℕ) (fits : AreRungs g (segme
       let p = player_after c n in
       let sound = player_sound c case n (end_before c) in
       let came = arrival_along g is rungs fits n p sound.0 (along g is rungs fits n (end_before c)) in
-      let over : is_ended (stopped c p).mode ≡ true =
-      ⊎_elim (λ (yes : is_ended (stopped c p).mode ≡ true). yes)
-      (λ (goes : is_ended (stopped c p).mode ≡ false). absurd (true≢false (sym (end_found c case) ∙ turn_goes c n goes))) (cases_Bool (is_ended (stopped c p).mode)) in
-      subst (Over g rungs) (sym (last_is c case n (end_early c case) (end_before c) over)) (finish_over n came.0 (arrival c p) (arrival_sound c n p sound.0) came.1 over)
+      subst (Over g rungs) (sym (last_stopped c case)) (finish_over n came.0 (arrival c p) (arrival_sound c n p sound.0) came.1 (stopped_over c case))

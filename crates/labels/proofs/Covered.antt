@@ -3,6 +3,7 @@ use Rattle.std.proofs.Common.{ℕ, zero, suc, ◌-◌, ◌<◌, List, sym, subst
 use Rattle.std.specs.Prelude.{ℤ, ◌≤ℤ◌, slice_index}
 use Rattle.std.specs.List.{Contains}
 use Rattle.std.proofs.lemmas.Int.{ints}
+use Rattle.lab_model.proofs.Orders.{≤ℤ_trans}
 use Rattle.lab_model.specs.declared.label.Label.{Label}
 use Rattle.lab_model.specs.Film.{rungs_of, segments_of}
 use Rattle.labels.specs.Labels.{AreRungs, Dominates, end_value, label_at, next_label}
@@ -34,9 +35,6 @@ covered g chains is c rungs h (suc i) low =
     let over = subst (λ k. Dominates top.0 (next_label g k q before.0 r)) (add-one i) top.2 in
     (top.0, here, subst (Dominates top.0) (sym (label_next g rungs i)) (dominates_trans top.0 (next_label g (suc i) q before.0 r) (next_label g (suc i) q (label_at g rungs i) r) over step))
 
-z_trans : (a b c : ℤ) → a ≤ℤ b → b ≤ℤ c → a ≤ℤ c
-z_trans a b c h k = omega (arith, ints)
-
 -- no list's labels come to more than the greatest end value
 pub covered_value : (g : Task) (chains : Chains) → IsTask g → Covers g chains → (bound : ℤ)
     → ((q : ℕ) (l : Label) → q < rungs_of g.film → Contains (chains (segments_of g.film - 1) q) l → end_value g l ≤ℤ bound)
@@ -47,4 +45,4 @@ covered_value g chains is c bound below rungs h =
     let low : n < segments_of g.film = omega (arith, some) in
     let top = covered g chains is c rungs h n low in
     let q = slice_index rungs n in
-    z_trans (list_value g rungs) (end_value g top.0) bound (end_inherits g top.0 (label_at g rungs n) top.2) (below q top.0 (rung_at g (segments_of g.film) rungs h n low) top.1)
+    ≤ℤ_trans (list_value g rungs) (end_value g top.0) bound (end_inherits g top.0 (label_at g rungs n) top.2) (below q top.0 (rung_at g (segments_of g.film) rungs h n low) top.1)

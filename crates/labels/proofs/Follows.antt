@@ -3,11 +3,12 @@ use Rattle.std.proofs.Common.{◌≡◌, ℕ, zero, suc, ◌-◌, ◌<◌, ◌�
 use Rattle.std.specs.Prelude.{ℤ}
 use Rattle.std.specs.List.{Contains}
 use Rattle.std.proofs.lemmas.Int.{ints}
+use Rattle.lab_model.specs.Number.{IsNear}
 use Rattle.lab_model.specs.declared.label.Label.{Label}
 use Rattle.lab_model.specs.Film.{rungs_of, segments_of}
 use Rattle.player_core.specs.Scene.{Task}
 use Rattle.labels.specs.Labels.{next_label, start_label}
-use Rattle.labels.specs.Near.{CanFollow, IsNear}
+use Rattle.labels.specs.Near.{CanFollow}
 use Rattle.labels.specs.declared.label.Grid.{Grid}
 use Rattle.labels.specs.Grown.{grown, CanPlan, grown_labels}
 use Rattle.labels.proofs.Reached.{IsInReach, IsWellInReach, grown_reach, next_reach, reach_follows, start_reach}

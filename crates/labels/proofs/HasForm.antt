@@ -9,6 +9,7 @@ use Rattle.std.proofs.lemmas.Int.{ints}
 use Rattle.std.proofs.lemmas.List.Elements.{All-contains_itself, All-nil, All-weaker}
 use Rattle.std.proofs.lemmas.List.FromFn.{length-map-range_with_len, length-range_with_len}
 use Rattle.std.proofs.lemmas.List.Sums.{prefix_len-le-length}
+use Rattle.lab_model.specs.Number.{IsNear}
 use Rattle.lab_model.specs.declared.label.Label.{Label}
 use Rattle.lab_model.specs.Film.{rungs_of, segments_of}
 use Rattle.lab_model.specs.Ladder.{rungs_below}
@@ -18,9 +19,8 @@ use Rattle.labels.specs.Frontier.{by_rung}
 use Rattle.labels.specs.Form.{AreChains, HasDigits, HasSignedDigits, IsCertificate, IsChain, IsSpelled, label_count, names_per, place_digits, rung_digits, score_digits}
 use Rattle.labels.specs.Grown.{CanPlan, grown}
 use Rattle.labels.specs.Labels.{end_value, label_at, next_label, start_label}
-use Rattle.labels.specs.Near.{IsNear}
 use Rattle.labels.specs.Parts.{ChainParts}
-use Rattle.labels.specs.Read.{Chains, bound_of, certificate_of, chain_list, chain_with_names, end_of_plan, labels_before, labels_in, list_of_plan, names_of, names_of_label, place_above, starts_of}
+use Rattle.labels.specs.Read.{Chains, bound_of, certificate_from, chain_list, chain_with_names, end_of_plan, labels_before, labels_in, list_of_plan, names_of, names_of_label, place_above, starts_of}
 use Rattle.labels.specs.Valid.{no_chain}
 use Rattle.labels.proofs.Accepts.{chain_at}
 use Rattle.labels.proofs.Counted.{before_more, before_none, by_rung_count, chain_within, list_pushed, rung_pushed}
@@ -179,7 +179,7 @@ module _ (d : Grid) (g : Task) (case : CanPlan d g) (few : labels_in g (grown d 
       end_short g case.task n end.1 (few_segments n last_inside) (in_reach d g case n end last_inside (end_found d g case.grid case.task).0).1
 
   -- and the certificate has its form
-  pub certificate_form : IsCertificate (certificate_of d g (grown d g))
+  pub certificate_form : IsCertificate (certificate_from d g (grown d g))
   certificate_form =
       let n = segments_of g.film - 1 in
       let rungs = list_of_plan d g (grown d g) in

@@ -9,6 +9,7 @@ use Rattle.std.proofs.lemmas.Cmp.{eq_by_cmp_equiv}
 use Rattle.std.proofs.lemmas.Map.Views.{Contains-from_any, list_any-from_Contains, tells_apart}
 use Rattle.std.proofs.lemmas.List.Folds.{Any-from_list_any, list_any-from_Any}
 use Rattle.std.proofs.lemmas.List.Kept.{IsStrictlySortedBy-filter}
+use Rattle.lab_model.proofs.Orders.{≤ℤ_trans}
 use Rattle.lab_model.specs.declared.label.Label.{Label}
 use Rattle.labels.specs.Labels.{Dominates, dominates}
 use Rattle.labels.specs.Frontier.{IsKept, beats, in_order, is_kept, is_same, label_cmp, undominated}
@@ -40,12 +41,9 @@ dominates_from a b h =
 z_both : (a b : ℤ) → a ≤ℤ b → b ≤ℤ a → a ≡ b
 z_both a b h k = omega (arith, ints)
 
-z_trans : (a b c : ℤ) → a ≤ℤ b → b ≤ℤ c → a ≤ℤ c
-z_trans a b c h k = omega (arith, ints)
-
 -- what dominates a dominator dominates
 pub dominates_trans : (a b c : Label) → Dominates a b → Dominates b c → Dominates a c
-dominates_trans a b c h k = let x = h.0 in let y = k.0 in let u = h.1 in let w = k.1 in (omega (arith, x, y), omega (arith, u, w), z_trans c.v b.v a.v k.2 h.2)
+dominates_trans a b c h k = let x = h.0 in let y = k.0 in let u = h.1 in let w = k.1 in (omega (arith, x, y), omega (arith, u, w), ≤ℤ_trans c.v b.v a.v k.2 h.2)
 
 label_same : (a b : Label) → a.t ≡ b.t → a.p ≡ b.p → a.v ≡ b.v → a ≡ b
 label_same a b x y z =

@@ -3,6 +3,7 @@ use Rattle.std.proofs.Common.{◌≡◌, ℕ, zero, suc, ◌+◌, ◌*◌, ◌<�
 use Rattle.std.specs.Prelude.{ℤ, pos, ◌+ℤ◌, ◌-ℤ◌, ◌≤ℤ◌, Some, slice_index}
 use Rattle.std.specs.List.{Contains}
 use Rattle.std.proofs.lemmas.Int.{ints}
+use Rattle.lab_model.specs.Number.{IsNear}
 use Rattle.lab_model.specs.declared.label.Label.{Label}
 use Rattle.lab_model.specs.Film.{rungs_of, segments_of, size_of}
 use Rattle.lab_model.specs.Weighing.{HasUtility, change_of, utility_of}
@@ -14,7 +15,7 @@ use Rattle.player_core.proofs.Runs.{size_within}
 use Rattle.labels.specs.declared.label.Grid.{Grid}
 use Rattle.labels.specs.Labels.{AreRungs, came_at, label_at, next_label, request_at, start_label, there_at}
 use Rattle.player_core.specs.Scene.{IsTask, Task}
-use Rattle.labels.specs.Near.{CanFollow, IsNear}
+use Rattle.labels.specs.Near.{CanFollow}
 use Rattle.labels.specs.Grid.{IsGrid, multiple_above, rounded}
 use Rattle.labels.specs.Grown.{grown}
 use Rattle.labels.proofs.Covered.{rung_at}

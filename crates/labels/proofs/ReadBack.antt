@@ -7,6 +7,7 @@ use Rattle.std.proofs.lemmas.Bool.{cond_both}
 use Rattle.std.proofs.lemmas.Cmp.{eq_by_cmp_equiv}
 use Rattle.std.proofs.lemmas.Int.{ints}
 use Rattle.std.proofs.lemmas.List.Elements.{All-cons, All-nil, All-push}
+use Rattle.lab_model.proofs.Orders.{≤ℤ_trans}
 use Rattle.lab_model.specs.declared.label.Label.{Label}
 use Rattle.lab_model.specs.Film.{rungs_of, segments_of}
 use Rattle.labels.specs.declared.label.Grid.{Grid}
@@ -30,9 +31,6 @@ use Rattle.labels.proofs.Walks.{at_head, at_tail, find_found, first_or_rest, fro
 z_same : (a b : ℤ) → a ≡ b → a ≤ℤ b
 z_same a b h = omega (arith, ints)
 
-z_trans : (a b c : ℤ) → a ≤ℤ b → b ≤ℤ c → a ≤ℤ c
-z_trans a b c h k = omega (arith, ints)
-
 higher_true : (a b : ℤ) → int_lt a b ≡ true → a ≤ℤ b
 higher_true a b h = grind (arith, ints)
 
@@ -48,8 +46,8 @@ best_more : (g : Task) (b c next r : ℕ × Label) (cs : List (ℕ × Label)) �
 best_more g b c next r cs there low least h =
     let up = h.1 next (at_head next cs) in (
       ⊎_elim (λ (e : next ≡ r). subst (Contains (b ∷ c ∷ cs)) e there) (λ rest. at_tail b (c ∷ cs) r (at_tail c cs r rest)) (first_or_rest next cs r h.0),
-      λ x k. ⊎_elim (λ (e : b ≡ x). subst (λ (y : ℕ × Label). end_value g y.1 ≤ℤ end_value g r.1) e (z_trans _ _ _ low up))
-          (λ after. ⊎_elim (λ (e : c ≡ x). subst (λ (y : ℕ × Label). end_value g y.1 ≤ℤ end_value g r.1) e (z_trans _ _ _ least up)) (λ rest. h.1 x (at_tail next cs x rest)) (first_or_rest c cs x after))
+      λ x k. ⊎_elim (λ (e : b ≡ x). subst (λ (y : ℕ × Label). end_value g y.1 ≤ℤ end_value g r.1) e (≤ℤ_trans _ _ _ low up))
+          (λ after. ⊎_elim (λ (e : c ≡ x). subst (λ (y : ℕ × Label). end_value g y.1 ≤ℤ end_value g r.1) e (≤ℤ_trans _ _ _ least up)) (λ rest. h.1 x (at_tail next cs x rest)) (first_or_rest c cs x after))
           (first_or_rest b (c ∷ cs) x k),
     )
 

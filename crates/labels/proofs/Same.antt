@@ -10,7 +10,7 @@ use Rattle.labels.specs.declared.label.Grid.{Grid}
 use Rattle.player_core.specs.Scene.{IsTask, Task}
 use Rattle.labels.specs.Labels.{end_value, next_label, start_label}
 use Rattle.labels.specs.Parts.{CertificateParts, ChainParts}
-use Rattle.labels.specs.Read.{Chains, best_in, bound_of, certificate_of, chain_list, chain_with_names, end_of_plan, has_table, labels_before, labels_of, leads_to, list_of_plan, list_value, names_of, names_of_label, no_label, parent_of, place_above, rungs_back, starts_of}
+use Rattle.labels.specs.Read.{Chains, best_in, bound_of, certificate_from, chain_list, chain_with_names, end_of_plan, has_table, labels_before, labels_of, leads_to, list_of_plan, list_value, names_of, names_of_label, no_label, parent_of, place_above, rungs_back, starts_of}
 use Rattle.labels.proofs.ReadBack.{back_first, back_next}
 use Rattle.labels.proofs.Walks.{by_rung_same, flat_map_same, from_rungs, map_same}
 
@@ -88,7 +88,7 @@ module _ (d : Grid) (g : Task) (a b : Chains) (h : Agree g a b) where
         (λ q there. ap (λ ls. place_above ls (start_label g q)) (h.same 0 q (let some = is.film.segments.0 in omega (arith, some)) (from_rungs (rungs_of g.film) q there)))
 
     -- chains that agree are read alike
-    pub certificate_same : certificate_of d g a ≡ certificate_of d g b
+    pub certificate_same : certificate_from d g a ≡ certificate_from d g b
     certificate_same =
         let made : List ℕ → List ℕ → List ChainParts → CertificateParts = λ rungs starts chains. record {
           table = has_table g.setup;

@@ -13,7 +13,7 @@ use Rattle.labels.specs.Parts.{CertificateParts}
 use Rattle.labels.specs.Frontier.{frontier}
 use Rattle.labels.specs.Grid.{IsGrid, exact}
 use Rattle.labels.specs.Grown.{grown}
-use Rattle.labels.specs.Read.{Chains, bound_of, certificate_of, list_of_plan, list_value, no_label}
+use Rattle.labels.specs.Read.{Chains, bound_of, certificate_from, list_of_plan, list_value, no_label}
 use Rattle.labels.specs.Covers.{Covers}
 use Rattle.labels.specs.Valid.{IsPlace, IsValid, chain_in, label_in, name_in, start_in}
 use Rattle.labels.specs.Best.{Settles}
@@ -105,7 +105,7 @@ plan_settles g is =
     (settled g is (list_of_plan exact g (grown exact g)) (bound_of g (grown exact g)) (bound_of g (grown exact g)) (list_fits exact g exact_fits is) (list_scores g is) (λ others fits. lists_below exact g exact_fits is others fits)))
 
 -- the exact plan's certificate
-pub plan_accepted : (g : Task) → IsTask g → IsValid g (certificate_of exact g (frontier g)) (certificate_of exact g (frontier g)).score
+pub plan_accepted : (g : Task) → IsTask g → IsValid g (certificate_from exact g (frontier g)) (certificate_from exact g (frontier g)).score
 plan_accepted g is =
     subst (λ c. IsValid g c c.score) (certificate_same exact g (grown exact g) (frontier g) (exact_agrees g is) is)
-    (subst (λ b. IsValid g (certificate_of exact g (grown exact g)) b) (sym (list_scores g is)) (accepted exact exact_fits g is))
+    (subst (λ b. IsValid g (certificate_from exact g (grown exact g)) b) (sym (list_scores g is)) (accepted exact exact_fits g is))

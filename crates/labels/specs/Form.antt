@@ -2,7 +2,7 @@
 use Rattle.std.specs.Prelude.{◌≡◌, ℕ, ◌+◌, ◌*◌, ◌/◌, ◌^◌, ◌<◌, ◌≤◌, ◌==◌, List, [], ◌∷◌, length, ℤ, pos, ◌-ℤ◌, ◌<ℤ◌, if◌then◌else◌}
 use Rattle.std.specs.List.{All}
 use Rattle.lab_model.specs.declared.label.Label.{Label}
-use Rattle.lab_model.specs.Film.{IsWithin}
+use Rattle.lab_model.specs.Film.{IsWithin, most_rungs, most_segments}
 use Rattle.labels.specs.Parts.{CertificateParts, ChainParts}
 
 -- the digits of a number that names a place, or counts
@@ -20,14 +20,6 @@ score_digits = 24
 -- the digits of a rung
 abbrev pub rung_digits : ℕ
 rung_digits = 2
-
--- the most segments
-abbrev pub most_segments : ℕ
-most_segments = 2000
-
--- the most rungs
-abbrev pub most_rungs : ℕ
-most_rungs = 16
 
 -- the most labels of all chains together
 abbrev pub most_labels : ℕ

@@ -10,7 +10,7 @@ use Rattle.labels.specs.Parts.{CertificateParts}
 use Rattle.labels.specs.Frontier.{frontier, undominated}
 use Rattle.labels.specs.Grid.{IsGrid, exact}
 use Rattle.labels.specs.Grown.{grown, successors}
-use Rattle.labels.specs.Read.{bound_of, certificate_of, list_of_plan, list_value}
+use Rattle.labels.specs.Read.{bound_of, certificate_from, list_of_plan, list_value}
 use Rattle.labels.specs.Valid.{IsValid}
 use Rattle.labels.specs.Best.{Settles}
 
@@ -54,12 +54,12 @@ CoarseIsBound =
 -- the certificate that is read off the frontiers is valid with its own score as the bound
 abbrev pub PlanIsAccepted : Type 0
 PlanIsAccepted =
-    (g : Task) → IsTask g → IsValid g (certificate_of exact g (frontier g)) (certificate_of exact g (frontier g)).score
+    (g : Task) → IsTask g → IsValid g (certificate_from exact g (frontier g)) (certificate_from exact g (frontier g)).score
 
 -- the certificate that is read off coarse frontiers is valid with their greatest end value as the bound
 abbrev pub CoarseIsAccepted : Type 0
 CoarseIsAccepted =
-    (d : Grid) → IsGrid d → (g : Task) → IsTask g → IsValid g (certificate_of d g (grown d g)) (bound_of g (grown d g))
+    (d : Grid) → IsGrid d → (g : Task) → IsTask g → IsValid g (certificate_from d g (grown d g)) (bound_of g (grown d g))
 
 -- a valid certificate proves what it says, whoever wrote it: its list has its score, and no rung list has more than the bound
 abbrev pub ValidIsSound : Type 0

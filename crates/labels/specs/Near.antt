@@ -1,11 +1,7 @@
 -- What the label calls need of a label.
-use Rattle.std.specs.Prelude.{ℕ, ◌≤◌, ℤ, pos, ◌-ℤ◌, ◌≤ℤ◌}
+use Rattle.std.specs.Prelude.{ℕ, ◌≤◌}
 use Rattle.lab_model.specs.declared.label.Label.{Label}
-
--- the number lies within so much of 0
-pub record IsNear (most : ℕ) (v : ℤ) : Type 0 where
-  pub low : (pos 0 -ℤ pos most) ≤ℤ v
-  pub high : v ≤ℤ pos most
+use Rattle.lab_model.specs.Number.{IsNear}
 
 -- how far a label may lie, in milliseconds
 abbrev pub farthest_ms : ℕ

@@ -93,8 +93,8 @@ abbrev pub has_table : Setup → Bool
 has_table s = not (s.weights.rows == 0)
 
 -- the certificate that is read off the chains: its score is that of its list
-abbrev pub certificate_of : Grid → Task → Chains → CertificateParts
-certificate_of d g chains = record {
+abbrev pub certificate_from : Grid → Task → Chains → CertificateParts
+certificate_from d g chains = record {
   table = has_table g.setup;
   segments = segments_of g.film;
   rungs = rungs_of g.film;

@@ -1,13 +1,14 @@
 //! The calls on labels.
 
 ghost use Rattle.std.specs.Prelude.{◌≡◌, ℕ, ◌+◌, ◌-◌, ◌*◌, ◌<◌, ◌≤◌, pos, ◌+ℤ◌, ◌-ℤ◌};
+ghost use Rattle.lab_model.specs.Number.{IsNear};
 ghost use Rattle.lab_model.specs.Film.{rungs_of, segments_of};
 ghost use Rattle.lab_model.specs.Fit.{SetupFits};
 ghost use Rattle.player_core.specs.Available.{all_ahead};
 ghost use Rattle.labels.specs.Grid.{IsGrid, multiple_above, multiple_below, rounded};
 ghost use Rattle.labels.specs.Labels.{Dominates, dominates, next_label, next_value, request_at, start_label, value_at_end};
 ghost use Rattle.player_core.specs.Scene.{IsTask, task_of};
-ghost use Rattle.labels.specs.Near.{CanFollow, IsNear};
+ghost use Rattle.labels.specs.Near.{CanFollow};
 
 use lab_model::{Label, Manifest, Setup};
 use network_clock::Clock;
@@ -46,132 +47,144 @@ pub fn start_on(scene: &Scene<'_>, rung: u8) -> Label
 }
 
 /// The instant at which a segment is asked for after a label of the segment before.
-pub fn request_on(scene: &Scene<'_>, seg: u16, old: Label) -> u64
-    requires seg { seg < segments_of scene.now.film }
+pub fn request_on(scene: &Scene<'_>, segment: u16, old: Label) -> u64
+    requires segment { segment < segments_of scene.now.film }
     requires old { CanFollow old }
-    ensures value { result ≡ request_at scene.now seg old }
+    ensures value { result ≡ request_at scene.now segment old }
     ensures limit { result ≤ 2000000000000000 }
 {
     let film = scene.film();
     prove!(film.segments() <= 2000);
-    let wanted = old.p + (seg as u64 + 1) * film.seg_ms() as u64;
+    let wanted = old.p + (segment as u64 + 1) * film.seg_ms() as u64;
     let room = wanted.saturating_sub(scene.setup().buffer_ms as u64);
-    old.t.max(room).max(scene.available(seg))
+    old.t.max(room).max(scene.available(segment))
 }
 
-/// The value of a successor, to segment `seg` on `rung`, of a label of the segment before on `old_rung` with the
+/// The value of a successor, to segment `segment` on `rung`, of a label of the segment before on `old_rung` with the
 /// value `v`, which lies within 10^18 of 0.
-pub fn value_on(scene: &Scene<'_>, seg: u16, old_rung: u8, v: i64, rung: u8) -> i64
-    requires seg { seg < segments_of scene.now.film }
+pub fn value_on(scene: &Scene<'_>, segment: u16, old_rung: u8, v: i64, rung: u8) -> i64
+    requires segment { segment < segments_of scene.now.film }
     requires old_rung { old_rung < rungs_of scene.now.film }
     requires rung { rung < rungs_of scene.now.film }
     requires value { IsNear 1000000000000000000 v }
-    ensures { result ≡ next_value scene.now.setup.weights seg old_rung v rung }
+    ensures { result ≡ next_value scene.now.setup.weights segment old_rung v rung }
 {
     let weights = &scene.setup().weights;
-    let utility = weights.utility(seg, rung);
-    let change = utility.abs_diff(weights.utility(seg, old_rung));
+    let utility = weights.utility(segment, rung);
+    let change = utility.abs_diff(weights.utility(segment, old_rung));
     let gain = 1000 * utility as u64;
     let loss = weights.switch() as u64 * change as u64;
     value_after(v, gain, loss)
 }
 
-/// The successor, to segment `seg` on `rung`, of a label of the segment before on `old_rung`. The times of the old
+/// The successor, to segment `segment` on `rung`, of a label of the segment before on `old_rung`. The times of the old
 /// label are at most 10^15, and its value lies within 10^18 of 0.
-pub fn next_on(scene: &Scene<'_>, seg: u16, old_rung: u8, old: Label, rung: u8) -> Label
-    requires seg { (1 ≤ seg) × (seg < segments_of scene.now.film) }
+pub fn next_on(scene: &Scene<'_>, segment: u16, old_rung: u8, old: Label, rung: u8) -> Label
+    requires segment { (1 ≤ segment) × (segment < segments_of scene.now.film) }
     requires old_rung { old_rung < rungs_of scene.now.film }
     requires rung { rung < rungs_of scene.now.film }
     requires old { CanFollow old }
-    ensures label { result ≡ next_label scene.now seg old_rung old rung }
+    ensures label { result ≡ next_label scene.now segment old_rung old rung }
     ensures task { IsTask scene.now }
 {
     let film = scene.film();
-    let request = request_on(scene, seg, old);
-    let t = scene.clock().finish(request, film.size(seg, rung)).done;
-    let played_from = t.saturating_sub(seg as u64 * film.seg_ms() as u64);
+    let request = request_on(scene, segment, old);
+    let t = scene.clock().finish(request, film.size(segment, rung)).done;
+    let played_from = t.saturating_sub(segment as u64 * film.seg_ms() as u64);
     Label {
         t,
         p: old.p.max(played_from),
-        v: value_on(scene, seg, old_rung, old.v, rung),
+        v: value_on(scene, segment, old_rung, old.v, rung),
     }
 }
 
 /// The label of segment 0 on a rung, where `ahead` milliseconds of media, at most 120000000, are there at
 /// instant 0.
-pub fn start_from(m: &Manifest, clock: &Clock, set: &Setup, ahead: u32, rung: u8) -> Label
-    requires setup { SetupFits set.now m.now }
+pub fn start_from(film: &Manifest, clock: &Clock, setup: &Setup, ahead: u32, rung: u8) -> Label
+    requires setup { SetupFits setup.now film.now }
     requires ahead { ahead ≤ 120000000 }
-    requires rung { rung < rungs_of m.now }
-    ensures label { result ≡ start_label (task_of m.now clock.now set.now ahead) rung }
-    ensures task { IsTask (task_of m.now clock.now set.now ahead) }
+    requires rung { rung < rungs_of film.now }
+    ensures label { result ≡ start_label (task_of film.now clock.now setup.now ahead) rung }
+    ensures task { IsTask (task_of film.now clock.now setup.now ahead) }
 {
-    start_on(&Scene::new(m, clock, set, ahead), rung)
+    start_on(&Scene::new(film, clock, setup, ahead), rung)
 }
 
-/// The successor, to segment `seg` on `rung`, of a label of the segment before on `old_rung`, where `ahead`
+/// The successor, to segment `segment` on `rung`, of a label of the segment before on `old_rung`, where `ahead`
 /// milliseconds of media, at most 120000000, are there at instant 0. The times of the old label are at most
 /// 10^15, and its value lies within 10^18 of 0.
 pub fn next_from(
-    m: &Manifest,
+    film: &Manifest,
     clock: &Clock,
-    set: &Setup,
+    setup: &Setup,
     ahead: u32,
-    seg: u16,
+    segment: u16,
     old_rung: u8,
     old: Label,
     rung: u8,
 ) -> Label
-    requires setup { SetupFits set.now m.now }
+    requires setup { SetupFits setup.now film.now }
     requires ahead { ahead ≤ 120000000 }
-    requires seg { (1 ≤ seg) × (seg < segments_of m.now) }
-    requires old_rung { old_rung < rungs_of m.now }
-    requires rung { rung < rungs_of m.now }
+    requires segment { (1 ≤ segment) × (segment < segments_of film.now) }
+    requires old_rung { old_rung < rungs_of film.now }
+    requires rung { rung < rungs_of film.now }
     requires old { CanFollow old }
-    ensures label { let g = task_of m.now clock.now set.now ahead in
-        result ≡ next_label g seg old_rung old rung }
-    ensures task { IsTask (task_of m.now clock.now set.now ahead) }
+    ensures label { let g = task_of film.now clock.now setup.now ahead in
+        result ≡ next_label g segment old_rung old rung }
+    ensures task { IsTask (task_of film.now clock.now setup.now ahead) }
 {
-    next_on(&Scene::new(m, clock, set, ahead), seg, old_rung, old, rung)
+    next_on(
+        &Scene::new(film, clock, setup, ahead),
+        segment,
+        old_rung,
+        old,
+        rung,
+    )
 }
 
 /// The label of segment 0 on a rung, of a film on demand.
-pub fn start_label(m: &Manifest, clock: &Clock, set: &Setup, rung: u8) -> Label
-    requires setup { SetupFits set.now m.now }
-    requires rung { rung < rungs_of m.now }
-    ensures { result ≡ start_label (task_of m.now clock.now set.now all_ahead) rung }
+pub fn start_label(film: &Manifest, clock: &Clock, setup: &Setup, rung: u8) -> Label
+    requires setup { SetupFits setup.now film.now }
+    requires rung { rung < rungs_of film.now }
+    ensures { result ≡ start_label (task_of film.now clock.now setup.now all_ahead) rung }
 {
-    start_on(&Scene::on_demand(m, clock, set), rung)
+    start_on(&Scene::on_demand(film, clock, setup), rung)
 }
 
 /// The successor of a label, of a film on demand: see `next_from`.
 pub fn next_label(
-    m: &Manifest,
+    film: &Manifest,
     clock: &Clock,
-    set: &Setup,
-    seg: u16,
+    setup: &Setup,
+    segment: u16,
     old_rung: u8,
     old: Label,
     rung: u8,
 ) -> Label
-    requires setup { SetupFits set.now m.now }
-    requires seg { (1 ≤ seg) × (seg < segments_of m.now) }
-    requires old_rung { old_rung < rungs_of m.now }
-    requires rung { rung < rungs_of m.now }
+    requires setup { SetupFits setup.now film.now }
+    requires segment { (1 ≤ segment) × (segment < segments_of film.now) }
+    requires old_rung { old_rung < rungs_of film.now }
+    requires rung { rung < rungs_of film.now }
     requires old { CanFollow old }
-    ensures { let g = task_of m.now clock.now set.now all_ahead in
-        result ≡ next_label g seg old_rung old rung }
+    ensures { let g = task_of film.now clock.now setup.now all_ahead in
+        result ≡ next_label g segment old_rung old rung }
 {
-    next_on(&Scene::on_demand(m, clock, set), seg, old_rung, old, rung)
+    next_on(
+        &Scene::on_demand(film, clock, setup),
+        segment,
+        old_rung,
+        old,
+        rung,
+    )
 }
 
 /// The value that a label of the last segment comes to, in thousandths of a point: its stalls and startup, at
 /// most 2 * 10^15 ms, are weighed.
-pub fn end_value(set: &Setup, last: Label) -> i128
+pub fn end_value(setup: &Setup, last: Label) -> i128
     requires { last.p ≤ 2000000000000000 }
-    ensures { result ≡ value_at_end set.now.weights last }
+    ensures { result ≡ value_at_end setup.now.weights last }
 {
-    last.v as i128 - (set.weights.stall() as u128 * last.p as u128) as i128
+    last.v as i128 - (setup.weights.stall() as u128 * last.p as u128) as i128
 }
 
 /// Whether the first label is no later, has no longer a delay and no less a value than the second.

@@ -133,15 +133,17 @@ fn reached_next(
     m: &Manifest,
     clock: &Clock,
     set: &Setup,
-    seg: u16,
+    segment: u16,
     before: &[Reached],
 ) -> Result<Vec<Reached>, Fail> {
     let mut after = Vec::new(alloc);
     for from in before {
         for rung in 0..m.rungs() {
-            assert!(rt; set.fits(m) && 1 <= seg && seg < m.segments() && from.rung < m.rungs());
+            assert!(rt;
+                set.fits(m) && 1 <= segment && segment < m.segments() && from.rung < m.rungs()
+            );
             follows(rt, from.label);
-            let label = next_label(m, clock, set, seg, from.rung, from.label, rung);
+            let label = next_label(m, clock, set, segment, from.rung, from.label, rung);
             after.push(Reached { rung, label })?;
         }
     }
@@ -182,8 +184,8 @@ fn plain_plan(
         all.push(Reached { rung, label })?;
     }
     let mut size = frontier_size(&all);
-    for seg in 1..m.segments() {
-        all = reached_next(rt, alloc, m, clock, set, seg, &all)?;
+    for segment in 1..m.segments() {
+        all = reached_next(rt, alloc, m, clock, set, segment, &all)?;
         size = size.saturating_add(frontier_size(&all));
     }
     let mut best = None;

@@ -1,6 +1,10 @@
 //! The score of the session that plays a rung list, and the end value of the labels along it.
 
-ghost use Rattle.labels.specs.Near.{CanFollow, IsNear};
+ghost use Rattle.std.specs.Prelude.{◌≡◌, IfOk};
+ghost use Rattle.lab_model.specs.Cycle.{IsTrace};
+ghost use Rattle.lab_model.specs.Film.{film};
+ghost use Rattle.lab_model.specs.Number.{IsNear};
+ghost use Rattle.labels.specs.Near.{CanFollow};
 
 use crate::{end_value, next_from, start_from};
 use lab_model::{Label, Manifest, Period, Rule, Setup, Trace, Weights};
@@ -101,13 +105,17 @@ const CASES: [Case; 6] = [
     },
 ];
 
-pub fn film(alloc: Global, case: &Case) -> Result<Manifest, Fail> {
+pub fn film(alloc: Global, case: &Case) -> Result<Manifest, Fail>
+    ensures { IfOk result (λ f. f ≡ film case.now.seg_ms case.now.bitrates.now case.now.sizes.now) }
+{
     let bitrates = case.bitrates.to_vec(alloc)?;
     let sizes = case.sizes.to_vec(alloc)?;
     Ok(Manifest::from_parts(case.seg_ms, bitrates, sizes).ok_or("not a film")?)
 }
 
-pub fn clock(alloc: Global, case: &Case) -> Result<Clock, Fail> {
+pub fn clock(alloc: Global, case: &Case) -> Result<Clock, Fail>
+    ensures { IfOk result IsTrace }
+{
     let mut periods = Vec::new(alloc);
     for (duration_ms, bandwidth, latency) in case.periods {
         periods.push(Period {
@@ -164,9 +172,9 @@ fn last_value(rt: &impl Abort, alloc: Global, case: &Case) -> Result<i128, Fail>
     assert!(rt; case.rungs[0] < m.rungs());
     let mut label = start_from(&m, &clock, &set, case.ahead, case.rungs[0]);
     for i in 1..m.segments() {
-        let seg = i as usize;
-        assert!(rt; seg < case.rungs.len());
-        let (before, rung) = (case.rungs[seg - 1], case.rungs[seg]);
+        let segment = i as usize;
+        assert!(rt; segment < case.rungs.len());
+        let (before, rung) = (case.rungs[segment - 1], case.rungs[segment]);
         assert!(rt; before < m.rungs() && rung < m.rungs());
         follows(rt, label);
         label = next_from(&m, &clock, &set, case.ahead, i, before, label, rung);

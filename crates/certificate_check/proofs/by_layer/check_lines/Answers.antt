@@ -22,15 +22,15 @@ own_bound c =
 
 pub returns-clause-verdict : goal.returns-clause-verdict
 returns-clause-verdict c = λ bytes is.
-    let g = task_of c.args.m.now c.args.clock.now c.args.set.now all_ahead in
+    let g = task_of c.args.film.now c.args.clock.now c.args.setup.now all_ahead in
     subst (Gives (λ v. v) c.check_lines_from.result) (ap (bounded_verdict g bytes) (own_bound c) ∙ own_verdict g bytes c.args.lines is) (c.check_lines_from.ensures.verdict bytes is)
 
 pub returns-clause-valid : goal.returns-clause-valid
 returns-clause-valid c = λ bytes is.
-    let g = task_of c.args.m.now c.args.clock.now c.args.set.now all_ahead in
+    let g = task_of c.args.film.now c.args.clock.now c.args.setup.now all_ahead in
     subst (λ b. IfOk c.check_lines_from.result (SaysValid g bytes b)) (own_bound c) (c.check_lines_from.ensures.valid bytes is)
 
 pub returns-clause-sound : goal.returns-clause-sound
 returns-clause-sound c =
-    let g = task_of c.args.m.now c.args.clock.now c.args.set.now all_ahead in
+    let g = task_of c.args.film.now c.args.clock.now c.args.setup.now all_ahead in
     subst (λ b. IfOk c.check_lines_from.result (λ v. v ≡ Yes → Settles g c.args.lines.head.plan c.args.lines.head.score b)) (own_bound c) c.check_lines_from.ensures.sound

@@ -159,9 +159,9 @@ returns-clause-verdict c = λ bytes is.
 
 pub returns-clause-valid : goal.returns-clause-valid
 returns-clause-valid c = λ bytes is.
-    said_valid (task_of c.args.m.now c.args.clock.now c.args.set.now c.args.ahead) bytes c.args.bound c.verdict-verdict.result (returns-clause-verdict c bytes is)
+    said_valid (task_of c.args.film.now c.args.clock.now c.args.setup.now c.args.ahead) bytes c.args.bound c.verdict-verdict.result (returns-clause-verdict c bytes is)
 
 pub returns-clause-sound : goal.returns-clause-sound
 returns-clause-sound c = λ passed.
     let said = returns-clause-verdict c c.requires.begun.bytes c.requires.begun.is in
-    yes_said (task_of c.args.m.now c.args.clock.now c.args.set.now c.args.ahead) c.requires.begun.bytes c.args.bound c.args.lines (subst IsTask c.new-checker.ensures.value c.new-checker.ensures.task) c.requires.begun.is (said ∙ ap (λ v. Ok v) passed)
+    yes_said (task_of c.args.film.now c.args.clock.now c.args.setup.now c.args.ahead) c.requires.begun.bytes c.args.bound c.args.lines (subst IsTask c.new-checker.ensures.value c.new-checker.ensures.task) c.requires.begun.is (said ∙ ap (λ v. Ok v) passed)

@@ -10,19 +10,19 @@ use Rattle.certificate_check.proofs.whole.check_from.Goals as goal
 
 pub returns-clause-verdict : goal.returns-clause-verdict
 returns-clause-verdict c =
-    let g = task_of c.args.m.now c.args.clock.now c.args.set.now c.args.ahead in
+    let g = task_of c.args.film.now c.args.clock.now c.args.setup.now c.args.ahead in
     c.verdict_on.ensures ∙ ap (λ h. verdict_of h (certificate_parts c.args.cert.now) (to_z w128 (of_z w128 c.args.bound))) c.new-checker.ensures.value ∙ ap (verdict_of g (certificate_parts c.args.cert.now)) (to_z-of_z w128 c.args.bound c.ranges.bound)
 
 pub returns-clause-valid : goal.returns-clause-valid
 returns-clause-valid c =
-    let g = task_of c.args.m.now c.args.clock.now c.args.set.now c.args.ahead in
+    let g = task_of c.args.film.now c.args.clock.now c.args.setup.now c.args.ahead in
     let parts = certificate_parts c.args.cert.now in
     let said : c.verdict_on.result ≡ verdict_of g parts c.args.bound = returns-clause-verdict c in
     (λ passed. yes_valid g parts c.args.bound (sym said ∙ passed), λ valid. said ∙ valid_accepted g parts c.args.bound c.requires.form valid)
 
 pub returns-clause-sound : goal.returns-clause-sound
 returns-clause-sound c =
-    let g = task_of c.args.m.now c.args.clock.now c.args.set.now c.args.ahead in
+    let g = task_of c.args.film.now c.args.clock.now c.args.setup.now c.args.ahead in
     let parts = certificate_parts c.args.cert.now in
     let said : c.verdict_on.result ≡ verdict_of g parts c.args.bound = returns-clause-verdict c in
     let is : IsTask g = subst IsTask c.new-checker.ensures.value c.new-checker.ensures.task in

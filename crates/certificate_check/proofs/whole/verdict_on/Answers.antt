@@ -7,7 +7,7 @@ use Rattle.certificate_check.specs.Scheme.{both}
 use Rattle.certificate_check.specs.Clauses.{counts_verdict, ends_verdict, chains_by_rung, plan_verdict, ranges_verdict, score_verdict, starts_held, starts_verdict}
 use Rattle.certificate_check.specs.Layers.{IsLayer, MayEnd}
 use Rattle.certificate_check.proofs.Scheme.{both_first}
-use Rattle.certificate_check.proofs.Progress.{StandsFor, are_both, may_end, stands_first, stands_last, stands_more}
+use Rattle.certificate_check.proofs.Progress.{HasFound, are_both, may_end, stands_first, stands_last, stands_more}
 use Rattle.certificate_check.proofs.Verdicts.{counts_match, per_inside, per_last}
 use Rattle.certificate_check.proofs.whole.verdict_on.Goals as goal
 
@@ -64,7 +64,7 @@ verdict-requires c =
     let most = c.loop-segment.auto.segment-end in
     let last : c.loop-segment.segment ≡ parts.segments - 1 = omega (arith, past, most) in
     let end : parts.segments - 1 + 1 ≡ parts.segments = omega (arith, some) in
-    let stands = subst (λ n. StandsFor g parts n c.loop-segment.found) last c.loop-segment.invariant in
+    let stands = subst (λ n. HasFound g parts n c.loop-segment.found) last c.loop-segment.invariant in
     record {
       form = subst (λ p. IsLayer p c.layer-2.result.now) (per_last parts.segments parts.rungs (parts.segments - 1) end) c.layer-2.ensures.form;
       fits = λ passed. subst (MayEnd g (parts.segments - 1) c.layer-2.result.now) (sym c.deref-3.ensures.value)
@@ -80,7 +80,7 @@ returns c =
     let most = c.loop-segment.auto.segment-end in
     let last : c.loop-segment.segment ≡ parts.segments - 1 = omega (arith, past, most) in
     let end : parts.segments - 1 + 1 ≡ parts.segments = omega (arith, some) in
-    let stands = subst (λ n. StandsFor g parts n c.loop-segment.found) last c.loop-segment.invariant in
+    let stands = subst (λ n. HasFound g parts n c.loop-segment.found) last c.loop-segment.invariant in
     let value = c.args.cert.now.score in
     let fits : SFits w128 value = search rules in
     let bound = to_z-of_z w128 c.args.bound c.ranges.bound in

@@ -8,13 +8,13 @@ use Rattle.certificate_text.proofs.writer.put_head.Goals as goal
 
 pub returns-in_err-put_counts : goal.returns-in_err-put_counts
 returns-in_err-put_counts g c =
-    let parts = plan_parts c.args.m.now c.args.plan.now in
+    let parts = plan_parts c.args.film.now c.args.plan.now in
     puts_as _ _ _ _ _ (sym (head_text parts))
     (puts_failed _ _ (counts_text parts.table parts.segments parts.rungs) (lists_text parts) _ c.from_residual.result _ c.in_err-put_counts.was c.from_residual.ensures.1 c.put_counts.ensures)
 
 pub returns-in_err-put_score : goal.returns-in_err-put_score
 returns-in_err-put_score g c =
-    let parts = plan_parts c.args.m.now c.args.plan.now in
+    let parts = plan_parts c.args.film.now c.args.plan.now in
     puts_as _ _ _ _ _ (sym (head_text parts))
     (puts_more _ _ _ (counts_text parts.table parts.segments parts.rungs) (lists_text parts) _ _ _ c.in_ok-put_counts.was c.put_counts.ensures
     (puts_failed _ _ (fields_line (codes "score" ∷ signed_decimal parts.score ∷ [])) (fields_line (codes "plan" ∷ map decimal parts.plan) ++ fields_line (codes "start" ∷ map decimal parts.starts))
@@ -22,7 +22,7 @@ returns-in_err-put_score g c =
 
 pub returns-in_err-put_plan : goal.returns-in_err-put_plan
 returns-in_err-put_plan g c =
-    let parts = plan_parts c.args.m.now c.args.plan.now in
+    let parts = plan_parts c.args.film.now c.args.plan.now in
     puts_as _ _ _ _ _ (sym (head_text parts))
     (puts_more _ _ _ (counts_text parts.table parts.segments parts.rungs) (lists_text parts) _ _ _ c.in_ok-put_counts.was c.put_counts.ensures
     (puts_more _ _ _ (fields_line (codes "score" ∷ signed_decimal parts.score ∷ [])) (fields_line (codes "plan" ∷ map decimal parts.plan) ++ fields_line (codes "start" ∷ map decimal parts.starts))
@@ -32,7 +32,7 @@ returns-in_err-put_plan g c =
 
 pub returns : goal.returns
 returns g c =
-    let parts = plan_parts c.args.m.now c.args.plan.now in
+    let parts = plan_parts c.args.film.now c.args.plan.now in
     puts_as _ _ _ _ _ (sym (head_text parts))
     (puts_more _ _ _ (counts_text parts.table parts.segments parts.rungs) (lists_text parts) _ _ _ c.in_ok-put_counts.was c.put_counts.ensures
     (puts_more _ _ _ (fields_line (codes "score" ∷ signed_decimal parts.score ∷ [])) (fields_line (codes "plan" ∷ map decimal parts.plan) ++ fields_line (codes "start" ∷ map decimal parts.starts))

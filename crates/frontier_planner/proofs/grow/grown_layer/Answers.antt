@@ -8,7 +8,7 @@ use Rattle.frontier_planner.proofs.grow.grown_layer.Goals as goal
 
 pub returns-then-len-left : goal.returns-then-len-left
 returns-then-len-left c =
-    let chain = grown c.args.brief.now.grid c.args.brief.now.scene c.args.seg in
+    let chain = grown c.args.brief.now.grid c.args.brief.now.scene c.args.segment in
     let r = c.loop-rung.rung in
     let fewer = by_rung_fewer chain (r + 1) (rungs_of c.args.brief.now.scene.film) (omega arith) in
     let count = by_rung_count chain r in
@@ -18,7 +18,7 @@ returns-then-len-left c =
 
 pub loop-rung-preserved : goal.loop-rung-preserved
 loop-rung-preserved c =
-    let chain = grown c.args.brief.now.grid c.args.brief.now.scene c.args.seg in
+    let chain = grown c.args.brief.now.grid c.args.brief.now.scene c.args.segment in
     let r = c.loop-rung.rung in
     let i = c.loop-rung.invariant in
     let one = c.in_ok-chain.ensures in

@@ -7,7 +7,7 @@ use Rattle.frontier_planner.proofs.grow.grown_layer.Given as goal
 
 abbrev pub invariant-loop-rung : goal.invariant-loop-rung
 invariant-loop-rung l = record {
-  labels : l.labels.items ≡ by_rung l.rung (grown l.brief.grid l.brief.scene l.seg);
-  chains : held l.chains.items ≡ map (grown l.brief.grid l.brief.scene l.seg) (rungs_below l.rung);
+  labels : l.labels.items ≡ by_rung l.rung (grown l.brief.grid l.brief.scene l.segment);
+  chains : held l.chains.items ≡ map (grown l.brief.grid l.brief.scene l.segment) (rungs_below l.rung);
   within : length l.labels.items ≤ l.left;
 }

@@ -1,7 +1,7 @@
 use Rattle.std.proofs.Common.{◌∙◌, get_or, subst, sym}
 use Rattle.std.proofs.lemmas.List.Elements.{Contains-get_or}
+use Rattle.lab_model.specs.Number.{IsNear}
 use Rattle.lab_model.specs.declared.label.Label.{Label}
-use Rattle.labels.specs.Near.{IsNear}
 use Rattle.labels.specs.Read.{no_label}
 use Rattle.labels.proofs.Follows.{next_rounds}
 use Rattle.frontier_planner.proofs.grow.successors.Goals as goal
@@ -23,4 +23,4 @@ round-requires c =
     let old = get_or c.args.followed.now c.loop-old.old-index (0, no_label) in
     let from = c.requires.followed.within old (Contains-get_or c.args.followed.now c.loop-old.old-index (0, no_label) c.loop-old-test.true) in
     subst (λ (l : Label). IsNear 900000000000000000 l.v) (sym (c.next-next.ensures ∙ from.2 c.args.rung))
-    (next_rounds d g c.segments.ensures.can c.args.seg c.args.rung from.0 c.requires.seg.0 c.requires.seg.1 c.requires.rung from.1)
+    (next_rounds d g c.segments.ensures.can c.args.segment c.args.rung from.0 c.requires.segment.0 c.requires.segment.1 c.requires.rung from.1)

@@ -9,4 +9,4 @@ pub loop-rung-preserved : goal.loop-rung-preserved
 loop-rung-preserved c =
     let g = c.args.brief.now.scene in
     ap (map chain_parts) c.in_ok-push.ensures.items ∙ map-append chain_parts c.loop-rung.chains.items (c.in_ok-chain.chain ∷ [])
-    ∙ rung_pushed (map chain_parts c.args.chains.now.items) (map chain_parts c.loop-rung.chains.items) (λ q. chain_read c.args.brief.now.grid g c.args.seg q) c.loop-rung.rung (chain_parts c.in_ok-chain.chain) c.loop-rung.invariant c.in_ok-chain.ensures
+    ∙ rung_pushed (map chain_parts c.args.chains.now.items) (map chain_parts c.loop-rung.chains.items) (λ q. chain_read c.args.brief.now.grid g c.args.segment q) c.loop-rung.rung (chain_parts c.in_ok-chain.chain) c.loop-rung.invariant c.in_ok-chain.ensures

@@ -6,4 +6,4 @@ use Rattle.frontier_planner.proofs.names.add_named.Given as goal
 
 abbrev pub invariant-loop-rung : goal.invariant-loop-rung
 invariant-loop-rung l =
-    map chain_parts l.chains.items ≡ map chain_parts l.initial.chains.items ++ map (λ q. chain_read l.brief.grid l.brief.scene l.seg q) (rungs_below l.rung)
+    map chain_parts l.chains.items ≡ map chain_parts l.initial.chains.items ++ map (λ q. chain_read l.brief.grid l.brief.scene l.segment q) (rungs_below l.rung)

@@ -5,5 +5,5 @@ use Rattle.frontier_planner.specs.Layers.{chains_read}
 use Rattle.labels.specs.Parts.{chain_parts}
 use Rattle.frontier_planner.proofs.names.chains.Given as goal
 
-abbrev pub invariant-loop-seg : goal.invariant-loop-seg
-invariant-loop-seg l = map chain_parts l.chains.items ≡ flat_map (λ i. chains_read l.brief.grid l.brief.scene i) (rungs_below l.seg)
+abbrev pub invariant-loop-segment : goal.invariant-loop-segment
+invariant-loop-segment l = map chain_parts l.chains.items ≡ flat_map (λ i. chains_read l.brief.grid l.brief.scene i) (rungs_below l.segment)

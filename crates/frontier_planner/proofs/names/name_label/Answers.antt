@@ -20,21 +20,21 @@ index-chain-requires c =
     let g = c.args.brief.now.scene in
     let h = c.requires.layers in
     let layers = c.args.layers.now in
-    rung_inside d g layers h (c.args.seg + 1) c.loop-rung.rung c.index-layers-seg.result c.requires.seg (omega arith)
+    rung_inside d g layers h (c.args.segment + 1) c.loop-rung.rung c.index-layers-segment.result c.requires.segment (omega arith)
 
 -- the finders of the next segment's chains
-have : (c : After-index-chain) → HaveFinders (get_or c.args.layers.now (c.args.seg + 1) c.index-layers-seg.result).chains.items c.args.finders.now
+have : (c : After-index-chain) → HaveFinders (get_or c.args.layers.now (c.args.segment + 1) c.index-layers-segment.result).chains.items c.args.finders.now
 have c =
     let count = c.requires.layers.count in
-    let next = c.requires.seg in
-    c.requires.finders (omega (arith, next, count)) c.index-layers-seg.result
+    let next = c.requires.segment in
+    c.requires.finders (omega (arith, next, count)) c.index-layers-segment.result
 
 -- a rung is one of them
-inside : (c : After-index-chain) → c.loop-rung.rung < length (get_or c.args.layers.now (c.args.seg + 1) c.index-layers-seg.result).chains.items
+inside : (c : After-index-chain) → c.loop-rung.rung < length (get_or c.args.layers.now (c.args.segment + 1) c.index-layers-segment.result).chains.items
 inside c =
     let d = c.args.brief.now.grid in
     let g = c.args.brief.now.scene in
-    let count = chains_count d g c.args.layers.now c.requires.layers (c.args.seg + 1) c.index-layers-seg.result c.requires.seg in
+    let count = chains_count d g c.args.layers.now c.requires.layers (c.args.segment + 1) c.index-layers-segment.result c.requires.segment in
     let rung : c.loop-rung.rung < rungs_of c.args.brief.now.scene.film = omega arith in
     omega (arith, count, rung)
 
@@ -46,26 +46,26 @@ bounds-finders-rung c =
     omega (arith, count, low)
 
 -- the chain that was read is the coarse frontier of the rung
-chain_there : (c : After-deref-in-loop-rung) → c.deref-in-loop-rung.result.now ≡ grown c.args.brief.now.grid c.args.brief.now.scene (c.args.seg + 1) c.loop-rung.rung
+chain_there : (c : After-deref-in-loop-rung) → c.deref-in-loop-rung.result.now ≡ grown c.args.brief.now.grid c.args.brief.now.scene (c.args.segment + 1) c.loop-rung.rung
 chain_there c =
     c.deref-in-loop-rung.ensures.value
-    ∙ chain_is c.args.brief.now.grid c.args.brief.now.scene c.args.layers.now c.requires.layers (c.args.seg + 1) c.loop-rung.rung c.index-layers-seg.result c.index-chain.result.now c.requires.seg (omega arith) c.index-chain.ensures
+    ∙ chain_is c.args.brief.now.grid c.args.brief.now.scene c.args.layers.now c.requires.layers (c.args.segment + 1) c.loop-rung.rung c.index-layers-segment.result c.index-chain.result.now c.requires.segment (omega arith) c.index-chain.ensures
 
 pub name_of-place-requires-clause-reached : goal.name_of-place-requires-clause-reached
 name_of-place-requires-clause-reached c =
     let d = c.args.brief.now.grid in
     let g = c.args.brief.now.scene in
-    let next = c.requires.seg in
-    let low : c.args.seg < _ = omega (arith, next) in
+    let next = c.requires.segment in
+    let low : c.args.segment < _ = omega (arith, next) in
     record {
-      old_rung = (in_reach d g c.requires.layers.case c.args.seg c.args.reached low c.requires.reached).0;
-      old = label_follows d g c.requires.layers.case c.args.seg c.args.reached low c.requires.reached;
+      old_rung = (in_reach d g c.requires.layers.case c.args.segment c.args.reached low c.requires.reached).0;
+      old = label_follows d g c.requires.layers.case c.args.segment c.args.reached low c.requires.reached;
       rung = omega arith;
     }
 
 pub name_of-place-requires-clause-few : goal.name_of-place-requires-clause-few
 name_of-place-requires-clause-few c =
-    let few = chain_few c.args.brief.now.grid c.args.brief.now.scene c.args.layers.now c.requires.layers (c.args.seg + 1) c.loop-rung.rung c.requires.seg (omega arith) in
+    let few = chain_few c.args.brief.now.grid c.args.brief.now.scene c.args.layers.now c.requires.layers (c.args.segment + 1) c.loop-rung.rung c.requires.segment (omega arith) in
     let long = ap length (chain_there c) in
     omega (arith, few, long)
 
@@ -79,9 +79,9 @@ name_of-place-requires-clause-above c =
     let d = c.args.brief.now.grid in
     let g = c.args.brief.now.scene in
     let case = c.requires.layers.case in
-    let at = from_by_rung (rungs_of c.args.brief.now.scene.film) (grown d g c.args.seg) c.args.reached c.requires.reached in
-    subst (λ ls. HasAbove ls (next_label g (c.args.seg + 1) c.args.reached.0 c.args.reached.1 c.loop-rung.rung)) (sym (chain_there c))
-    ((grown_covers d g case.grid).goes_on c.args.seg c.args.reached.0 c.loop-rung.rung c.requires.seg at.0 (omega arith) c.args.reached.1 at.1)
+    let at = from_by_rung (rungs_of c.args.brief.now.scene.film) (grown d g c.args.segment) c.args.reached c.requires.reached in
+    subst (λ ls. HasAbove ls (next_label g (c.args.segment + 1) c.args.reached.0 c.args.reached.1 c.loop-rung.rung)) (sym (chain_there c))
+    ((grown_covers d g case.grid).goes_on c.args.segment c.args.reached.0 c.loop-rung.rung c.requires.segment at.0 (omega arith) c.args.reached.1 at.1)
 
 pub loop-rung-preserved : goal.loop-rung-preserved
 loop-rung-preserved c =
@@ -89,5 +89,5 @@ loop-rung-preserved c =
     let g = c.args.brief.now.scene in
     let s = (goal.at.loop-rung-preserved c).After-deref-in-loop-rung in
     c.in_ok-push.ensures.items
-    ∙ rung_pushed c.args.names.now.items c.loop-rung.names.items (λ r. place_above (grown d g (suc c.args.seg) r) (next_label g (suc c.args.seg) c.args.reached.0 c.args.reached.1 r)) c.loop-rung.rung c.name_of-place.result c.loop-rung.invariant
-    (name_one d g c.args.seg c.loop-rung.rung c.args.reached c.name_of-place.result c.deref-in-loop-rung.result.now _ c.name_of-place.ensures (chain_there s) refl)
+    ∙ rung_pushed c.args.names.now.items c.loop-rung.names.items (λ r. place_above (grown d g (suc c.args.segment) r) (next_label g (suc c.args.segment) c.args.reached.0 c.args.reached.1 r)) c.loop-rung.rung c.name_of-place.result c.loop-rung.invariant
+    (name_one d g c.args.segment c.loop-rung.rung c.args.reached c.name_of-place.result c.deref-in-loop-rung.result.now _ c.name_of-place.ensures (chain_there s) refl)

@@ -8,4 +8,4 @@ use Rattle.frontier_planner.proofs.names.name_label.Given as goal
 abbrev pub invariant-loop-rung : goal.invariant-loop-rung
 invariant-loop-rung l =
     l.names.items ≡ l.initial.names.items
-    ++ map (λ r. place_above (grown l.brief.grid l.brief.scene (suc l.seg) r) (next_label l.brief.scene (suc l.seg) l.reached.0 l.reached.1 r)) (rungs_below l.rung)
+    ++ map (λ r. place_above (grown l.brief.grid l.brief.scene (suc l.segment) r) (next_label l.brief.scene (suc l.segment) l.reached.0 l.reached.1 r)) (rungs_below l.rung)

@@ -9,7 +9,7 @@ use Rattle.frontier_planner.proofs.names.name_of.Goals as goal
 
 pub returns-then-finder : goal.returns-then-finder
 returns-then-finder c =
-    let next = next_label c.args.brief.now.scene (c.args.seg + 1) c.args.reached.0 c.args.reached.1 c.args.rung in
+    let next = next_label c.args.brief.now.scene (c.args.segment + 1) c.args.reached.0 c.args.reached.1 c.args.rung in
     let value : to_z w64 (of_z w64 c.next_value-value.result) ≡ c.next_value-value.result = search rules in
     reached_above c.args.chain.now (c.requires.finder.climbs c.if-finder.true) next c.place_of_value.result c.requires.above
     (subst (Reaches c.args.chain.now c.place_of_value.result) (value ∙ c.next_value-value.ensures) c.place_of_value.ensures)

@@ -13,8 +13,8 @@ index-requires c =
     let g = c.args.brief.now.scene in
     let h = c.requires.layers in
     let layers = c.args.layers.now in
-    let next = c.requires.seg in
-    rung_inside d g layers h c.args.seg c.args.rung c.index-layers-seg.result (omega (arith, next)) c.requires.rung
+    let next = c.requires.segment in
+    rung_inside d g layers h c.args.segment c.args.rung c.index-layers-segment.result (omega (arith, next)) c.requires.rung
 
 pub name_label-requires-clause-reached : goal.name_label-requires-clause-reached
 name_label-requires-clause-reached c =
@@ -22,9 +22,9 @@ name_label-requires-clause-reached c =
     let g = c.args.brief.now.scene in
     let h = c.requires.layers in
     let layers = c.args.layers.now in
-    let next = c.requires.seg in
-    let is = c.deref-l-items.ensures.value ∙ chain_is d g layers h c.args.seg c.args.rung c.index-layers-seg.result c.index.result.now (omega (arith, next)) c.requires.rung c.index.ensures in
-    label_there d g c.args.seg c.args.rung c.loop-l.l-index no_label c.deref-l-items.result.now is c.requires.rung c.loop-l-test.true
+    let next = c.requires.segment in
+    let is = c.deref-l-items.ensures.value ∙ chain_is d g layers h c.args.segment c.args.rung c.index-layers-segment.result c.index.result.now (omega (arith, next)) c.requires.rung c.index.ensures in
+    label_there d g c.args.segment c.args.rung c.loop-l.l-index no_label c.deref-l-items.result.now is c.requires.rung c.loop-l-test.true
 
 pub loop-l-preserved : goal.loop-l-preserved
 loop-l-preserved c =
@@ -32,9 +32,9 @@ loop-l-preserved c =
     let g = c.args.brief.now.scene in
     let h = c.requires.layers in
     let layers = c.args.layers.now in
-    let next = c.requires.seg in
-    let is = c.deref-l-items.ensures.value ∙ chain_is d g layers h c.args.seg c.args.rung c.index-layers-seg.result c.index.result.now (omega (arith, next)) c.requires.rung c.index.ensures in
-    label_pushed (λ x. names_read d g c.args.seg (c.args.rung, x)) (grown d g c.args.seg c.args.rung) c.deref-l-items.result.now c.loop-l.l-index no_label c.loop-l.names.items c.name_label.new.names.items
+    let next = c.requires.segment in
+    let is = c.deref-l-items.ensures.value ∙ chain_is d g layers h c.args.segment c.args.rung c.index-layers-segment.result c.index.result.now (omega (arith, next)) c.requires.rung c.index.ensures in
+    label_pushed (λ x. names_read d g c.args.segment (c.args.rung, x)) (grown d g c.args.segment c.args.rung) c.deref-l-items.result.now c.loop-l.l-index no_label c.loop-l.names.items c.name_label.new.names.items
     is c.loop-l-test.true c.loop-l.invariant c.in_ok-name_label.ensures
 
 pub returns : goal.returns
@@ -43,8 +43,8 @@ returns c =
     let g = c.args.brief.now.scene in
     let h = c.requires.layers in
     let layers = c.args.layers.now in
-    let next = c.requires.seg in
-    let is = c.deref-l-items.ensures.value ∙ chain_is d g layers h c.args.seg c.args.rung c.index-layers-seg.result c.index.result.now (omega (arith, next)) c.requires.rung c.index.ensures in
+    let next = c.requires.segment in
+    let is = c.deref-l-items.ensures.value ∙ chain_is d g layers h c.args.segment c.args.rung c.index-layers-segment.result c.index.result.now (omega (arith, next)) c.requires.rung c.index.ensures in
     let long = ap length is in
     let late = c.loop-l-test.false in
-    c.loop-l.invariant ∙ ap (flat_map (λ l. names_read d g c.args.seg (c.args.rung, l))) (take_all c.loop-l.l-index (grown d g c.args.seg c.args.rung) (omega (arith, long, late)))
+    c.loop-l.invariant ∙ ap (flat_map (λ l. names_read d g c.args.segment (c.args.rung, l))) (take_all c.loop-l.l-index (grown d g c.args.segment c.args.rung) (omega (arith, long, late)))

@@ -6,4 +6,4 @@ use Rattle.frontier_planner.proofs.names.names.Given as goal
 
 abbrev pub invariant-loop-l : goal.invariant-loop-l
 invariant-loop-l l =
-    l.names.items ≡ flat_map (λ x. names_read l.brief.grid l.brief.scene l.seg (l.rung, x)) (take l.l-index (grown l.brief.grid l.brief.scene l.seg l.rung))
+    l.names.items ≡ flat_map (λ x. names_read l.brief.grid l.brief.scene l.segment (l.rung, x)) (take l.l-index (grown l.brief.grid l.brief.scene l.segment l.rung))

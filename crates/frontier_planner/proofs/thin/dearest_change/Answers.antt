@@ -14,9 +14,9 @@ returns-clause-most c = λ q r before rung.
     let all = c.rungs-rung-end.ensures.value in
     let end = c.loop-rung-test.false in
     let most = c.loop-rung.invariant.most in
-    subst (λ (x : Weighing). x.switch * change_of x c.args.seg (Some q) r ≤ c.switch.result * c.loop-rung.top) c.weights-weights.ensures.value
-    (subst (λ n. w.switch * change_of w c.args.seg (Some q) r ≤ n * c.loop-rung.top) (sym c.switch.ensures.value)
-    (change_below w c.args.seg q r c.loop-rung.top (most q (omega (arith, all, end, before))) (most r (omega (arith, all, end, rung)))))
+    subst (λ (x : Weighing). x.switch * change_of x c.args.segment (Some q) r ≤ c.switch.result * c.loop-rung.top) c.weights-weights.ensures.value
+    (subst (λ n. w.switch * change_of w c.args.segment (Some q) r ≤ n * c.loop-rung.top) (sym c.switch.ensures.value)
+    (change_below w c.args.segment q r c.loop-rung.top (most q (omega (arith, all, end, before))) (most r (omega (arith, all, end, rung)))))
 
 pub returns-clause-limit : goal.returns-clause-limit
 returns-clause-limit c = subst (λ n. n * c.loop-rung.top ≤ 1000000000000) (sym c.switch.ensures.value) (mul-le-mul c.switch.ensures.weighing.weights.switch_fits c.loop-rung.invariant.limit)

@@ -12,18 +12,18 @@ use Rattle.frontier_planner.proofs.thin.labels_to_follow.Goals as goal
 pub waiting_labels-requires-clause-before : goal.waiting_labels-requires-clause-before
 waiting_labels-requires-clause-before c = λ k e inside.
     let x = get_or c.args.before.now k e in
-    let low = c.requires.seg.1 in
-    label_follows c.args.brief.now.grid c.args.brief.now.scene c.segments.ensures.can (c.args.seg - 1) x (omega (arith, low)) (subst (λ cs. Contains cs x) c.requires.before (Contains-get_or c.args.before.now k e inside))
+    let low = c.requires.segment.1 in
+    label_follows c.args.brief.now.grid c.args.brief.now.scene c.segments.ensures.can (c.args.segment - 1) x (omega (arith, low)) (subst (λ cs. Contains cs x) c.requires.before (Contains-get_or c.args.before.now k e inside))
 
 pub leaders-requires-clause-follow : goal.leaders-requires-clause-follow
 leaders-requires-clause-follow c =
     subst (λ ls. All (λ x. CanFollow x.1) ls) (sym c.deref.ensures.value)
-    (sorted_follow c.args.brief.now.grid c.args.brief.now.scene c.segments.ensures.can c.args.seg c.args.before.now _ _ c.requires.seg.0 c.requires.seg.1 c.requires.before c.in_ok-waits.ensures c.put_in_order.ensures.same)
+    (sorted_follow c.args.brief.now.grid c.args.brief.now.scene c.segments.ensures.can c.args.segment c.args.before.now _ _ c.requires.segment.0 c.requires.segment.1 c.requires.before c.in_ok-waits.ensures c.put_in_order.ensures.same)
 
 pub returns : goal.returns
 returns c =
     let d = c.args.brief.now.grid in
     let g = c.args.brief.now.scene in
-    IfOk-weaker c.leaders.result (λ v. AreLeaders c.dearest_change.result c.deref.result.now v.items) (λ v. AreFollowed c.args.brief.now c.args.seg v.items)
-    (λ v lead. sorted_enough d g c.segments.ensures.can c.args.seg c.args.before.now _ _ v.items c.dearest_change.result c.requires.seg.0 c.requires.seg.1 c.requires.before c.in_ok-waits.ensures c.put_in_order.ensures.same c.dearest_change.ensures.most
+    IfOk-weaker c.leaders.result (λ v. AreLeaders c.dearest_change.result c.deref.result.now v.items) (λ v. AreFollowed c.args.brief.now c.args.segment v.items)
+    (λ v lead. sorted_enough d g c.segments.ensures.can c.args.segment c.args.before.now _ _ v.items c.dearest_change.result c.requires.segment.0 c.requires.segment.1 c.requires.before c.in_ok-waits.ensures c.put_in_order.ensures.same c.dearest_change.ensures.most
     (subst (λ ls. AreLeaders c.dearest_change.result ls v.items) c.deref.ensures.value lead)) c.leaders.ensures
