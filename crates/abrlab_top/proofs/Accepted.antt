@@ -1,5 +1,6 @@
 -- `check` says yes to the certificate that a run of `plan` printed.
 use Rattle.std.proofs.Common.{◌≡◌, ◌∙◌, ℕ, ◌≤◌, false, true, List, [], ◌∷◌, ◌++◌, length, Option, Some, None, Ok, refl, sym, ap, subst, arith, append_assoc, append-nil}
+use Rattle.std.specs.List.{slice_get}
 use Rattle.std.specs.Prelude.{nat_lt}
 use Rattle.std.proofs.lemmas.Bool.Decides.{nat_tests}
 use Rattle.lab_io.specs.Sink.{Text}
@@ -15,6 +16,7 @@ use Rattle.lab_inputs.specs.Files.{Files, contents_from, with_file}
 use Rattle.lab_inputs.specs.Inputs.{InputValues, contents_of, inputs_of, inputs_on}
 use Rattle.lab_inputs.specs.Roles.{later_files, optional_file, trace_files}
 use Rattle.lab_inputs.specs.Settings.{misfit, settled}
+use Rattle.lab_inputs.specs.Stages.{Tells}
 use Rattle.lab_inputs.proofs.Steps.{inputs_one_more, ok_same}
 use Rattle.lab_inputs.proofs.Within.{inputs_counted, inputs_held, is_ready, settled_fits}
 use Rattle.player_core.specs.Scene.{IsTask, Task, task_of}
@@ -30,7 +32,7 @@ use Rattle.player_core.specs.Available.{all_ahead}
 use Rattle.abrlab_top.specs.declared.ending.Ending.{Ending}
 use Rattle.abrlab_top.specs.Accepts.{ChecksText, PlansCertificate, ReadAlike, RunsAreAccepted, without_certificate}
 use Rattle.abrlab_top.specs.Answer.{Answer, Outcome, ending_in, printed, text_in}
-use Rattle.abrlab_top.specs.Check.{check, told_verdict, verdict_text}
+use Rattle.abrlab_top.specs.Check.{check, check_on, told_verdict, verdict_text}
 use Rattle.abrlab_top.specs.Ending.{status_of}
 use Rattle.abrlab_top.specs.Outcome.{about, answer_by, answer_of, outcome}
 use Rattle.abrlab_top.specs.Outcome as whole
@@ -89,7 +91,7 @@ settled_alike i j film setup none none2 s =
 checked : (j : InputValues) (n : Text × List Period) (cert : CertificateParts) → text.certificate_of j.certificate ≡ Ok cert → settled j ≡ Ok j → j.networks ≡ n ∷ []
     → verdict_of (task_on j n.1) cert cert.score ≡ Yes → check j ≡ Ok (told_verdict cert.score Yes)
 unfolding check
-checked j n cert read fits one valid = rw (one, read, fits) (ap (λ v. Ok (told_verdict cert.score v)) valid)
+checked j n cert read fits one valid = ap (λ ns. check_on j (slice_get ns 0)) one ∙ rw (read, fits) (ap (λ v. Ok (told_verdict cert.score v)) valid)
 
 about_is : (after : InputValues → Outcome) (c : CommandWords) (files : Files) (i : InputValues) → inputs_of c files ≡ Ok i → about after c files ≡ after i
 unfolding about

@@ -26,7 +26,7 @@ use Rattle.abrlab_top.specs.Ending.{status_of, stop_status}
 use Rattle.abrlab_top.specs.Outcome.{about, answer_by, answer_of, manner_in, named_by, named_files, outcome, outcome_by, status}
 use Rattle.abrlab_top.specs.Runs.{Ends, Runs, TellsNamed, World}
 use Rattle.abrlab_top.specs.Stages.{OutFails}
-use Rattle.abrlab_top.specs.Statuses.{IsAmong, IsComplete, IsStatus, LeavesShelf, RunsAreComplete, RunsLeaveTheShelf}
+use Rattle.abrlab_top.specs.Statuses.{IsAmong, IsComplete, IsStatus, IsSure, LeavesShelf, RunsAreComplete, RunsLeaveTheShelf}
 use Rattle.abrlab_top.proofs.Statuses.{tells_named}
 
 -- ---- the shelf

@@ -37,13 +37,13 @@ use Rattle.certificate_check.proofs.Verdicts.{yes_valid}
 use Rattle.abrlab_top.specs.declared.ending.Ending.{Ending}
 use Rattle.abrlab_top.specs.declared.ending.Ending.TheVariants as ending
 use Rattle.abrlab_top.specs.Answer.{Answer, Outcome, printed, unless_stopped}
-use Rattle.abrlab_top.specs.Check.{certificate_in, check, told_verdict, verdict_ending, verdict_text}
+use Rattle.abrlab_top.specs.Check.{certificate_in, check, check_on, told_verdict, verdict_ending, verdict_text}
 use Rattle.abrlab_top.specs.Ending.{status_of}
 use Rattle.abrlab_top.specs.Outcome.{about, answer_by, answer_of, named_files, outcome, outcome_by}
-use Rattle.abrlab_top.specs.Plan.{certificate_on, labels_on, plan, plan_text, spent_on, task_on, unless_spent}
+use Rattle.abrlab_top.specs.Plan.{certificate_on, labels_on, plan, plan_on, plan_text, spent_on, task_on, unless_spent}
 use Rattle.abrlab_top.specs.Proves.{IsBest, IsYes, PlansTheBest, Proves, SaysYesSoundly, Simulates}
 use Rattle.abrlab_top.specs.Runs.{Runs, World}
-use Rattle.abrlab_top.specs.Simulate.{case_on, session_on, simulate}
+use Rattle.abrlab_top.specs.Simulate.{case_on, session_on, simulate, simulate_on}
 use Rattle.abrlab_top.proofs.Certified.{has_text, within_budget}
 use Rattle.abrlab_top.proofs.Statuses.{statuses, tells_named}
 
@@ -116,7 +116,8 @@ ready_by c files i e h = rw e h
 simulated_ok : (i : InputValues) (n : Text × List Period) (rule : Text × RuleKind) (a : Answer) → i.networks ≡ n ∷ [] → i.rules ≡ rule ∷ [] → simulate i ≡ Ok a → (settled i ≡ Ok i) × (printed (session_on i n.1 rule.1) ≡ a)
 unfolding simulate
 simulated_ok i n rule a e h k =
-    let whole : (unless_stopped (settled i) >>= λ ready. Ok (printed (session_on ready n.1 rule.1))) ≡ Ok a = rw (e, h) at k in
+    let named = ap (λ ns. simulate_on i (slice_get ns 0) (slice_get i.rules 0)) e ∙ ap (λ rs. simulate_on i (Some n) (slice_get rs 0)) h in
+    let whole : (unless_stopped (settled i) >>= λ ready. Ok (printed (session_on ready n.1 rule.1))) ≡ Ok a = sym named ∙ k in
     let x = bind_ok (unless_stopped (settled i)) (λ ready. Ok (printed (session_on ready n.1 rule.1))) a whole in
     let s = settled_ok i x.0 x.1 in
     (s.0, ap (λ (j : InputValues). printed (session_on j n.1 rule.1)) s.1 ∙ ok_same _ _ a refl x.2)
@@ -168,7 +169,7 @@ pub planned_ok : (budget : ℕ) (as_certificate : Bool) (i : InputValues) (n : T
     → (settled i ≡ Ok i) × (spent_on (task_on i n.1) budget ≡ None) × (printed (plan_text as_certificate (task_on i n.1)) ≡ a)
 unfolding plan
 planned_ok budget as_certificate i n a e k =
-    let whole : (unless_stopped (settled i) >>= λ ready. unless_spent as_certificate (task_on ready n.1) (spent_on (task_on ready n.1) budget)) ≡ Ok a = rw e at k in
+    let whole : (unless_stopped (settled i) >>= λ ready. unless_spent as_certificate (task_on ready n.1) (spent_on (task_on ready n.1) budget)) ≡ Ok a = sym (ap (λ ns. plan_on budget as_certificate i (slice_get ns 0)) e) ∙ k in
     let x = bind_ok (unless_stopped (settled i)) (λ ready. unless_spent as_certificate (task_on ready n.1) (spent_on (task_on ready n.1) budget)) a whole in
     let s = settled_ok i x.0 x.1 in
     let u = unspent as_certificate (task_on i n.1) (spent_on (task_on i n.1) budget) a (subst (λ (j : InputValues). unless_spent as_certificate (task_on j n.1) (spent_on (task_on j n.1) budget) ≡ Ok a) (sym s.1) x.2) in
@@ -227,7 +228,7 @@ checked_ok : (i : InputValues) (n : Text × List Period) (a : Answer) → i.netw
     → (cert : CertificateParts) × (certificate_of i.certificate ≡ Ok cert) × (settled i ≡ Ok i) × (told_verdict cert.score (verdict_of (task_on i n.1) cert cert.score) ≡ a)
 unfolding check
 checked_ok i n a e k =
-    let whole : (unless_stopped (certificate_in i.certificate) >>= λ cert. unless_stopped (settled i) >>= λ ready. Ok (told_verdict cert.score (verdict_of (task_on ready n.1) cert cert.score))) ≡ Ok a = rw e at k in
+    let whole : (unless_stopped (certificate_in i.certificate) >>= λ cert. unless_stopped (settled i) >>= λ ready. Ok (told_verdict cert.score (verdict_of (task_on ready n.1) cert cert.score))) ≡ Ok a = sym (ap (λ ns. check_on i (slice_get ns 0)) e) ∙ k in
     let y = bind_ok (unless_stopped (certificate_in i.certificate)) (λ cert. unless_stopped (settled i) >>= λ ready. Ok (told_verdict cert.score (verdict_of (task_on ready n.1) cert cert.score))) a whole in
     let z = bind_ok (unless_stopped (settled i)) (λ ready. Ok (told_verdict y.0.score (verdict_of (task_on ready n.1) y.0 y.0.score))) a y.2 in
     let s = settled_ok i z.0 z.1 in

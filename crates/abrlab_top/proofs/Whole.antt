@@ -29,7 +29,7 @@ use Rattle.abrlab_top.specs.declared.ending.Ending.TheVariants as ending
 use Rattle.abrlab_top.specs.Answer.{Answer, Outcome, printed, text_in, unless_stopped}
 use Rattle.abrlab_top.specs.Demo.{demo}
 use Rattle.abrlab_top.specs.Ending.{IsWhole, after_halt, after_put, ended}
-use Rattle.abrlab_top.specs.Outcome.{about, answer_by, answer_of, manner_by, manner_in, manner_of, named_files, outcome}
+use Rattle.abrlab_top.specs.Outcome.{about, answer_by, answer_of, manner_by, manner_in, manner_of, named_by, named_files, outcome, outcome_by}
 use Rattle.abrlab_top.specs.Runs.{Admits, ComesTo, Ends}
 use Rattle.abrlab_top.specs.Stages.{Answers, IsLate, Manner, OutFails, Writes, refusing}
 
@@ -58,12 +58,13 @@ wanting m meant old = (λ h. inl refl, nothing_written old.written old.written (
 pub nothing_printed : (m : Manner) (meant : Outcome) (old : Seen) → meant ≡ Ok (printed []) → Writes m meant old ending.Done old
 nothing_printed m meant old e = (printed [], e, (refl, same_written old.written))
 
-late_setting : (checks : Bool) (i : InputValues) (o : Option Setting) (why : Stop) → unless_misfit i o ≡ Err why → IsLate checks why
+setting_is : (i : InputValues) (setting : Setting) (why : Stop) → unless_misfit i (Some setting) ≡ Err why → stop.Settings setting ≡ why
+setting_is i setting why e = cc
+
+-- a setting that does not fit comes once all files are there
+pub late_setting : (checks : Bool) (i : InputValues) (o : Option Setting) (why : Stop) → unless_misfit i o ≡ Err why → IsLate checks why
 late_setting checks i None why e = cc
-late_setting checks i (Some setting) why e = subst (IsLate checks) (same e) tt
-  where
-    same : {A : Type 0} → Err {A = A} (stop.Settings setting) ≡ Err why → stop.Settings setting ≡ why
-    same e = cc
+late_setting checks i (Some setting) why e = subst (IsLate checks) (setting_is i setting why e) tt
 
 -- a setting does not fit
 pub settings_stop : (m : Manner) (i : InputValues) (meant : Outcome) (old : Seen) (why : Stop) → settled i ≡ Err why → meant ≡ Err (ending.Stopped why) → Writes m meant old (ending.Stopped why) old
@@ -176,11 +177,12 @@ ends_by v c shelf out e shelf2 out2 h x = subst (λ w. Ends (files_by w c) (mann
 -- words that ask for a command end as it does
 pub command_ends : (line : List Text) (c : CommandWords) (shelf : Shelved) (out : Seen) (e : Ending) (shelf2 : Shelved) (out2 : Seen) → command_of line ≡ Some c → Ends (files_of c) (manner_of c) (answer_of c) shelf out e shelf2 out2
     → Admits line (command_of line) e × Ends (named_files line) (manner_in (command_of line)) (outcome line) shelf out e shelf2 out2
-command_ends line c shelf out e shelf2 out2 h x = rw h (tt, x)
+command_ends line c shelf out e shelf2 out2 h x = subst (λ o. Admits line o e × Ends (named_by o) (manner_in o) (outcome_by o) shelf out e shelf2 out2) (sym h) (tt, x)
 
 -- refused words
 pub usage_ends : (line : List Text) (shelf : Shelved) (out : Seen) → command_of line ≡ None → Admits line (command_of line) ending.Usage × Ends (named_files line) (manner_in (command_of line)) (outcome line) shelf out ending.Usage shelf out
-usage_ends line shelf out h = rw h (inl refl, record { asked = refl; leaves = (refl, refl); comes = λ files t. refl })
+usage_ends line shelf out h =
+    subst (λ o. Admits line o ending.Usage × Ends (named_by o) (manner_in o) (outcome_by o) shelf out ending.Usage shelf out) (sym h) (inl refl, record { asked = refl; leaves = (refl, refl); comes = λ files t. refl })
 
 admits_wanting : (line : List Text) (o : Option CommandWords) → begins_with_verb line ≡ true → Admits line o ending.NoMemory
 admits_wanting line None b = inr (refl, b)

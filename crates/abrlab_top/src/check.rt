@@ -61,7 +61,7 @@ fn judge_lines(
     requires settled { settled inputs.now ≡ Ok inputs.now }
     requires fits { Fits inputs.now }
     requires lines { IsBegun lines }
-    requires certificate { begun inputs.now.certificate ≡ Ok lines.entry }
+    requires certificate { begun inputs.now.certificate ≡ Ok lines }
     ensures { Judges inputs.now result }
 {
     let clock = Clock::new(alloc, &network.trace)?;

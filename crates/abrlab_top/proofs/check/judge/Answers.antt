@@ -11,4 +11,4 @@ pub returns-in-Err : goal.returns-in-Err
 returns-in-Err c =
     let i = c.args.inputs.now in
     let fails = subst (λ bytes. Fails c.in-Err.fault (begun bytes)) c.certificate.ensures c.in-Err.ensures.walk in
-    subst (λ h. Judges i (Err h)) (sym c.bad_line.ensures) (bad_judged i (network_of c.args.network.now) c.in-Err.fault c.requires (begun_fails i.certificate c.in-Err.fault fails))
+    subst (λ h. Judges i (Err h)) (sym c.bad_line.ensures) (bad_judged i (network_of c.args.network.now) c.in-Err.fault c.requires.network (begun_fails i.certificate c.in-Err.fault fails))

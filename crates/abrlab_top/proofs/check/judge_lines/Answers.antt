@@ -20,8 +20,8 @@ returns-in-Ok c =
     (task_is i c.args.network.now.trace c.in_ok-clock.clock c.manifest.result.now c.setup.result.now c.manifest.ensures c.in_ok-clock.ensures.clock c.setup.ensures)
     c.requires.certificate (to_z-of_z w128 score small ∙ c.score-score.ensures) (c.in-Ok.ensures.verdict i.certificate c.requires.certificate)
 
-pub returns-in-Err : goal.returns-in-Err
-returns-in-Err c =
+pub returns : goal.returns
+returns c =
     let i = c.args.inputs.now in
     subst (λ h. Judges i (Err h)) (sym c.bad_line.ensures)
     (bad_judged i (network_of c.args.network.now) c.in-Err.fault c.requires.network (verdict_fails _ i.certificate c.in-Err.fault (c.in-Err.ensures.verdict i.certificate c.requires.certificate)))

@@ -20,7 +20,7 @@ pub returns-in-Check : goal.returns-in-Check
 returns-in-Check g c = ends_by verb.Check (view c.args.command) _ _ _ _ _ c.in-Check.is c.check.ensures
 
 pub demo-requires : goal.demo-requires
-demo-requires g c = subst (λ v. HasItsOwn v (view c.args.command)) c.in-Demo.is c.requires.own
+demo-requires g c = subst (λ v. HasItsOwn v (view c.args.command)) c.in-Demo.is c.requires.limits.own
 
 pub returns-in-Demo : goal.returns-in-Demo
 returns-in-Demo g c = ends_by verb.Demo (view c.args.command) _ _ _ _ _ c.in-Demo.is (alone_ends row_by_row (demo_text c.args.command.number) _ _ _ _ c.demo.ensures)

@@ -14,7 +14,7 @@ returns-in_err-fit g c =
     exit row_by_row (compare i) _ _ c.from_residual.result _ c.from_residual.ensures.1 (settings_stop row_by_row i (compare i) _ _ stop (compare_stopped i _ stop))
 
 pub write_networks-requires : goal.write_networks-requires
-write_networks-requires g c = (all_settled c.args.inputs.now c.fit.result _ c.in_ok-fit.was c.fit.ensures).1
+write_networks-requires g c = record { fits = (all_settled c.args.inputs.now c.fit.result _ c.in_ok-fit.was c.fit.ensures).1 }
 
 pub returns-in_err-write_networks : goal.returns-in_err-write_networks
 returns-in_err-write_networks g c =

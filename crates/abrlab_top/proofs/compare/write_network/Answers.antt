@@ -13,7 +13,7 @@ write_rows-requires-clause-within g c = rules_within c.args.inputs.now c.rules.r
 
 pub write_rows-requires-clause-fits : goal.write_rows-requires-clause-fits
 write_rows-requires-clause-fits g c =
-    rules_fit c.args.inputs.now c.rules.result.now c.new-bench.result c.rules.ensures.value (ap (λ (b : BenchValue). b.film) c.new-bench.ensures ∙ c.manifest.ensures) c.requires.rules
+    rules_fit c.args.inputs.now c.rules.result.now c.new-bench.result c.rules.ensures.value (ap (λ (b : BenchValue). b.film) c.new-bench.ensures ∙ c.manifest.ensures) c.requires.fits.rules
 
 pub returns : goal.returns
 returns g c =

@@ -1,4 +1,5 @@
-use Rattle.std.proofs.Common.{◌∙◌, ap, sym}
+use Rattle.std.proofs.Common.{◌≡◌, Some}
+use Rattle.std.specs.List.{slice_get}
 use Rattle.lab_inputs.specs.Stages.{network_of}
 use Rattle.abrlab_top.specs.Plan.{plan}
 use Rattle.abrlab_top.specs.Stages.{at_the_end}
@@ -6,8 +7,8 @@ use Rattle.abrlab_top.proofs.Plans.{no_network, plan_failed, plan_given, plan_st
 use Rattle.abrlab_top.proofs.Whole.{all_settled, exit, none_there, nothing_printed, put_done, put_failed, settings_stop, some_there, unsettled, wanting}
 use Rattle.abrlab_top.proofs.plan.write_plan.Goals as goal
 
-pub returns-in-None : goal.returns-in-None
-returns-in-None g c = nothing_printed at_the_end (plan c.args.budget c.args.as_certificate c.args.inputs.now) _ (no_network c.args.budget c.args.as_certificate c.args.inputs.now (none_there _ _ _ c.in-None.is c.network.ensures))
+pub returns-in_default : goal.returns-in_default
+returns-in_default g c = nothing_printed at_the_end (plan c.args.budget c.args.as_certificate c.args.inputs.now) (g.O.Sink.seen c.args.out.now) (no_network c.args.budget c.args.as_certificate c.args.inputs.now (none_there _ _ _ c.in_default.is c.network.ensures))
 
 pub returns-in_err-fit : goal.returns-in_err-fit
 returns-in_err-fit g c =
@@ -22,7 +23,7 @@ returns-in_err-clock g c = exit at_the_end (plan c.args.budget c.args.as_certifi
 pub returns-in_err-plan : goal.returns-in_err-plan
 returns-in_err-plan g c =
     let i = c.args.inputs.now in
-    let network = some_there network_of _ _ _ c.in-Some.is c.network.ensures in
+    let network : slice_get i.networks 0 ≡ Some (network_of c.in-Some.network.now) = some_there _ _ _ _ c.in-Some.is c.network.ensures in
     let fits = all_settled i c.fit.result _ c.in_ok-fit.was c.fit.ensures in
     let task = task_is i c.in-Some.network.now.trace c.in_ok-clock.clock c.manifest.result.now c.setup.result.now c.manifest.ensures c.in_ok-clock.ensures.clock c.setup.ensures in
     exit at_the_end (plan c.args.budget c.args.as_certificate i) _ _ c.from_residual-in_err-plan.result _ c.from_residual-in_err-plan.ensures.1
@@ -31,15 +32,15 @@ returns-in_err-plan g c =
 pub put_answer-requires : goal.put_answer-requires
 put_answer-requires g c =
     let i = c.args.inputs.now in
-    let network = some_there network_of _ _ _ c.in-Some.is c.network.ensures in
+    let network : slice_get i.networks 0 ≡ Some (network_of c.in-Some.network.now) = some_there _ _ _ _ c.in-Some.is c.network.ensures in
     let fits = all_settled i c.fit.result _ c.in_ok-fit.was c.fit.ensures in
     let task = task_is i c.in-Some.network.now.trace c.in_ok-clock.clock c.manifest.result.now c.setup.result.now c.manifest.ensures c.in_ok-clock.ensures.clock c.setup.ensures in
-    (planned_whole c.args.budget c.args.as_certificate i _ c.manifest-2.result.now _ c.in_ok-plan.plan network fits.0 task c.manifest-2.ensures c.plan_on.ensures.task (plan_given _ c.args.budget c.plan_on.result _ c.in_ok-plan.was c.plan_on.ensures.answer)).0
+    record { form = (planned_whole c.args.budget c.args.as_certificate i _ c.manifest-2.result.now _ c.in_ok-plan.plan network fits.0 task c.manifest-2.ensures c.plan_on.ensures.task (plan_given _ c.args.budget c.plan_on.result _ c.in_ok-plan.was c.plan_on.ensures.answer)).0 }
 
 pub returns-in_err-put_answer : goal.returns-in_err-put_answer
 returns-in_err-put_answer g c =
     let i = c.args.inputs.now in
-    let network = some_there network_of _ _ _ c.in-Some.is c.network.ensures in
+    let network : slice_get i.networks 0 ≡ Some (network_of c.in-Some.network.now) = some_there _ _ _ _ c.in-Some.is c.network.ensures in
     let fits = all_settled i c.fit.result _ c.in_ok-fit.was c.fit.ensures in
     let task = task_is i c.in-Some.network.now.trace c.in_ok-clock.clock c.manifest.result.now c.setup.result.now c.manifest.ensures c.in_ok-clock.ensures.clock c.setup.ensures in
     let whole = planned_whole c.args.budget c.args.as_certificate i _ c.manifest-2.result.now _ c.in_ok-plan.plan network fits.0 task c.manifest-2.ensures c.plan_on.ensures.task (plan_given _ c.args.budget c.plan_on.result _ c.in_ok-plan.was c.plan_on.ensures.answer) in
@@ -49,7 +50,7 @@ returns-in_err-put_answer g c =
 pub returns : goal.returns
 returns g c =
     let i = c.args.inputs.now in
-    let network = some_there network_of _ _ _ c.in-Some.is c.network.ensures in
+    let network : slice_get i.networks 0 ≡ Some (network_of c.in-Some.network.now) = some_there _ _ _ _ c.in-Some.is c.network.ensures in
     let fits = all_settled i c.fit.result _ c.in_ok-fit.was c.fit.ensures in
     let task = task_is i c.in-Some.network.now.trace c.in_ok-clock.clock c.manifest.result.now c.setup.result.now c.manifest.ensures c.in_ok-clock.ensures.clock c.setup.ensures in
     let whole = planned_whole c.args.budget c.args.as_certificate i _ c.manifest-2.result.now _ c.in_ok-plan.plan network fits.0 task c.manifest-2.ensures c.plan_on.ensures.task (plan_given _ c.args.budget c.plan_on.result _ c.in_ok-plan.was c.plan_on.ensures.answer) in

@@ -10,15 +10,15 @@ use Rattle.lab_inputs.specs.Settings.{settled}
 use Rattle.lab_inputs.specs.Stages.{network_of}
 use Rattle.abrlab_top.specs.Simulate.{session_on, simulate}
 use Rattle.abrlab_top.specs.Stages.{at_the_end}
-use Rattle.abrlab_top.proofs.Simulated.{no_network, no_rule, played, simulate_stopped, simulated}
+use Rattle.abrlab_top.proofs.Simulated.{no_network, no_rule, played, rule_fits, simulate_stopped, simulated}
 use Rattle.abrlab_top.proofs.Whole.{all_settled, exit, none_there, nothing_printed, put_done, put_failed, settings_stop, some_there, unsettled, wanting}
 use Rattle.abrlab_top.proofs.simulate.write_simulation.Goals as goal
 
-pub returns-in-None : goal.returns-in-None
-returns-in-None g c = nothing_printed at_the_end (simulate c.args.inputs.now) _ (no_network c.args.inputs.now (none_there _ _ _ c.in-None.is c.network.ensures))
+pub returns-in_default : goal.returns-in_default
+returns-in_default g c = nothing_printed at_the_end (simulate c.args.inputs.now) (g.O.Sink.seen c.args.out.now) (no_network c.args.inputs.now (none_there _ _ _ c.in_default.is c.network.ensures))
 
-pub returns-in-None-rule : goal.returns-in-None-rule
-returns-in-None-rule g c = nothing_printed at_the_end (simulate c.args.inputs.now) _ (no_rule c.args.inputs.now (none_there _ _ _ c.in-None-rule.is c.rule.ensures.value))
+pub returns-in_default-rule : goal.returns-in_default-rule
+returns-in_default-rule g c = nothing_printed at_the_end (simulate c.args.inputs.now) (g.O.Sink.seen c.args.out.now) (no_rule c.args.inputs.now (none_there _ _ _ c.in_default-rule.is c.rule.ensures.value))
 
 pub returns-in_err-fit : goal.returns-in_err-fit
 returns-in_err-fit g c =
@@ -30,8 +30,14 @@ returns-in_err-fit g c =
 pub returns-in_err-clock : goal.returns-in_err-clock
 returns-in_err-clock g c = exit at_the_end (simulate c.args.inputs.now) _ _ c.from_residual-in_err-clock.result _ c.from_residual-in_err-clock.ensures.1 (wanting at_the_end (simulate c.args.inputs.now) _)
 
-pub returns-in_err-any_rule : goal.returns-in_err-any_rule
-returns-in_err-any_rule g c = exit at_the_end (simulate c.args.inputs.now) _ _ c.from_residual-in_err-any_rule.result _ c.from_residual-in_err-any_rule.ensures.1 (wanting at_the_end (simulate c.args.inputs.now) _)
+pub returns-in_err-rule : goal.returns-in_err-rule
+returns-in_err-rule g c = exit at_the_end (simulate c.args.inputs.now) _ _ c.from_residual-in_err-rule.result _ c.from_residual-in_err-rule.ensures.1 (wanting at_the_end (simulate c.args.inputs.now) _)
+
+pub play-requires-clause-rule : goal.play-requires-clause-rule
+play-requires-clause-rule g c =
+    let i = c.args.inputs.now in
+    let rule : slice_get i.rules 0 ≡ Some (named c.in-Some-rule.rule.now) = some_there _ _ _ _ c.in-Some-rule.is c.rule.ensures.value in
+    rule_fits i c.manifest.result.now (kind_of c.in_ok-rule.rule) _ rule (all_settled i c.fit.result _ c.in_ok-fit.was c.fit.ensures).1.rules c.in_ok-rule.ensures.kind c.manifest.ensures
 
 pub returns-in_err-session : goal.returns-in_err-session
 returns-in_err-session g c = exit at_the_end (simulate c.args.inputs.now) _ _ c.from_residual-in_err-session.result _ c.from_residual-in_err-session.ensures.1 (wanting at_the_end (simulate c.args.inputs.now) _)
@@ -39,20 +45,20 @@ returns-in_err-session g c = exit at_the_end (simulate c.args.inputs.now) _ _ c.
 pub returns-in_err-write_session : goal.returns-in_err-write_session
 returns-in_err-write_session g c =
     let i = c.args.inputs.now in
-    let network = some_there network_of _ _ _ c.in-Some.is c.network.ensures in
-    let rule = some_there named _ _ _ c.in-Some-rule.is c.rule.ensures.value in
+    let network : slice_get i.networks 0 ≡ Some (network_of c.in-Some.network.now) = some_there _ _ _ _ c.in-Some.is c.network.ensures in
+    let rule : slice_get i.rules 0 ≡ Some (named c.in-Some-rule.rule.now) = some_there _ _ _ _ c.in-Some-rule.is c.rule.ensures.value in
     let fits = all_settled i c.fit.result _ c.in_ok-fit.was c.fit.ensures in
-    let text = played i c.in-Some.network.now.trace c.in_ok-clock.clock c.manifest.result.now c.setup.result.now c.seeks.result.now (kind_of c.in_ok-any_rule.rule) (spoken c.in-Some-rule.rule.now.rule) (shown c.in_ok-session.session) c.setup-2.result.now
-        c.in_ok-session.ensures.session c.manifest.ensures c.in_ok-clock.ensures.clock c.setup.ensures c.seeks.ensures.value c.in_ok-any_rule.ensures.kind c.setup-2.ensures in
+    let text = played i c.in-Some.network.now.trace c.in_ok-clock.clock c.manifest.result.now c.setup.result.now c.seeks.result.now (kind_of c.in_ok-rule.rule) (spoken c.in-Some-rule.rule.now.rule) (shown c.in_ok-session.session) c.setup-2.result.now
+    c.in_ok-session.ensures.session c.manifest.ensures c.in_ok-clock.ensures.clock c.setup.ensures c.seeks.ensures.value c.in_ok-rule.ensures.kind c.setup-2.ensures in
     exit at_the_end (simulate i) _ _ c.from_residual-in_err-write_session.result _ c.from_residual-in_err-write_session.ensures.1
     (put_failed at_the_end (simulate i) (printed (session_on i c.in-Some.network.now.trace (spoken c.in-Some-rule.rule.now.rule))) _ _ c.write_session.result _ (simulated i _ _ network rule fits.0) tt c.in_err-write_session.was (puts_as _ _ _ _ _ text c.write_session.ensures))
 
 pub returns : goal.returns
 returns g c =
     let i = c.args.inputs.now in
-    let network = some_there network_of _ _ _ c.in-Some.is c.network.ensures in
-    let rule = some_there named _ _ _ c.in-Some-rule.is c.rule.ensures.value in
+    let network : slice_get i.networks 0 ≡ Some (network_of c.in-Some.network.now) = some_there _ _ _ _ c.in-Some.is c.network.ensures in
+    let rule : slice_get i.rules 0 ≡ Some (named c.in-Some-rule.rule.now) = some_there _ _ _ _ c.in-Some-rule.is c.rule.ensures.value in
     let fits = all_settled i c.fit.result _ c.in_ok-fit.was c.fit.ensures in
-    let text = played i c.in-Some.network.now.trace c.in_ok-clock.clock c.manifest.result.now c.setup.result.now c.seeks.result.now (kind_of c.in_ok-any_rule.rule) (spoken c.in-Some-rule.rule.now.rule) (shown c.in_ok-session.session) c.setup-2.result.now
-        c.in_ok-session.ensures.session c.manifest.ensures c.in_ok-clock.ensures.clock c.setup.ensures c.seeks.ensures.value c.in_ok-any_rule.ensures.kind c.setup-2.ensures in
+    let text = played i c.in-Some.network.now.trace c.in_ok-clock.clock c.manifest.result.now c.setup.result.now c.seeks.result.now (kind_of c.in_ok-rule.rule) (spoken c.in-Some-rule.rule.now.rule) (shown c.in_ok-session.session) c.setup-2.result.now
+    c.in_ok-session.ensures.session c.manifest.ensures c.in_ok-clock.ensures.clock c.setup.ensures c.seeks.ensures.value c.in_ok-rule.ensures.kind c.setup-2.ensures in
     put_done at_the_end (simulate i) (session_on i c.in-Some.network.now.trace (spoken c.in-Some-rule.rule.now.rule)) _ _ c.write_session.result _ (simulated i _ _ network rule fits.0) c.in_ok-write_session.was (puts_as _ _ _ _ _ text c.write_session.ensures)
