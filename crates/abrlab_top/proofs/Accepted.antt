@@ -1,32 +1,26 @@
--- `check` says yes to the certificate that `plan` answers.
-use Rattle.std.proofs.Common.{◌≡◌, ◌∙◌, ℕ, suc, ◌+◌, ◌-◌, ◌≤◌, true, false, List, [], ◌∷◌, ◌++◌, length, Option, Some, None, Result, Ok, refl, sym, ap, ap₂, subst, arith, append_assoc, append-nil}
+-- `check` says yes to the certificate that a run of `plan` printed.
+use Rattle.std.proofs.Common.{◌≡◌, ◌∙◌, ℕ, ◌≤◌, false, true, List, [], ◌∷◌, ◌++◌, length, Option, Some, None, Ok, refl, sym, ap, subst, arith, append_assoc, append-nil}
+use Rattle.std.specs.List.{slice_get}
 use Rattle.std.specs.Prelude.{nat_lt}
 use Rattle.std.proofs.lemmas.Bool.Decides.{nat_tests}
 use Rattle.lab_io.specs.Sink.{Text}
 use Rattle.lab_model.specs.declared.trace.Period.{Period}
-use Rattle.lab_model.specs.declared.setup.Setup.{Setup}
-use Rattle.lab_model.specs.Film.{segments_of}
+use Rattle.lab_model.specs.Rules.{RuleKind}
 use Rattle.lab_words.specs.declared.Verb.TheVariants.{Plan, Check}
 use Rattle.lab_words.specs.Command.{CommandWords}
-use Rattle.lab_words.specs.Limits.{AreCounted, HasFilm, HasItsOwn}
-use Rattle.lab_inputs.specs.declared.stop.Role.TheVariants as role
-use Rattle.lab_inputs.specs.declared.stop.Setting.{Setting}
-use Rattle.lab_inputs.specs.declared.stop.Stop.{Stop}
-use Rattle.lab_inputs.specs.Files.{Files, later_files, optional_file, trace_files, traces_from}
-use Rattle.lab_inputs.specs.Inputs.{◌>>=◌, InputValues, inputs_from, inputs_of, with_certificate, with_file}
-use Rattle.lab_inputs.specs.Settings.{misfit_of, ready_of, settled, setup_of, unless_misfit}
-use Rattle.lab_inputs.proofs.Steps.{bind_ok, inputs_one_more, ok_same, ready_traces}
-use Rattle.player_core.specs.Available.{all_ahead}
-use Rattle.labels.specs.Frontier.{frontier}
-use Rattle.labels.specs.Grid.{exact}
-use Rattle.labels.specs.Grown.{grown}
+use Rattle.lab_words.specs.Limits.{HasFilm}
+use Rattle.lab_words.proofs.LimitLemmas.{command_within}
+use Rattle.lab_inputs.specs.declared.role.Role.TheVariants as role
+use Rattle.lab_inputs.specs.Contents.{ContentValues, with_certificate}
+use Rattle.lab_inputs.specs.Files.{Files, contents_from, with_file}
+use Rattle.lab_inputs.specs.Inputs.{InputValues, contents_of, inputs_of, inputs_on}
+use Rattle.lab_inputs.specs.Roles.{later_files, optional_file, trace_files}
+use Rattle.lab_inputs.specs.Settings.{misfit, settled}
+use Rattle.lab_inputs.specs.Stages.{Tells}
+use Rattle.lab_inputs.proofs.Steps.{inputs_one_more, ok_same}
+use Rattle.lab_inputs.proofs.Within.{inputs_counted, inputs_held, is_ready, settled_fits}
 use Rattle.player_core.specs.Scene.{IsTask, Task, task_of}
 use Rattle.labels.specs.Parts.{CertificateParts}
-use Rattle.labels.specs.Read.{labels_before, labels_in}
-use Rattle.labels.proofs.Rounds.{exact_fits}
-use Rattle.labels.proofs.Same.{before_same, certificate_same}
-use Rattle.labels.proofs.HasForm.{certificate_form}
-use Rattle.labels.proofs.Sound.{exact_agrees, plan_accepted}
 use Rattle.labels.specs.Form.{IsCertificate}
 use Rattle.certificate_text.specs.Reading as text
 use Rattle.certificate_text.specs.Spelling.{spelling}
@@ -34,149 +28,123 @@ use Rattle.labels.specs.declared.verdict.Verdict.TheVariants.{Yes}
 use Rattle.certificate_text.proofs.HeadLaws.{certificate_again}
 use Rattle.certificate_text.proofs.Length.{spelling_fits}
 use Rattle.certificate_check.specs.Verdict.{verdict_of}
-use Rattle.certificate_check.proofs.Verdicts.{valid_yes}
-use Rattle.abrlab_top.specs.Answer.{Answer, printed}
-use Rattle.abrlab_top.specs.Accepts.{ChecksFor, PlansAreAccepted, PlansCertificate}
-use Rattle.abrlab_top.specs.Check.{check, check_inputs, told_verdict}
-use Rattle.abrlab_top.specs.Outcome.{answer_by, answer_of}
-use Rattle.abrlab_top.specs.Plan.{certificate_on, plan, plan_text, spent_on, task_on, unless_spent}
-use Rattle.abrlab_top.proofs.Headlines.{is_task, one_of}
-use Rattle.abrlab_top.proofs.Finds.{none_found}
-use Rattle.abrlab_top.proofs.Judged.{judged_answer}
+use Rattle.player_core.specs.Available.{all_ahead}
+use Rattle.abrlab_top.specs.declared.ending.Ending.{Ending}
+use Rattle.abrlab_top.specs.Accepts.{ChecksText, PlansCertificate, ReadAlike, RunsAreAccepted, without_certificate}
+use Rattle.abrlab_top.specs.Answer.{Answer, Outcome, ending_in, printed, text_in}
+use Rattle.abrlab_top.specs.Check.{check, check_on, told_verdict, verdict_text}
+use Rattle.abrlab_top.specs.Ending.{status_of}
+use Rattle.abrlab_top.specs.Outcome.{about, answer_by, answer_of, outcome}
+use Rattle.abrlab_top.specs.Outcome as whole
+use Rattle.abrlab_top.specs.Plan.{certificate_on, plan, plan_text, task_on}
+use Rattle.abrlab_top.specs.Runs.{Runs, World}
+use Rattle.abrlab_top.specs.Statuses.{IsAmong, answers_to}
+use Rattle.abrlab_top.proofs.Certified.{has_text, says_yes}
+use Rattle.abrlab_top.proofs.Proved.{about_ok, by_verb, counts_of, done_by, few_labels, is_task, outcome_asked, planned_ok}
+use Rattle.abrlab_top.proofs.Statuses.{statuses}
 
--- ---- what `plan` answered
-
--- a budget that is not spent is not below the number of labels
-within_budget : (g : Task) (budget : ℕ) → 1 ≤ segments_of g.film → spent_on g budget ≡ None → labels_in g (frontier g) ≤ budget
-unfolding spent_on
-within_budget g budget some h =
-    let n = segments_of g.film in
-    let last : suc (n - 1) ≡ n = omega (arith, some) in
-    let fails = none_found (λ i. nat_lt budget (labels_before g (frontier g) (suc i))) 0 n h (n - 1) (omega arith) (omega (arith, some)) in
-    below (subst (λ k. nat_lt budget (labels_before g (frontier g) k) ≡ false) last fails)
-  where
-    below : {a b : ℕ} → nat_lt a b ≡ false → b ≤ a
-    below h = grind (arith, nat_tests, h)
-
--- the plan was not cut short, and the text is that of its certificate
-planned : (p : CommandWords) (i : InputValues) (periods : List Period) (a : Answer) → p.as_certificate ≡ true → i.traces ≡ periods ∷ [] → plan p i ≡ Ok a
-    → (spent_on (task_on p i periods) p.budget ≡ None) × (a.text ≡ spelling (certificate_on (task_on p i periods)))
-unfolding plan
-planned p i periods a as_certificate one h =
-    let g = task_on p i periods in
-    let whole : unless_spent true g (spent_on g p.budget) ≡ Ok a = rw (one, as_certificate) at h in
-    by_budget (spent_on g p.budget) whole
-  where
-    by_budget : (o : Option ℕ) → unless_spent true (task_on p i periods) o ≡ Ok a → (o ≡ None) × (a.text ≡ spelling (certificate_on (task_on p i periods)))
-    by_budget None h = (refl, sym (ap (λ (b : Answer). b.text) (ok_same (Ok (printed (plan_text true (task_on p i periods)))) _ a refl h)))
-    by_budget (Some segment) h = cc
-
--- the files were read, and the settings fit
-ready_parts : (p : CommandWords) (files : Files) (i : InputValues) → ready_of p files ≡ Ok i → (inputs_of p files ≡ Ok i) × (misfit_of p i.film ≡ None)
-unfolding ready_of
-ready_parts p files i h =
-    let x = bind_ok (inputs_of p files) (settled p) i h in
-    let y = fitting x.0 (misfit_of p x.0.film) x.2 in
-    (x.1 ∙ ap Ok y.0, ap (λ (j : InputValues). misfit_of p j.film) (sym y.0) ∙ y.1)
-  where
-    fitting : (j : InputValues) (o : Option Setting) → unless_misfit j o ≡ Ok i → (j ≡ i) × (o ≡ None)
-    fitting j None h = (ok_same (Ok j) j i refl h, refl)
-    fitting j (Some setting) h = cc
-
--- all that `plan` went through to its answer
-record Planned (p : CommandWords) (files : Files) (a : Answer) : Type 0 where
-  i : InputValues
-  periods : List Period
-  inputs : inputs_of p files ≡ Ok i
-  fits : misfit_of p i.film ≡ None
-  one : i.traces ≡ periods ∷ []
-  task : IsTask (task_on p i periods)
-  few : labels_in (task_on p i periods) (frontier (task_on p i periods)) ≤ 1000000
-  text : a.text ≡ spelling (certificate_on (task_on p i periods))
-
-was_planned : (p : CommandWords) (files : Files) (a : Answer) → PlansCertificate p → answer_of p files ≡ Ok a → Planned p files a
-was_planned p files a asked h =
-    let whole : (ready_of p files >>= plan p) ≡ Ok a = subst (λ v. answer_by v p files ≡ Ok a) asked.verb h in
-    let x = bind_ok (ready_of p files) (plan p) a whole in
-    let r = ready_parts p files x.0 x.1 in
-    let counts = subst (λ v. AreCounted v (length p.traces) (length p.rules)) asked.verb asked.limits.counts in
-    let own = one_of x.0.traces (ready_traces p files x.0 x.1 ∙ counts.0) in
-    let budget = (subst (λ v. HasItsOwn v p) asked.verb asked.limits.own).1 in
-    let task = is_task p files x.0 own.0 asked.limits (subst HasFilm (sym asked.verb) tt) x.1 own.1 in
-    let said = planned p x.0 own.0 a asked.as_certificate own.1 x.2 in
-    let few = within_budget (task_on p x.0 own.0) p.budget task.film.segments.0 said.0 in
-    record { i = x.0; periods = own.0; inputs = r.0; fits = r.1; one = own.1; task = task; few = omega (arith, few, budget); text = said.1 }
-
--- ---- its certificate
-
--- it has a text
-has_text : (g : Task) → IsTask g → labels_in g (frontier g) ≤ 1000000 → IsCertificate (certificate_on g)
-has_text g is few =
-    let agree = exact_agrees g is in
-    let before = before_same exact g (grown exact g) (frontier g) agree (segments_of g.film) (omega arith) in
-    subst IsCertificate (certificate_same exact g (grown exact g) (frontier g) agree is) (certificate_form exact g (record { task = is; grid = exact_fits }) (omega (arith, before, few)))
-
--- it is valid
-says_yes : (g : Task) → IsTask g → verdict_of g (certificate_on g) (certificate_on g).score ≡ Yes
-says_yes g is = valid_yes g (certificate_on g) (certificate_on g).score is.film.segments.0 (plan_accepted g is)
-
--- ---- what `check` answers
-
-same_roles : (place : ℕ) (names : List Text) → traces_from Plan place names ≡ traces_from Check place names
-same_roles place [] = refl
-same_roles place (name ∷ names) = ap (λ l. (role.Trace, name) ∷ l) (same_roles (place + 1) names)
-
-same_setup : (p c : CommandWords) (name : Text) → ChecksFor p c name → setup_of c ≡ setup_of p
-same_setup p c name asked = rw (asked.buffer, asked.utilities, asked.switch, asked.stall, asked.startup, asked.abandon) refl
-
--- the files of `check` are those of `plan`, and the certificate
-one_more : (p c : CommandWords) (name : Text) → PlansCertificate p → ChecksFor p c name → later_files c ≡ later_files p ++ (role.Certificate, name) ∷ []
-one_more p c name plans checks =
-    let traces : trace_files c.verb c.traces ≡ trace_files p.verb p.traces = rw (checks.verb, plans.verb, checks.traces) (sym (same_roles 1 p.traces)) in
-    let seeks : optional_file role.Seeks c.seeks ≡ optional_file role.Seeks p.seeks = ap (optional_file role.Seeks) checks.seeks in
-    let none : optional_file role.Certificate p.certificate ≡ [] = ap (optional_file role.Certificate) plans.certificate in
-    let own : optional_file role.Certificate c.certificate ≡ (role.Certificate, name) ∷ [] = ap (optional_file role.Certificate) checks.certificate in
-    let later : later_files p ≡ trace_files p.verb p.traces ++ optional_file role.Seeks p.seeks =
-    ap (λ l. trace_files p.verb p.traces ++ (optional_file role.Seeks p.seeks ++ l)) none ∙ ap (λ l. trace_files p.verb p.traces ++ l) (append-nil (optional_file role.Seeks p.seeks)) in
-    ap₂ (λ t s. t ++ (s ++ optional_file role.Certificate c.certificate)) traces seeks
-    ∙ ap (λ l. trace_files p.verb p.traces ++ (optional_file role.Seeks p.seeks ++ l)) own
-    ∙ sym (append_assoc (trace_files p.verb p.traces) (optional_file role.Seeks p.seeks) ((role.Certificate, name) ∷ []))
-    ∙ ap (λ l. l ++ (role.Certificate, name) ∷ []) (sym later)
+-- ---- reading one certificate more
 
 -- a file that is not too long gives its bytes
-certificate_read : (i : InputValues) (name bytes : Text) (files : Files) → files name ≡ Some bytes → length bytes ≤ 536870912 → with_file i (role.Certificate, name) files ≡ Ok (with_certificate i bytes)
+certificate_read : (v : ContentValues) (name bytes : Text) (files : Files) → files name ≡ Some bytes → length bytes ≤ 536870912 → with_file v (role.Certificate, name) files ≡ Ok (with_certificate v bytes)
 unfolding with_file
-certificate_read i name bytes files there fits =
+certificate_read v name bytes files there fits =
     let low : nat_lt 536870912 (length bytes) ≡ false = grind (arith, nat_tests, fits) in
     rw (there, low) refl
 
--- what `check` answers to a certificate that is read, where the settings fit
-checked : (c : CommandWords) (i : InputValues) (periods : List Period) (cert : CertificateParts) → text.certificate_of i.certificate ≡ Ok cert → misfit_of c i.film ≡ None → i.traces ≡ periods ∷ []
-    → verdict_of (task_on c i periods) cert cert.score ≡ Yes → check_inputs c i ≡ Ok (told_verdict cert.score Yes)
-unfolding check_inputs
-checked c i periods cert read fits one valid = rw (read, fits, one) (ap (λ v. Ok (told_verdict cert.score v)) valid)
+-- the files of a command that names a certificate are those that it names without, and the certificate
+one_more : (c : CommandWords) (name : Text) → c.certificate ≡ Some name → later_files c ≡ later_files (without_certificate c) ++ (role.Certificate, name) ∷ []
+one_more c name e =
+    let own : optional_file role.Certificate c.certificate ≡ (role.Certificate, name) ∷ [] = ap (optional_file role.Certificate) e in
+    ap (λ l. trace_files c.verb c.traces ++ (optional_file role.Seeks c.seeks ++ l)) own
+    ∙ sym (append_assoc (trace_files c.verb c.traces) (optional_file role.Seeks c.seeks) ((role.Certificate, name) ∷ []))
+    ∙ ap (λ l. (trace_files c.verb c.traces ++ l) ++ (role.Certificate, name) ∷ []) (sym (append-nil (optional_file role.Seeks c.seeks)))
 
-check_answers : (c : CommandWords) (files : Files) (i : InputValues) (r : Result Answer Stop) → inputs_of c files ≡ Ok i → check_inputs c i ≡ r → check c files ≡ r
+mapped : (c : CommandWords) (files : Files) (v : ContentValues) → contents_of c files ≡ Ok v → inputs_of c files ≡ Ok (inputs_on c v)
+unfolding inputs_of
+mapped c files v e = rw e refl
+
+-- what such a command is about
+read_more : (c : CommandWords) (name bytes : Text) (files : Files) (j : InputValues) → c.certificate ≡ Some name → files name ≡ Some bytes → length bytes ≤ 536870912 → inputs_of (without_certificate c) files ≡ Ok j
+    → inputs_of c files ≡ Ok (record j { certificate = bytes })
+read_more c name bytes files j e there fits read =
+    let held = inputs_held (without_certificate c) files j read in
+    let more : contents_of c files ≡ Ok (with_certificate held.0 bytes) =
+    ap (λ l. contents_from c.manifest l files) (one_more c name e)
+    ∙ inputs_one_more c.manifest held.0 (with_certificate held.0 bytes) (later_files (without_certificate c)) (role.Certificate, name) files held.2 (certificate_read held.0 name bytes files there fits) in
+    mapped c files (with_certificate held.0 bytes) more ∙ ap (λ (i : InputValues). Ok (record i { certificate = bytes })) (sym held.1)
+
+-- ---- checking it
+
+none_of : {A : Type 0} (xs : List A) → length xs ≡ 0 → xs ≡ []
+none_of [] e = refl
+none_of (x ∷ xs) e = absurd (omega arith)
+
+-- settings that fit without a rule
+settled_alike : (i j : InputValues) → j.film ≡ i.film → j.setup ≡ i.setup → i.rules ≡ [] → j.rules ≡ [] → settled i ≡ Ok i → settled j ≡ Ok j
+settled_alike i j film setup none none2 s =
+    let fits : misfit i.setup i.rules i.film ≡ None = (settled_fits i i s).1 in
+    let same : misfit j.setup j.rules j.film ≡ misfit i.setup i.rules i.film = rw (film, setup, none, none2) refl in
+    rw (same ∙ fits) refl
+
+-- a certificate that is read, where the settings fit
+checked : (j : InputValues) (n : Text × List Period) (cert : CertificateParts) → text.certificate_of j.certificate ≡ Ok cert → settled j ≡ Ok j → j.networks ≡ n ∷ []
+    → verdict_of (task_on j n.1) cert cert.score ≡ Yes → check j ≡ Ok (told_verdict cert.score Yes)
 unfolding check
-check_answers c files i r read h = rw read h
+checked j n cert read fits one valid = ap (λ ns. check_on j (slice_get ns 0)) one ∙ rw (read, fits) (ap (λ v. Ok (told_verdict cert.score v)) valid)
 
--- `check` says yes to what `plan` answers as a certificate
-pub plans_accepted : PlansAreAccepted
-plans_accepted p c name files a plans checks answered there =
-    let done = was_planned p files a plans answered in
-    let g = task_on p done.i done.periods in
+about_is : (after : InputValues → Outcome) (c : CommandWords) (files : Files) (i : InputValues) → inputs_of c files ≡ Ok i → about after c files ≡ after i
+unfolding about
+about_is after c files i e = rw e refl
+
+-- all that a run of `plan --as-certificate` went through
+record Planned (line : List Text) (files : Files) (i : InputValues) (n : Text × List Period) : Type 0 where
+  none : i.rules ≡ []
+  settled : settled i ≡ Ok i
+  task : IsTask (task_on i n.1)
+  form : IsCertificate (certificate_on (task_on i n.1))
+  text : whole.text line files ≡ spelling (certificate_on (task_on i n.1))
+
+was_planned : (line : List Text) (files : Files) (i : InputValues) (n : Text × List Period) (old new : World) (e : Ending) → PlansCertificate line files i → i.networks ≡ n ∷ [] → Tells old.shelf files → Runs line old e new → status_of e ≡ 0 → Planned line files i n
+was_planned line files i n old new e p one t h s =
+    let c = p.command in
+    let d = done_by line old new e h s c files p.asked t in
+    let x = about_ok (plan c.budget c.as_certificate) c files d.answer (by_verb Plan c files d.answer p.verb d.gives) in
+    let same : x.0 ≡ i = ok_same (inputs_of c files) x.0 i x.1 p.read in
+    let answered : plan c.budget c.as_certificate i ≡ Ok d.answer = subst (λ j. plan c.budget c.as_certificate j ≡ Ok d.answer) same x.2 in
+    let y = planned_ok c.budget c.as_certificate i n d.answer one answered in
+    let is = is_task c files i n d.limits (subst HasFilm (sym p.verb) tt) (is_ready c files i i p.read y.0) one in
+    let few = few_labels c (task_on i n.1) d.limits p.verb is y.1 in
+    let counts = counts_of c Plan d.limits p.verb in
+    let said : (plan_text true (task_on i n.1)) ≡ d.answer.text = subst (λ b. plan_text b (task_on i n.1) ≡ d.answer.text) p.as_certificate (ap (λ (a : Answer). a.text) y.2) in
+    record {
+      none = none_of i.rules (ap length (inputs_counted c files i p.read).1 ∙ counts.1);
+      settled = y.0;
+      task = is;
+      form = has_text (task_on i n.1) is few;
+      text = ap text_in (outcome_asked line c files p.asked ∙ d.gives) ∙ sym said;
+    }
+
+-- `check` says yes to what a run of `plan --as-certificate` printed
+pub runs_accepted : RunsAreAccepted
+runs_accepted line line2 files files2 i j old new old2 new2 e e2 plans t h s checks t2 h2 alike =
+    let n = alike.one in
+    let done = was_planned line files i n old new e plans alike.network t h s in
+    let g = task_on i n.1 in
     let cert = certificate_on g in
-    let form = has_text g done.task done.few in
-    let setup = same_setup p c name checks in
-    let all = with_certificate done.i a.text in
-    let task : task_on c all done.periods ≡ g = ap (λ (s : Setup). task_of done.i.film done.periods s all_ahead) setup in
-    let fits : misfit_of c done.i.film ≡ None = rw (checks.rules, setup) done.fits in
-    let short : length a.text ≤ 536870912 = subst (λ t. length t ≤ 536870912) (sym done.text) (spelling_fits cert form) in
-    let read : inputs_of c files ≡ Ok all =
-    ap₂ (λ m l. inputs_from m l files) checks.manifest (one_more p c name plans checks) ∙ inputs_one_more p.manifest done.i all (later_files p) (role.Certificate, name) files done.inputs (certificate_read done.i name a.text files there short) in (
-      cert,
-      form,
-      done.text,
-      judged_answer c files checks.verb ∙ check_answers c files all _ read (checked c all done.periods cert (ap text.certificate_of done.text ∙ certificate_again cert form) fits done.one
-          (ap (λ t. verdict_of t cert cert.score) task ∙ says_yes g done.task)),
-    )
+    let c = checks.command in
+    let bytes = whole.text line files in
+    let limits = command_within line2 c checks.asked in
+    let short : length bytes ≤ 536870912 = subst (λ t. length t ≤ 536870912) (sym done.text) (spelling_fits cert done.form) in
+    let read = read_more c checks.name bytes files2 j checks.certificate checks.there short checks.read in
+    let all : InputValues = record j { certificate = bytes } in
+    let counts = counts_of c Check limits checks.verb in
+    let none : all.rules ≡ [] = none_of all.rules (ap length (inputs_counted c files2 all read).1 ∙ counts.1) in
+    let fits = settled_alike i all alike.film alike.setup done.none none done.settled in
+    let task : task_on all n.1 ≡ g = rw (alike.film, alike.setup) refl in
+    let yes : verdict_of (task_on all n.1) cert cert.score ≡ Yes = ap (λ t. verdict_of t cert cert.score) task ∙ says_yes g done.task in
+    let spelled : text.certificate_of all.certificate ≡ Ok cert = ap text.certificate_of done.text ∙ certificate_again cert done.form in
+    let verdict : check all ≡ Ok (told_verdict cert.score Yes) = checked all (alike.other, n.1) cert spelled fits alike.same yes in
+    let by : answer_of c files2 ≡ answer_by Check c files2 = ap (λ v. answer_by v c files2) checks.verb in
+    let came : outcome line2 files2 ≡ Ok (printed (verdict_text cert.score Yes)) = outcome_asked line2 c files2 checks.asked ∙ by ∙ about_is check c files2 all read ∙ verdict in
+    (cert, done.form, done.text, came, subst (λ o. IsAmong (status_of e2) (answers_to o)) came ((statuses line2 old2 e2 new2 h2).told files2 t2))

@@ -1,30 +1,20 @@
 -- What `check` judges: what the lines of a certificate came to is what the command answers.
-use Rattle.std.proofs.Common.{◌≡◌, ◌∙◌, ℕ, ◌*◌, List, [], ◌∷◌, ◌++◌, Option, Some, None, Result, Ok, Err, refl, sym, ap, subst, inl, inr, append_assoc, IsSome}
+use Rattle.std.proofs.Common.{◌≡◌, ◌∙◌, ℕ, ◌*◌, List, [], Some, None, Result, Ok, Err, refl, sym, ap, subst}
+use Rattle.std.specs.List.{slice_get}
+use Rattle.std.specs.Result.{IsErrAnd}
+use Rattle.std.proofs.lemmas.Result.{err_from_is_err_and}
+use Rattle.lab_io.specs.declared.PutErr.{PutErr}
+use Rattle.lab_io.specs.Sink.{Text, Seen, Puts}
 use Rattle.lab_model.proofs.Steps.{then_ok}
 use Rattle.lab_model.specs.Steps.{◌>>=◌}
-use Rattle.lab_io.specs.Sink.{Text, Seen, Grew, Puts}
-use Rattle.lab_io.specs.Shelf.{Shelved}
 use Rattle.lab_model.specs.declared.fault.Refusal.{Refusal}
 use Rattle.lab_model.specs.declared.fault.InputFault.{InputFault}
 use Rattle.lab_model.specs.declared.fault.InputFault.TheVariants.{Memory, Refused}
 use Rattle.lab_model.specs.declared.trace.Period.{Period}
 use Rattle.lab_model.specs.Reading.{Fails}
-use Rattle.lab_words.specs.declared.Verb.TheVariants.{Check}
-use Rattle.lab_words.specs.Command.{CommandWords}
-use Rattle.lab_words.specs.Limits.{HasFilm}
-use Rattle.lab_inputs.specs.declared.stop.Halt.TheVariants as halt
-use Rattle.lab_inputs.specs.declared.stop.FileFault.TheVariants as fault
-use Rattle.lab_inputs.specs.declared.stop.Role.TheVariants as role
-use Rattle.lab_inputs.specs.declared.stop.Setting.{Setting}
 use Rattle.lab_inputs.specs.declared.stop.Stop.{Stop}
-use Rattle.lab_inputs.specs.declared.stop.Stop.TheVariants as stop
-use Rattle.lab_inputs.specs.declared.stop.Halt.{Halt}
-use Rattle.lab_inputs.specs.Files.{Files, NamedFile, files_of, optional_file, trace_files}
-use Rattle.lab_inputs.specs.Inputs.{InputValues, inputs_of}
-use Rattle.lab_inputs.specs.Settings.{misfit_of}
-use Rattle.lab_inputs.specs.Stages.{Asks, AsksUpTo, Comes, Means, Stops}
-use Rattle.lab_inputs.proofs.Files.{asks_all}
-use Rattle.lab_inputs.proofs.Steps.{on_film}
+use Rattle.lab_inputs.specs.Inputs.{InputValues}
+use Rattle.lab_inputs.specs.Settings.{misfit, settled}
 use Rattle.player_core.specs.Scene.{Task}
 use Rattle.labels.specs.Parts.{CertificateParts, ChainParts}
 use Rattle.labels.specs.declared.verdict.Verdict.{Verdict}
@@ -36,14 +26,14 @@ use Rattle.certificate_text.proofs.LayerByLayer.{bad_head}
 use Rattle.certificate_text.proofs.WalkLaws.{begun_rest, whole_of}
 use Rattle.certificate_check.specs.Verdict.{lines_verdict, verdict_of}
 use Rattle.abrlab_top.specs.declared.check.Judgement.{Judgement}
-use Rattle.abrlab_top.specs.Check.{check, check_inputs, told_verdict, verdict_status}
+use Rattle.abrlab_top.specs.declared.ending.Ending.{Ending}
+use Rattle.abrlab_top.specs.declared.ending.Ending.TheVariants as ending
+use Rattle.abrlab_top.specs.Answer.{printed}
+use Rattle.abrlab_top.specs.Check.{check, check_on, told_verdict, verdict_ending}
+use Rattle.abrlab_top.specs.Ending.{IsWhole, after_put}
 use Rattle.abrlab_top.specs.Plan.{task_on}
-use Rattle.lab_io.specs.declared.PutErr.{PutErr}
-use Rattle.lab_io.specs.declared.PutErr.TheVariants as put
-use Rattle.lab_inputs.specs.declared.stop.Ending.TheVariants as ending
-use Rattle.abrlab_top.specs.Answer.{Answer}
-use Rattle.abrlab_top.specs.Outcome.{IsWritten, answer_by, answer_of}
-use Rattle.abrlab_top.specs.Stages.{Answers, Ends, IsLate, Judges, bad_line, ending_of, judged, verdict_ending}
+use Rattle.abrlab_top.specs.Stages.{Judges, Writes, judged, of_a_check, bad_line}
+use Rattle.abrlab_top.proofs.Whole.{late_setting, put_failed, wanting}
 
 ok_same : {A E : Type 0} (o : Result A E) (x y : A) → o ≡ Ok x → o ≡ Ok y → x ≡ y
 ok_same o x y e h = cc
@@ -79,94 +69,72 @@ accepted_fails bytes (Refused why) h = kept_err (certificate_of bytes) (λ c. tt
 
 -- ---- what the command answers
 
+-- no network is named
+pub no_network : (i : InputValues) → slice_get i.networks 0 ≡ None → check i ≡ Ok (printed [])
+unfolding check
+no_network i e = ap (check_on i) e
+
 -- a bad line of the certificate comes first
-pub bad_judged : (c : CommandWords) (i : InputValues) (f : InputFault) → Fails f (certificate_of i.certificate) → Judges c i (Err (bad_line f))
-unfolding check_inputs
-bad_judged c i Memory h = tt
-bad_judged c i (Refused why) h = (tt, rw h refl)
+pub bad_judged : (i : InputValues) (n : Text × List Period) (f : InputFault) → slice_get i.networks 0 ≡ Some n → Fails f (certificate_of i.certificate) → Judges i (Err (bad_line f))
+unfolding check
+bad_judged i n Memory e h = tt
+bad_judged i n (Refused why) e h = ((refl, refl, why, refl), rw (e, h) refl)
 
 -- then a setting that does not fit
-pub misfit_judged : (c : CommandWords) (i : InputValues) (setting : Setting) → misfit_of c i.film ≡ Some setting → accepted i.certificate ≡ Ok tt → Judges c i (Err (halt.Stopped (stop.Settings setting)))
-unfolding check_inputs
-misfit_judged c i setting m a =
+pub misfit_judged : (i : InputValues) (n : Text × List Period) (why : Stop) → slice_get i.networks 0 ≡ Some n → settled i ≡ Err why → accepted i.certificate ≡ Ok tt → Judges i (Err (ending.Stopped why))
+unfolding check
+misfit_judged i n why e m a =
     let x = then_ok (certificate_of i.certificate) (λ cert. Ok tt) tt a in
-    (tt, rw (x.1, m) refl)
+    (late_setting of_a_check.checks i (misfit i.setup i.rules i.film) why m, rw (e, x.1, m) refl)
 
 -- then the verdict
-pub verdict_judged : (c : CommandWords) (i : InputValues) (periods : List Period) (g : Task) (w : Walk) (j : Judgement) → i.traces ≡ periods ∷ [] → g ≡ task_on c i periods → misfit_of c i.film ≡ None
-    → begun i.certificate ≡ Ok w → j.score ≡ w.head.score → lines_verdict g i.certificate ≡ Ok j.verdict → Judges c i (Ok j)
-unfolding check_inputs
-verdict_judged c i periods g w j traces task fits b score said =
+pub verdict_judged : (i : InputValues) (n : Text × List Period) (g : Task) (w : Walk) (j : Judgement) → slice_get i.networks 0 ≡ Some n → settled i ≡ Ok i → g ≡ task_on i n.1
+    → begun i.certificate ≡ Ok w → j.score ≡ w.head.score → lines_verdict g i.certificate ≡ Ok j.verdict → Judges i (Ok j)
+unfolding check
+verdict_judged i n g w j e fits task b score said =
     let x = then_ok (certificate_of i.certificate) (λ cert. Ok (verdict_of g cert cert.score)) j.verdict said in
     let own : x.0.score ≡ j.score = sym (score ∙ score_is i.certificate w x.0 b x.1) in
-    let told : verdict_of (task_on c i periods) x.0 x.0.score ≡ j.verdict = ap (λ t. verdict_of t x.0 x.0.score) (sym task) ∙ ok_same _ _ j.verdict refl x.2 in
-    rw (x.1, fits, traces) (ap (λ v. Ok (told_verdict x.0.score v)) told ∙ ap (λ z. Ok (told_verdict z j.verdict)) own)
-
--- ---- over the files
-
--- the certificate is the last file of `check`
-certificate_last : (c : CommandWords) → HasFilm c.verb → IsSome c.certificate → (before : List NamedFile) × (name : Text) × (files_of c ≡ before ++ (role.Certificate, name) ∷ [])
-certificate_last c film some = by_name c.certificate refl some
-  where
-    by_name : (o : Option Text) → c.certificate ≡ o → IsSome o → (before : List NamedFile) × (name : Text) × (files_of c ≡ before ++ (role.Certificate, name) ∷ [])
-    by_name None e h = cc
-    by_name (Some name) e h = (
-      (role.Manifest, c.manifest) ∷ (trace_files c.verb c.traces ++ optional_file role.Seeks c.seeks),
-      name,
-      on_film c film ∙ rw e (ap (λ l. (role.Manifest, c.manifest) ∷ l) (sym (append_assoc (trace_files c.verb c.traces) (optional_file role.Seeks c.seeks) ((role.Certificate, name) ∷ [])))),
-    )
-
-up_to_last : (named : List NamedFile) (old new : Shelved) → ((before : List NamedFile) × (name : Text) × (named ≡ before ++ (role.Certificate, name) ∷ [])) → Asks named old new → AsksUpTo named role.Certificate old new
-up_to_last named old new last asks =
-    record { before = last.0; name = last.1; later = []; split = last.2; asks = subst (λ l. Asks l old new) last.2 asks }
-
--- what judging comes to
-module _ (c : CommandWords) (i : InputValues) (old new : Shelved) (film : HasFilm c.verb) (some : IsSome c.certificate) (asks : Asks (files_of c) old new) (means : Means (inputs_of c) old (Ok i)) where
-  comes_to : (r : Result Answer Stop) → check_inputs c i ≡ r → Means (check c) old r
-  unfolding check
-  comes_to r h = λ files t. rw (means files t) h
-
-  late : (why : Stop) → IsLate why → check_inputs c i ≡ Err why → Stops (files_of c) (check c) old why new
-  late (stop.Settings setting) l h = (asks, comes_to (Err (stop.Settings setting)) h)
-  late (stop.Budget segment) l h = absurd l
-  late (stop.File role.Certificate (fault.Refused why)) l h = (up_to_last (files_of c) old new (certificate_last c film some) asks, comes_to (Err (stop.File role.Certificate (fault.Refused why))) h)
-  late (stop.File role.Certificate fault.NotRead) l h = absurd l
-  late (stop.File role.Certificate fault.TooLong) l h = absurd l
-  late (stop.File role.Manifest why) l h = absurd l
-  late (stop.File role.Trace why) l h = absurd l
-  late (stop.File (role.TraceAt place) why) l h = absurd l
-  late (stop.File role.Seeks why) l h = absurd l
-
-  -- the check of the command's files comes to what judging gave: its answer, or the stop that comes first
-  pub judged_comes : (r : Result Judgement Halt) → Judges c i r → Comes (files_of c) judged (check c) old r new
-  judged_comes (Ok j) h = (asks, comes_to (Ok (judged j)) h)
-  judged_comes (Err (halt.Stopped why)) h = late why h.0 h.1
-  judged_comes (Err halt.NoMemory) h = asks_all (files_of c) old new asks
+    let told : verdict_of (task_on i n.1) x.0 x.0.score ≡ j.verdict = ap (λ t. verdict_of t x.0 x.0.score) (sym task) ∙ ok_same _ _ j.verdict refl x.2 in
+    rw (e, x.1, fits) (ap (λ v. Ok (told_verdict x.0.score v)) told ∙ ap (λ z. Ok (told_verdict z j.verdict)) own)
 
 -- ---- how the command ends
 
--- the answer that says a judgement is the command's
-pub judged_answer : (c : CommandWords) (files : Files) → c.verb ≡ Check → answer_of c files ≡ check c files
-judged_answer c files v = rw v refl
+-- judging came to no verdict
+pub judged_failed : (i : InputValues) (old : Seen) (e : Ending) → Judges i (Err e) → Writes of_a_check (check i) old e old
+judged_failed i old ending.Done h = absurd h
+judged_failed i old ending.Invalid h = absurd h
+judged_failed i old ending.Usage h = absurd h
+judged_failed i old (ending.Stopped why) h = (h.0, h.1, refl)
+judged_failed i old (ending.Spent segment) h = absurd h
+judged_failed i old ending.OutputFailed h = absurd h
+judged_failed i old ending.NoMemory h = wanting of_a_check (check i) old
 
-module _ (c : CommandWords) (j : Judgement) (old new : Shelved) (out out2 : Seen) (verb : c.verb ≡ Check) (asks : Asks (files_of c) old new) (means : Means (check c) old (Ok (judged j))) where
-  answers : (OfStatus : ℕ → Type 0) (OfText : Text → Type 0) → OfStatus (judged j).status → OfText (judged j).text → Answers c old OfStatus OfText
-  answers OfStatus OfText s t = λ files told. (judged j, judged_answer c files verb ∙ means files told, s, t)
+-- at the exit of a `?`
+pub judge_failed : (i : InputValues) (old : Seen) (r : Result Judgement Ending) (e : Ending) → r ≡ Err e → Judges i r → Writes of_a_check (check i) old e old
+judge_failed i old r e k h = let x : Judges i (Err e) = rw k at h in judged_failed i old e x
 
-  written : (v : Verdict) → IsWritten (verdict_status v)
-  written Yes = inl refl
-  written (No clause segment rung label) = inr refl
+-- memory was wanting
+pub judging_wants : (i : InputValues) (q : Result Judgement Ending) → IsErrAnd q (λ y. y ≡ ending.NoMemory) → Judges i q
+judging_wants i q k = let p = err_from_is_err_and q k in rw (p.1, p.2) tt
 
-  said : (v : Verdict) → v ≡ j.verdict → Grew out.written (judged j).text out2.written → Ends c old out (verdict_ending v) new out2
-  said Yes e w = (asks, answers _ _ (rw (← e) refl) w)
-  said (No clause segment rung label) e w = (asks, answers _ _ (rw (← e) refl) w, verb)
+-- judging gave a verdict
+pub judge_given : (i : InputValues) (r : Result Judgement Ending) (j : Judgement) → r ≡ Ok j → Judges i r → check i ≡ Ok (judged j)
+judge_given i r j k h = rw k at h
 
-  -- once the answer was put out, or failed to be, the command ends as the verdict and the sink say
-  pub judged_ends : (r : Result (Unit {0}) PutErr) → Puts out (judged j).text out2 r → Ends c old out (ending_of (verdict_ending j.verdict) r) new out2
-  judged_ends (Ok done) p = said j.verdict refl p.answered
-  judged_ends (Err put.Failed) p = (asks, record { rose = p.answered.1; steady = p.steady }, answers IsWritten _ (written j.verdict) p.answered.0)
-  judged_ends (Err put.Memory) p = (asks_all (files_of c) old new asks, λ h. inr p.answered.1, λ files t. rw (judged_answer c files verb ∙ means files t) p.answered.0)
+whole_verdict : (v : Verdict) → IsWhole (verdict_ending v)
+whole_verdict Yes = tt
+whole_verdict (No clause segment rung label) = tt
 
--- the command stops as its judging did
-pub stopped_ends : (c : CommandWords) (old new : Shelved) (out : Seen) (why : Stop) → c.verb ≡ Check → Stops (files_of c) (check c) old why new → Ends c old out (ending.Stopped why) new out
-stopped_ends c old new out why v h = (refl, subst (λ verb. Stops (files_of c) (answer_by verb c) old why new) (sym v) h)
+-- the verdict did not go out
+pub verdict_failed : (i : InputValues) (j : Judgement) (old new : Seen) (r : Result (Unit {0}) PutErr) (e : PutErr) → check i ≡ Ok (judged j) → r ≡ Err e → Puts old (judged j).text new r → Writes of_a_check (check i) old (after_put e) new
+verdict_failed i j old new r e is k p = put_failed of_a_check (check i) (judged j) old new r e is (whole_verdict j.verdict) k p
+
+-- the verdict went out
+pub verdict_done : (i : InputValues) (j : Judgement) (old new : Seen) (r : Result (Unit {0}) PutErr) (u : Unit {0}) → check i ≡ Ok (judged j) → r ≡ Ok u → Puts old (judged j).text new r → Writes of_a_check (check i) old (verdict_ending j.verdict) new
+verdict_done i j old new r u is k p =
+    let q : Puts old (judged j).text new (Ok u) = rw k at p in
+    by_verdict j.verdict refl q
+  where
+    by_verdict : (v : Verdict) → j.verdict ≡ v → Puts old (judged j).text new (Ok u) → Writes of_a_check (check i) old (verdict_ending v) new
+    by_verdict Yes e q = (judged j, is, (ap verdict_ending e, q.answered))
+    by_verdict (No clause segment rung label) e q = (refl, (judged j, is, (ap verdict_ending e, q.answered)))

@@ -1,14 +1,12 @@
 -- What `demo` writes of a made case: its rows, its plan, and the verdict on the plan's certificate.
-use Rattle.std.proofs.Common.{◌≡◌, ◌∙◌, ℕ, ◌≤◌, ◌++◌, List, [], ◌∷◌, map, Result, Ok, Err, ap, sym, refl, subst, inl, arith}
+use Rattle.std.proofs.Common.{◌≡◌, ◌∙◌, ℕ, ◌≤◌, ◌++◌, List, [], ◌∷◌, map, Result, Ok, Err, ap, sym, refl, subst, arith}
 use Rattle.std.specs.Prelude.{ℤ, codes, pos}
 use Rattle.std.specs.Fmt.{signed_decimal}
 use Rattle.std.specs.List.{All, flat_map}
 use Rattle.std.specs.Result.{IsErrAnd}
 use Rattle.std.proofs.lemmas.List.Elements.{All-cons, All-nil}
 use Rattle.lab_io.specs.declared.PutErr.{PutErr}
-use Rattle.lab_io.specs.declared.PutErr.TheVariants as put
 use Rattle.lab_io.specs.Piece.{fields_line}
-use Rattle.lab_io.specs.Shelf.{Shelved}
 use Rattle.lab_io.specs.Sink.{Text, Seen, Puts}
 use Rattle.lab_io.proofs.Puts.{puts_as}
 use Rattle.lab_model.specs.declared.context.Seek.{Seek}
@@ -16,14 +14,9 @@ use Rattle.lab_model.specs.declared.trace.Period.{Period}
 use Rattle.lab_model.specs.Film.{IsWithin}
 use Rattle.lab_model.specs.Rules.{RuleKind, KindFits, bola, fixed, mpc, throughput}
 use Rattle.lab_words.specs.declared.NamedRule.{NamedRule}
-use Rattle.lab_words.specs.declared.Verb.TheVariants.{Demo}
-use Rattle.lab_words.specs.Command.{CommandWords, named}
+use Rattle.lab_words.specs.Command.{named}
 use Rattle.lab_words.specs.Limits.{IsRuleWithin}
 use Rattle.lab_words.specs.Rules.{spoken}
-use Rattle.lab_inputs.specs.declared.stop.Ending.TheVariants as ending
-use Rattle.lab_inputs.specs.Files.{Files, files_of}
-use Rattle.lab_inputs.specs.Stages.{Asks}
-use Rattle.lab_inputs.proofs.Files.{asks_all, asks_none}
 use Rattle.labels.specs.declared.plans.Plan.{Plan}
 use Rattle.labels.specs.Frontier.{frontier}
 use Rattle.labels.specs.Grid.{exact}
@@ -36,14 +29,12 @@ use Rattle.certificate_text.specs.Form.{certificate_parts}
 use Rattle.demo_case.specs.declared.case.DemoCase.{DemoCase}
 use Rattle.demo_case.specs.Case.{demo_film, demo_periods, demo_setup, demo_task}
 use Rattle.demo_case.proofs.Bound.{budget_unspent}
-use Rattle.abrlab_top.specs.Answer.{printed}
 use Rattle.abrlab_top.specs.Demo.{FitsBudget, demo_bench, demo_line, demo_plan, demo_rules, demo_text, plan_report, task_in}
-use Rattle.abrlab_top.specs.Outcome.{answer_of}
 use Rattle.abrlab_top.specs.Plan.{certificate_on, labels_on}
 use Rattle.abrlab_top.specs.Rows.{BenchValue, row_of}
-use Rattle.abrlab_top.specs.Stages.{Ends, Writes, WritesRows, ending_of}
+use Rattle.abrlab_top.specs.Stages.{WritesRows}
 use Rattle.abrlab_top.proofs.RowByRow.{rows_as, rows_failed, rows_more, rows_put}
-use Rattle.abrlab_top.proofs.Traces.{all_mapped}
+use Rattle.abrlab_top.proofs.Networks.{all_mapped}
 
 -- ---- the rules
 
@@ -145,16 +136,3 @@ pub demo_told : (n : ℕ) (b : BenchValue) (g : Task) (rules seen : List NamedRu
 demo_told n b g rules seen old mid late new r s q u v went gone on task same spoken line rows plan =
     rows_as old new _ _ q (demo_said n) (rows_more old mid new (demo_line n) (flat_map (row_of (demo_bench n)) demo_rules ++ plan_report (demo_task n)) r q u went (rows_put old mid (demo_line n) r line)
     (rows_more mid late new (flat_map (row_of (demo_bench n)) demo_rules) (plan_report (demo_task n)) s q v gone (made_rows n b rules seen mid late s on same spoken rows) (rows_as late new _ _ q (ap plan_report task) plan)))
-
--- `demo` names no file
-asks_nothing : (c : CommandWords) (shelf : Shelved) → c.verb ≡ Demo → Asks (files_of c) shelf shelf
-asks_nothing c shelf v = rw v (asks_none shelf)
-
-demo_answer : (c : CommandWords) (files : Files) → c.verb ≡ Demo → answer_of c files ≡ Ok (printed (demo_text c.number))
-demo_answer c files v = rw v refl
-
--- `demo` ends as the writing of its text does
-pub ends_demo : (c : CommandWords) (shelf : Shelved) (out out2 : Seen) (r : Result (Unit {0}) PutErr) → c.verb ≡ Demo → Writes c.verb (demo_text c.number) out r out2 → Ends c shelf out (ending_of ending.Done r) shelf out2
-ends_demo c shelf out out2 (Ok done) v w = (asks_nothing c shelf v, λ files t. (printed (demo_text c.number), demo_answer c files v, refl, w))
-ends_demo c shelf out out2 (Err put.Failed) v w = (asks_nothing c shelf v, w.1, λ files t. (printed (demo_text c.number), demo_answer c files v, inl refl, w.0))
-ends_demo c shelf out out2 (Err put.Memory) v w = (asks_all (files_of c) shelf shelf (asks_nothing c shelf v), w.1, λ files t. rw (demo_answer c files v) w.0)

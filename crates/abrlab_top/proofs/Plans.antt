@@ -1,13 +1,15 @@
 -- What `plan` answers, from what the planner gave.
-use Rattle.std.proofs.Common.{◌≡◌, ◌∙◌, ◌-◌, ◌≤◌, ℕ, suc, List, [], ◌∷◌, Some, None, Ok, Err, Result, ap, sym, refl, subst, arith}
+use Rattle.std.proofs.Common.{◌≡◌, ◌∙◌, ◌-◌, ◌≤◌, ℕ, suc, Bool, List, [], Some, None, Ok, Err, Result, ap, sym, refl, subst, arith}
 use Rattle.std.specs.Prelude.{nat_lt}
+use Rattle.std.specs.List.{slice_get}
 use Rattle.std.proofs.lemmas.Bool.{le-ltb, lt-ltb}
 use Rattle.lab_model.specs.declared.setup.Setup.{Setup}
 use Rattle.lab_model.specs.declared.trace.Period.{Period}
-use Rattle.lab_model.specs.Film.{segments_of}
-use Rattle.lab_words.specs.Command.{CommandWords}
+use Rattle.lab_io.specs.Sink.{Text, Seen}
+use Rattle.lab_model.specs.Film.{Film, segments_of}
+use Rattle.lab_inputs.specs.declared.stop.Stop.{Stop}
 use Rattle.lab_inputs.specs.Inputs.{InputValues}
-use Rattle.lab_inputs.specs.Settings.{setup_of}
+use Rattle.lab_inputs.specs.Settings.{settled}
 use Rattle.player_core.specs.Available.{all_ahead}
 use Rattle.labels.specs.declared.plans.Plan.{Plan}
 use Rattle.frontier_planner.specs.declared.plans.PlanErr.{PlanErr}
@@ -19,10 +21,14 @@ use Rattle.labels.specs.Parts.{CertificateParts, plan_parts}
 use Rattle.frontier_planner.specs.Planned.{IsPlanOf, PlanAnswer}
 use Rattle.labels.specs.Read.{SpentAt, labels_before, labels_in}
 use Rattle.labels.proofs.Counted.{before_beyond}
+use Rattle.labels.specs.Form.{IsCertificate}
+use Rattle.abrlab_top.specs.declared.ending.Ending.TheVariants as ending
 use Rattle.abrlab_top.specs.Answer.{printed}
-use Rattle.abrlab_top.specs.Plan.{labels_on, parts_text, plan, spent_on, task_on, unless_spent}
-use Rattle.abrlab_top.specs.Stages.{Plans}
+use Rattle.abrlab_top.specs.Ending.{after_plan}
+use Rattle.abrlab_top.specs.Plan.{labels_on, parts_text, plan, plan_on, spent_on, task_on, unless_spent}
+use Rattle.abrlab_top.specs.Stages.{Writes, at_the_end}
 use Rattle.abrlab_top.proofs.Finds.{found_from, none_from}
+use Rattle.abrlab_top.proofs.Whole.{wanting}
 
 -- ---- the budget
 
@@ -43,30 +49,51 @@ never_spent g budget h =
 
 -- ---- the answer
 
--- what `plan` answers on the one trace
-pub one_planned : (c : CommandWords) (i : InputValues) (periods : List Period) → i.traces ≡ periods ∷ [] → plan c i ≡ unless_spent c.as_certificate (task_on c i periods) (spent_on (task_on c i periods) c.budget)
+-- no network is named
+pub no_network : (budget : ℕ) (as_certificate : Bool) (i : InputValues) → slice_get i.networks 0 ≡ None → plan budget as_certificate i ≡ Ok (printed [])
 unfolding plan
-one_planned c i periods e = rw e refl
+no_network budget as_certificate i e = ap (plan_on budget as_certificate i) e
 
-planned_whole : (c : CommandWords) (i : InputValues) (periods : List Period) (p : Plan) → i.traces ≡ periods ∷ [] → IsTask (task_on c i periods) → IsPlanOf exact (task_on c i periods) (frontier (task_on c i periods)) c.budget p p.score → Plans c i (Ok p)
-planned_whole c i periods p e is h =
-    let few = never_spent (task_on c i periods) c.budget (let most = h.within in let same = h.labels in omega (arith, most, same)) in
-    let text = ap (λ (q : CertificateParts). parts_text c.as_certificate q (labels_on (task_on c i periods))) (sym h.parts) ∙ ap (parts_text c.as_certificate (plan_parts i.film p)) (sym h.labels) in (
-      h.form,
-      one_planned c i periods e ∙ ap (unless_spent c.as_certificate (task_on c i periods)) few ∙ ap (λ said. Ok (printed said)) text,
-    )
+-- a setting does not fit
+pub plan_stopped : (budget : ℕ) (as_certificate : Bool) (i : InputValues) (n : Text × List Period) (why : Stop) → slice_get i.networks 0 ≡ Some n → settled i ≡ Err why → plan budget as_certificate i ≡ Err (ending.Stopped why)
+unfolding plan
+plan_stopped budget as_certificate i n why e h = rw (e, h) refl
 
-planned_spent : (c : CommandWords) (i : InputValues) (periods : List Period) (s : ℕ) → i.traces ≡ periods ∷ [] → SpentAt (task_on c i periods) (frontier (task_on c i periods)) c.budget s → Plans c i (Err (planned.BudgetSpent s))
-planned_spent c i periods s e h = one_planned c i periods e ∙ ap (unless_spent c.as_certificate (task_on c i periods)) (spent_at (task_on c i periods) c.budget s h)
+-- what `plan` answers on the network
+pub one_planned : (budget : ℕ) (as_certificate : Bool) (i : InputValues) (n : Text × List Period) → slice_get i.networks 0 ≡ Some n → settled i ≡ Ok i → plan budget as_certificate i ≡ unless_spent as_certificate (task_on i n.1) (spent_on (task_on i n.1) budget)
+unfolding plan
+one_planned budget as_certificate i n e h = rw (e, h) refl
 
-by_answer : (c : CommandWords) (i : InputValues) (periods : List Period) (r : Result Plan PlanErr) → i.traces ≡ periods ∷ [] → IsTask (task_on c i periods) → PlanAnswer (task_on c i periods) c.budget r → Plans c i r
-by_answer c i periods (Ok p) e is h = planned_whole c i periods p e is h
-by_answer c i periods (Err (planned.BudgetSpent s)) e is h = planned_spent c i periods s e h
-by_answer c i periods (Err planned.Memory) e is h = tt
+-- the plan has a certificate's text, and is what the command answers
+pub planned_whole : (budget : ℕ) (as_certificate : Bool) (i : InputValues) (n : Text × List Period) (film : Film) (g : Task) (p : Plan) → slice_get i.networks 0 ≡ Some n → settled i ≡ Ok i → g ≡ task_on i n.1 → film ≡ i.film → IsTask g
+    → IsPlanOf exact g (frontier g) budget p p.score → IsCertificate (plan_parts film p) × (plan budget as_certificate i ≡ Ok (printed (parts_text as_certificate (plan_parts film p) p.labels)))
+planned_whole budget as_certificate i n film g p e h same f is of = by_task (task_on i n.1) refl (subst IsTask same is) (subst (λ t. IsPlanOf exact t (frontier t) budget p p.score) same of)
+  where
+    by_task : (t : Task) → t ≡ task_on i n.1 → IsTask (task_on i n.1) → IsPlanOf exact (task_on i n.1) (frontier (task_on i n.1)) budget p p.score
+        → IsCertificate (plan_parts film p) × (plan budget as_certificate i ≡ Ok (printed (parts_text as_certificate (plan_parts film p) p.labels)))
+    by_task t k is of =
+        let few = never_spent (task_on i n.1) budget (let most = of.within in let counted = of.labels in omega (arith, most, counted)) in
+        let text = ap (λ (q : CertificateParts). parts_text as_certificate q (labels_on (task_on i n.1))) (sym of.parts) ∙ ap (parts_text as_certificate (plan_parts i.film p)) (sym of.labels) in
+        rw f (
+          of.form,
+          one_planned budget as_certificate i n e h ∙ ap (unless_spent as_certificate (task_on i n.1)) few ∙ ap (λ said. Ok (printed said)) text,
+        )
 
--- what the planner gave on the one trace is what the command is to answer
-pub plans : (c : CommandWords) (i : InputValues) (periods clock : List Period) (setup : Setup) (r : Result Plan PlanErr) → i.traces ≡ periods ∷ [] → clock ≡ periods → setup ≡ setup_of c → IsTask (task_of i.film clock setup all_ahead)
-    → PlanAnswer (task_of i.film clock setup all_ahead) c.budget r → Plans c i r
-plans c i periods clock setup r e p q is h =
-    let same : task_of i.film clock setup all_ahead ≡ task_on c i periods = ap (λ (x : List Period). task_of i.film x setup all_ahead) p ∙ ap (λ (x : Setup). task_of i.film periods x all_ahead) q in
-    by_answer c i periods r e (subst IsTask same is) (subst (λ (g : Task). PlanAnswer g c.budget r) same h)
+-- the frontiers spend the budget
+pub planned_spent : (budget : ℕ) (as_certificate : Bool) (i : InputValues) (n : Text × List Period) (g : Task) (s : ℕ) → slice_get i.networks 0 ≡ Some n → settled i ≡ Ok i → g ≡ task_on i n.1 → SpentAt g (frontier g) budget s → plan budget as_certificate i ≡ Err (ending.Spent s)
+planned_spent budget as_certificate i n g s e h same at =
+    one_planned budget as_certificate i n e h ∙ ap (unless_spent as_certificate (task_on i n.1)) (spent_at (task_on i n.1) budget s (subst (λ t. SpentAt t (frontier t) budget s) same at))
+
+-- the task is the one on the network
+pub task_is : (i : InputValues) (periods clock : List Period) (film : Film) (setup : Setup) → film ≡ i.film → clock ≡ periods → setup ≡ i.setup → task_of film clock setup all_ahead ≡ task_on i periods
+task_is i periods clock film setup f p q = rw (f, p, q) refl
+
+-- planning failed
+pub plan_failed : (budget : ℕ) (as_certificate : Bool) (i : InputValues) (n : Text × List Period) (g : Task) (old : Seen) (r : Result Plan PlanErr) (e : PlanErr) → slice_get i.networks 0 ≡ Some n → settled i ≡ Ok i → g ≡ task_on i n.1 → r ≡ Err e → PlanAnswer g budget r
+    → Writes at_the_end (plan budget as_certificate i) old (after_plan e) old
+plan_failed budget as_certificate i n g old r (planned.BudgetSpent s) e h same k x = let y : SpentAt g (frontier g) budget s = rw k at x in (planned_spent budget as_certificate i n g s e h same y, refl)
+plan_failed budget as_certificate i n g old r planned.Memory e h same k x = wanting at_the_end (plan budget as_certificate i) old
+
+-- planning gave a plan
+pub plan_given : (g : Task) (budget : ℕ) (r : Result Plan PlanErr) (p : Plan) → r ≡ Ok p → PlanAnswer g budget r → IsPlanOf exact g (frontier g) budget p p.score
+plan_given g budget r p e x = rw e at x

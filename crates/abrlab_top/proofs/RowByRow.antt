@@ -7,12 +7,10 @@ use Rattle.lab_io.specs.declared.PutErr.{PutErr}
 use Rattle.lab_io.specs.declared.PutErr.TheVariants as put
 use Rattle.lab_io.specs.Sink.{Text, Seen, Puts}
 use Rattle.lab_io.proofs.Puts.{puts_failed, puts_more, puts_none}
-use Rattle.lab_words.specs.declared.NamedRule.{NamedRule}
-use Rattle.lab_words.specs.declared.Verb.{Verb}
-use Rattle.lab_words.specs.Command.{named}
-use Rattle.lab_model.specs.Rules.{RuleKind}
-use Rattle.abrlab_top.specs.Outcome.{writes_between}
-use Rattle.abrlab_top.specs.Stages.{Writes, WritesRows}
+use Rattle.abrlab_top.specs.declared.ending.Ending.TheVariants as ending
+use Rattle.abrlab_top.specs.Answer.{Outcome, printed}
+use Rattle.abrlab_top.specs.Ending.{after_put}
+use Rattle.abrlab_top.specs.Stages.{Writes, WritesRows, row_by_row}
 
 -- the sink with its count of wants at its last value, from which each value has risen
 blind : Seen → Seen
@@ -59,17 +57,20 @@ rows_wanting a t q e =
 pub rows_as : (a b : Seen) (t s : Text) (r : Result (Unit {0}) PutErr) → t ≡ s → WritesRows a t r b → WritesRows a s r b
 rows_as a b t s r e x = rw e at x
 
--- the row of a rule, and those behind it
-pub rows_from : (f : Text × RuleKind → Text) (rules : List NamedRule) (i : ℕ) (rule : NamedRule) → i < length rules → rule ≡ get_or rules i rule
-    → flat_map f (map named (drop i rules)) ≡ f (named rule) ++ flat_map f (map named (drop (i + 1) rules))
-rows_from f rules i rule lt e = rw (add-one, drop-cons rules i rule, ← e) refl
+-- the row of an element, and those behind it
+pub rows_from : {A B : Type 0} (f : B → Text) (seen : A → B) (xs : List A) (i : ℕ) (x : A) → i < length xs → x ≡ get_or xs i x
+    → flat_map f (map seen (drop i xs)) ≡ f (seen x) ++ flat_map f (map seen (drop (i + 1) xs))
+rows_from f seen xs i x lt e = rw (add-one, drop-cons xs i x, ← e) refl
 
--- behind the last rule there is no row
-pub rows_end : (f : Text × RuleKind → Text) (rules : List NamedRule) (i : ℕ) → length rules ≤ i → flat_map f (map named (drop i rules)) ≡ []
-rows_end f rules i h = rw (drop_all i rules h) refl
+-- behind the last element there is no row
+pub rows_end : {A B : Type 0} (f : B → Text) (seen : A → B) (xs : List A) (i : ℕ) → length xs ≤ i → flat_map f (map seen (drop i xs)) ≡ []
+rows_end f seen xs i h = rw (drop_all i xs h) refl
 
--- a command that writes row by row writes its text so
-pub writes_rows : (v : Verb) (old new : Seen) (said : Text) (r : Result (Unit {0}) PutErr) → writes_between v ≡ true → WritesRows old said r new → Writes v said old r new
-writes_rows v old new said (Ok done) b h = h.written
-writes_rows v old new said (Err put.Failed) b h = (h.written.0, record { rose = h.written.1; steady = h.steady })
-writes_rows v old new said (Err put.Memory) b h = (h.written, λ n. cc)
+-- all rows were written
+pub rows_done : (meant : Outcome) (text : Text) (old new : Seen) (r : Result (Unit {0}) PutErr) (u : Unit {0}) → meant ≡ Ok (printed text) → r ≡ Ok u → WritesRows old text r new → Writes row_by_row meant old ending.Done new
+rows_done meant text old new r u e k h = let x : WritesRows old text (Ok u) new = rw k at h in (printed text, e, (refl, x.written))
+
+-- they were not
+pub rows_ended : (meant : Outcome) (text : Text) (old new : Seen) (r : Result (Unit {0}) PutErr) (e : PutErr) → meant ≡ Ok (printed text) → r ≡ Err e → WritesRows old text r new → Writes row_by_row meant old (after_put e) new
+rows_ended meant text old new r put.Failed is k h = let x : WritesRows old text (Err put.Failed) new = rw k at h in (record { rose = x.written.1; steady = x.steady }, (printed text, is, (tt, x.written.0)))
+rows_ended meant text old new r put.Memory is k h = let x : WritesRows old text (Err put.Memory) new = rw k at h in (λ n. cc, rw is x.written)

@@ -1,60 +1,37 @@
 -- The stages of a run, put together.
-use Rattle.std.proofs.Common.{◌≡◌, List, [], ◌∷◌, map, length, get_or, arith, subst, append-nil, Option, Some, None, Result, Ok, Err, inl, inr, ap, sym, ◌∙◌, refl}
+use Rattle.std.proofs.Common.{◌≡◌, ◌++◌, List, [], ◌∷◌, append-nil, append_assoc, Bool, true, false, Option, option_map, Some, None, Result, Ok, Err, IsSome, inl, inr, ap, subst, sym, ◌∙◌, refl}
+use Rattle.std.specs.Result.{IsErrAnd}
+use Rattle.std.proofs.lemmas.Result.{err_from_is_err_and}
 use Rattle.lab_io.specs.declared.PutErr.{PutErr}
 use Rattle.lab_io.specs.declared.PutErr.TheVariants as put
 use Rattle.lab_io.specs.Shelf.{Shelved}
 use Rattle.lab_io.specs.Sink.{Text, Seen, Grew, GrewPart, Puts}
-use Rattle.std.specs.List.{All}
-use Rattle.std.proofs.lemmas.List.{length-map}
-use Rattle.lab_model.specs.declared.context.Seek.{Seek}
-use Rattle.lab_model.specs.declared.setup.Setup.{Setup}
-use Rattle.lab_model.specs.declared.trace.Period.{Period}
-use Rattle.lab_model.specs.Film.{Film}
-use Rattle.lab_model.specs.Rules.{RuleKind, KindFits}
-use Rattle.lab_words.specs.declared.NamedRule.{NamedRule}
 use Rattle.lab_words.specs.declared.Verb.{Verb}
-use Rattle.lab_words.specs.declared.Verb.TheVariants.{Simulate}
-use Rattle.lab_words.specs.Command.{CommandWords, named}
-use Rattle.lab_words.specs.Limits.{AreCounted, IsRuleWithin, IsWithinLimits}
-use Rattle.lab_words.specs.Words.{command_of}
-use Rattle.lab_words.specs.Rules.{spoken}
-use Rattle.player_core.specs.Available.{all_ahead}
-use Rattle.player_core.specs.State.{case_of}
-use Rattle.player_core.specs.Session.{Shown, session_of}
-use Rattle.session_report.specs.Session.{session_text}
-use Rattle.lab_inputs.specs.declared.stop.Ending.{Ending}
-use Rattle.lab_inputs.specs.declared.stop.Ending.TheVariants as ending
+use Rattle.lab_words.specs.Command.{CommandWords}
+use Rattle.lab_words.specs.Words.{begins_with_verb, command_of}
+use Rattle.lab_inputs.specs.declared.role.Role.{Role}
+use Rattle.lab_inputs.specs.declared.role.Role.TheVariants as role
+use Rattle.lab_inputs.specs.declared.stop.FileFault.{FileFault}
+use Rattle.lab_inputs.specs.declared.stop.FileFault.TheVariants as fault
+use Rattle.lab_inputs.specs.declared.stop.Halt.{Halt}
+use Rattle.lab_inputs.specs.declared.stop.Halt.TheVariants as halt
+use Rattle.lab_inputs.specs.declared.stop.Setting.{Setting}
 use Rattle.lab_inputs.specs.declared.stop.Stop.{Stop}
-use Rattle.lab_inputs.specs.Files.{Files, files_of}
-use Rattle.lab_inputs.specs.Inputs.{◌>>=◌, InputValues}
-use Rattle.lab_inputs.specs.Settings.{ready_of, setup_of}
-use Rattle.lab_inputs.specs.Stages.{Asks, Means}
-use Rattle.lab_inputs.proofs.Files.{asks_all}
-use Rattle.abrlab_top.specs.Answer.{Answer, printed}
-use Rattle.abrlab_top.specs.Outcome.{answer_of, outcome_text}
-use Rattle.abrlab_top.specs.Simulate.{case_on, simulate}
-use Rattle.abrlab_top.specs.Stages.{Ends, Ran, Writes, ending_of}
-use Rattle.abrlab_top.proofs.Words.{begins}
-
--- what was put is what was written
-pub writes : (v : Verb) (old new : Seen) (said text : Text) (r : Result (Unit {0}) PutErr) → said ≡ text → Puts old text new r → Writes v said old r new
-writes v old new said text (Ok done) e p = rw e p.answered
-writes v old new said text (Err put.Failed) e p = (rw e p.answered.0, record { rose = p.answered.1; steady = p.steady })
-writes v old new said text (Err put.Memory) e p = (rw e p.answered.0, λ h. inr p.answered.1)
-
-answered_by : (c : CommandWords) (after : InputValues → Result Answer Stop) (i : InputValues) (said : Text) (files : Files) → answer_of c files ≡ (ready_of c files >>= after) → ready_of c files ≡ Ok i → after i ≡ Ok (printed said)
-    → answer_of c files ≡ Ok (printed said)
-answered_by c after i said files first ready then =
-    let step : (ready_of c files >>= after) ≡ Ok (printed said) = rw ready then in
-    first ∙ step
-
--- a command whose inputs are ready, and which then answers just this text, ends as the writing of it does
-pub ends_written : (c : CommandWords) (after : InputValues → Result Answer Stop) (i : InputValues) (said : Text) (shelf shelf2 : Shelved) (out out2 : Seen) (r : Result (Unit {0}) PutErr)
-    → ((files : Files) → answer_of c files ≡ (ready_of c files >>= after)) → after i ≡ Ok (printed said) → Asks (files_of c) shelf shelf2 → Means (ready_of c) shelf (Ok i) → Writes c.verb said out r out2
-    → Ends c shelf out (ending_of ending.Done r) shelf2 out2
-ends_written c after i said shelf shelf2 out out2 (Ok done) first then asks ready w = (asks, λ files t. (printed said, answered_by c after i said files (first files) (ready files t) then, refl, w))
-ends_written c after i said shelf shelf2 out out2 (Err put.Failed) first then asks ready w = (asks, w.1, λ files t. (printed said, answered_by c after i said files (first files) (ready files t) then, inl refl, w.0))
-ends_written c after i said shelf shelf2 out out2 (Err put.Memory) first then asks ready w = (asks_all (files_of c) shelf shelf2 asks, w.1, λ files t. rw (answered_by c after i said files (first files) (ready files t) then) w.0)
+use Rattle.lab_inputs.specs.declared.stop.Stop.TheVariants as stop
+use Rattle.lab_inputs.specs.Files.{◌>>=◌, Files}
+use Rattle.lab_inputs.specs.Inputs.{InputValues, inputs_of}
+use Rattle.lab_inputs.specs.Roles.{NamedFile, film_files, files_by, files_of, optional_file, trace_files}
+use Rattle.lab_inputs.specs.Settings.{Fits, misfit, settled, unless_misfit}
+use Rattle.lab_inputs.specs.Stages.{Asks, AsksFor, AsksSome, AsksUpTo, Comes, IsSettled, Means, StopsAt, Tells}
+use Rattle.lab_inputs.proofs.Files.{asks_all, asks_none}
+use Rattle.abrlab_top.specs.declared.ending.Ending.{Ending}
+use Rattle.abrlab_top.specs.declared.ending.Ending.TheVariants as ending
+use Rattle.abrlab_top.specs.Answer.{Answer, Outcome, printed, text_in, unless_stopped}
+use Rattle.abrlab_top.specs.Demo.{demo}
+use Rattle.abrlab_top.specs.Ending.{IsWhole, after_halt, after_put, ended}
+use Rattle.abrlab_top.specs.Outcome.{about, answer_by, answer_of, manner_by, manner_in, manner_of, named_by, named_files, outcome, outcome_by}
+use Rattle.abrlab_top.specs.Runs.{Admits, ComesTo, Ends}
+use Rattle.abrlab_top.specs.Stages.{Answers, IsLate, Manner, OutFails, Writes, refusing}
 
 same_written : (w : Option Text) → Grew w [] w
 same_written None = refl
@@ -64,60 +41,160 @@ same_written (Some w) = ap Some (sym (append-nil w))
 pub nothing_written : (old new : Option Text) (said : Text) → new ≡ old → GrewPart old said new
 nothing_written old new said e = ([], said, refl, e ∙ same_written old)
 
--- a command whose files were asked for, and which then wanted memory before it wrote
-pub ends_wanting : (c : CommandWords) (shelf shelf2 : Shelved) (out : Seen) → Asks (files_of c) shelf shelf2 → Ends c shelf out ending.NoMemory shelf2 out
-ends_wanting c shelf shelf2 out asks =
-    (asks_all (files_of c) shelf shelf2 asks, λ h. inl refl, λ files t. nothing_written out.written out.written (outcome_text (Some (answer_of c files))) refl)
+-- what is seen of an option that has nothing, or something
+pub none_there : {A B : Type 0} (f : A → B) (o : Option A) (p : Option B) → o ≡ None → option_map f o ≡ p → p ≡ None
+none_there f o p e h = sym h ∙ ap (option_map f) e
 
--- `simulate` prints what it prints
-pub simulate_printed : (c : CommandWords) (i : InputValues) → simulate c i ≡ printed (simulate c i).text
-unfolding simulate
-simulate_printed c i = refl
+pub some_there : {A B : Type 0} (f : A → B) (o : Option A) (p : Option B) (x : A) → o ≡ Some x → option_map f o ≡ p → p ≡ Some (f x)
+some_there f o p x e h = sym h ∙ ap (option_map f) e
 
--- `simulate` prints the session of the one trace and the one rule
-pub session_printed : (c : CommandWords) (i : InputValues) (periods : List Period) (rule : Text × RuleKind) → i.traces ≡ periods ∷ [] → c.rules ≡ rule ∷ [] → (simulate c i).text ≡ session_text (session_of (case_on c i periods rule.1)) (setup_of c).weights
-unfolding simulate
-session_printed c i periods rule e h = rw (e, h) refl
+-- ---- a command, once its files are read
 
--- a list of one has that one
-pub only : {A : Type 0} (xs : List A) (x : A) → length xs ≡ 1 → x ≡ get_or xs 0 x → xs ≡ x ∷ []
-only [] x l e = absurd (omega arith)
-only (y ∷ []) x l e = ap (λ z. z ∷ []) (sym e)
-only (y ∷ z ∷ xs) x l e = absurd (omega arith)
+-- memory was wanting before anything was written
+pub wanting : (m : Manner) (meant : Outcome) (old : Seen) → Writes m meant old ending.NoMemory old
+wanting m meant old = (λ h. inl refl, nothing_written old.written old.written (text_in meant) refl)
 
--- the one rule can be asked about the film
-pub one_fits : (rules : List NamedRule) (rule : NamedRule) (f : Film) → rules ≡ rule ∷ [] → All (λ kind. KindFits kind f) (map (λ (r : Text × RuleKind). r.1) (map named rules)) → KindFits (spoken rule.rule) f
-one_fits rules rule f e h = let x : All (λ kind. KindFits kind f) (spoken rule.rule ∷ []) = rw e at h in x 0 (spoken rule.rule) (omega arith)
+-- there was nothing to write
+pub nothing_printed : (m : Manner) (meant : Outcome) (old : Seen) → meant ≡ Ok (printed []) → Writes m meant old ending.Done old
+nothing_printed m meant old e = (printed [], e, (refl, same_written old.written))
 
--- the one rule's numbers are within their limits
-pub one_within : (rules : List NamedRule) (rule : NamedRule) → rules ≡ rule ∷ [] → All (λ (r : Text × RuleKind). IsRuleWithin r.1) (map named rules) → IsRuleWithin (spoken rule.rule)
-one_within rules rule e h = let x : All (λ (r : Text × RuleKind). IsRuleWithin r.1) (named rule ∷ []) = rw e at h in x 0 (named rule) (omega arith)
+setting_is : (i : InputValues) (setting : Setting) (why : Stop) → unless_misfit i (Some setting) ≡ Err why → stop.Settings setting ≡ why
+setting_is i setting why e = cc
 
--- a command line of `simulate` names one trace and one rule
-pub counted : (c : CommandWords) → IsWithinLimits c → c.verb ≡ Simulate → (length c.traces ≡ 1) × (length c.rules ≡ 1)
-counted c t v = subst (λ w. AreCounted w (length c.traces) (length c.rules)) v t.counts
+-- a setting that does not fit comes once all files are there
+pub late_setting : (checks : Bool) (i : InputValues) (o : Option Setting) (why : Stop) → unless_misfit i o ≡ Err why → IsLate checks why
+late_setting checks i None why e = cc
+late_setting checks i (Some setting) why e = subst (IsLate checks) (setting_is i setting why e) tt
 
--- the one rule by its list
-pub one_rule : (rules seen : List NamedRule) (rule : NamedRule) → seen ≡ rules → length (map named rules) ≡ 1 → rule ≡ get_or seen 0 rule → rules ≡ rule ∷ []
-one_rule rules seen rule e l h = sym e ∙ only seen rule (ap length e ∙ sym (length-map rules named) ∙ l) h
+-- a setting does not fit
+pub settings_stop : (m : Manner) (i : InputValues) (meant : Outcome) (old : Seen) (why : Stop) → settled i ≡ Err why → meant ≡ Err (ending.Stopped why) → Writes m meant old (ending.Stopped why) old
+settings_stop m i meant old why e h = (late_setting m.checks i (misfit i.setup i.rules i.film) why e, h, refl)
 
--- what was played is what is to be printed
-pub said_is : (c : CommandWords) (i : InputValues) (periods clock : List Period) (rule : Text × RuleKind) (setup : Setup) (seeks : List Seek) (kind : RuleKind) (s : Shown) → i.traces ≡ periods ∷ [] → c.rules ≡ rule ∷ [] → s ≡ session_of (case_of i.film clock setup seeks all_ahead kind)
-    → clock ≡ periods → setup ≡ setup_of c → seeks ≡ i.seeks → kind ≡ rule.1 → (simulate c i).text ≡ session_text s setup.weights
-said_is c i periods clock rule setup seeks kind s traces rules e p q r k =
-    let played =
-    ap (λ (x : Shown). session_text x setup.weights) e
-    ∙ ap (λ (x : List Period). session_text (session_of (case_of i.film x setup seeks all_ahead kind)) setup.weights) p
-    ∙ ap (λ (x : Setup). session_text (session_of (case_of i.film periods x seeks all_ahead kind)) x.weights) q
-    ∙ ap (λ (x : List Seek). session_text (session_of (case_of i.film periods (setup_of c) x all_ahead kind)) (setup_of c).weights) r
-    ∙ ap (λ (x : RuleKind). session_text (session_of (case_of i.film periods (setup_of c) i.seeks all_ahead x)) (setup_of c).weights) k in
-    session_printed c i periods rule traces rules ∙ sym played
+-- what testing the settings gave: a stop, or all fits
+pub unsettled : (i : InputValues) (r : Result (Unit {0}) Stop) (why : Stop) → r ≡ Err why → IsSettled i r → settled i ≡ Err why
+unsettled i r why e h = rw e at h
 
--- the words ask for a command that ended so
-pub ran : (words : List Text) (c : CommandWords) (shelf shelf2 : Shelved) (out out2 : Seen) (e : Ending) → command_of words ≡ Some c → IsWithinLimits c → Ends c shelf out e shelf2 out2 → Ran words shelf out e shelf2 out2
-ran words c shelf shelf2 out out2 ending.Done a t x = record { command = c; asked = a; limits = t; ends = x }
-ran words c shelf shelf2 out out2 ending.Invalid a t x = record { command = c; asked = a; limits = t; ends = x }
-ran words c shelf shelf2 out out2 ending.Usage a t x = absurd x
-ran words c shelf shelf2 out out2 (ending.Stopped why) a t x = record { command = c; asked = a; limits = t; ends = x }
-ran words c shelf shelf2 out out2 ending.OutputFailed a t x = record { command = c; asked = a; limits = t; ends = x }
-ran words c shelf shelf2 out out2 ending.NoMemory a t x = (begins words (rw a refl), inr (record { command = c; asked = a; limits = t; ends = x }))
+pub all_settled : (i : InputValues) (r : Result (Unit {0}) Stop) (u : Unit {0}) → r ≡ Ok u → IsSettled i r → (settled i ≡ Ok i) × Fits i
+all_settled i r u e h = rw e at h
+
+-- the text went out whole
+pub put_done : (m : Manner) (meant : Outcome) (text : Text) (old new : Seen) (r : Result (Unit {0}) PutErr) (u : Unit {0}) → meant ≡ Ok (printed text) → r ≡ Ok u → Puts old text new r → Writes m meant old ending.Done new
+put_done m meant text old new r u e k p = let q : Puts old text new (Ok u) = rw k at p in (printed text, e, (refl, q.answered))
+
+-- it did not
+pub put_failed : (m : Manner) (meant : Outcome) (a : Answer) (old new : Seen) (r : Result (Unit {0}) PutErr) (e : PutErr) → meant ≡ Ok a → IsWhole a.ending → r ≡ Err e → Puts old a.text new r → Writes m meant old (after_put e) new
+put_failed m meant a old new r put.Failed is whole k p = let q : Puts old a.text new (Err put.Failed) = rw k at p in (record { rose = q.answered.1; steady = q.steady }, (a, is, (whole, q.answered.0)))
+put_failed m meant a old new r put.Memory is whole k p = let q : Puts old a.text new (Err put.Memory) = rw k at p in (λ h. inr q.answered.1, rw is q.answered.0)
+
+-- the exit of a `?`
+pub exit : (m : Manner) (meant : Outcome) (old new : Seen) (q : Result (Unit {0}) Ending) (e : Ending) → IsErrAnd q (λ y. y ≡ e) → Writes m meant old e new → Writes m meant old (ended q) new
+exit m meant old new q e k h =
+    let p = err_from_is_err_and q k in
+    subst (λ r. Writes m meant old (ended r) new) (sym p.1) (subst (λ y. Writes m meant old y new) (sym p.2) h)
+
+-- ---- over its files
+
+stops_err : (o : Outcome) (why : Stop) → o ≡ Err (ending.Stopped why) → StopsAt ending.Stopped o why
+stops_err o (stop.File role fault.NotRead) h = tt
+stops_err o (stop.File role fault.TooLong) h = h
+stops_err o (stop.File role (fault.Refused why)) h = h
+stops_err o (stop.Settings setting) h = h
+
+stops_on : (o : Result InputValues Stop) (after : InputValues → Outcome) (why : Stop) → StopsAt (λ s. s) o why → StopsAt ending.Stopped (unless_stopped o >>= after) why
+stops_on o after (stop.File role fault.NotRead) h = tt
+stops_on o after (stop.File role fault.TooLong) h = rw h refl
+stops_on o after (stop.File role (fault.Refused why)) h = rw h refl
+stops_on o after (stop.Settings setting) h = rw h refl
+
+-- the reading of the files did not come to its end
+pub read_halted : (m : Manner) (after : InputValues → Outcome) (c : CommandWords) (old new : Shelved) (out : Seen) (h : Halt) → Comes (film_files c) (λ (i : InputValues). i) (inputs_of c) old (Err h) new → Ends (film_files c) m (about after c) old out (after_halt h) new out
+unfolding about
+read_halted m after c old new out halt.NoMemory x = record { asked = x; leaves = λ h. inl refl; comes = λ files t. nothing_written out.written out.written _ refl }
+read_halted m after c old new out (halt.Stopped why) x = record { asked = x.0; leaves = refl; comes = λ files t. stops_on (inputs_of c files) after why (x.1 files t) }
+
+-- the same at the exit of a `?`
+pub read_failed : (m : Manner) (after : InputValues → Outcome) (c : CommandWords) (old new : Shelved) (out : Seen) (r : Result InputValues Halt) (q : Result (Unit {0}) Ending) (h : Halt)
+    → r ≡ Err h → IsErrAnd q (λ y. y ≡ after_halt h) → Comes (film_files c) (λ (i : InputValues). i) (inputs_of c) old r new → Ends (film_files c) m (about after c) old out (ended q) new out
+read_failed m after c old new out r q h e k x =
+    let p = err_from_is_err_and q k in
+    let xx : Comes (film_files c) (λ (i : InputValues). i) (inputs_of c) old (Err h) new = rw e at x in
+    subst (λ r. Ends (film_files c) m (about after c) old out (ended r) new out) (sym p.1) (subst (λ y. Ends (film_files c) m (about after c) old out y new out) (sym p.2) (read_halted m after c old new out h xx))
+
+-- the certificate is the last file of a command that names one
+certificate_last : (c : CommandWords) → IsSome c.certificate → (before : List NamedFile) × (name : Text) × (film_files c ≡ before ++ (role.Certificate, name) ∷ [])
+certificate_last c some = by_name c.certificate refl some
+  where
+    by_name : (o : Option Text) → c.certificate ≡ o → IsSome o → (before : List NamedFile) × (name : Text) × (film_files c ≡ before ++ (role.Certificate, name) ∷ [])
+    by_name None e h = cc
+    by_name (Some name) e h = (
+      (role.Manifest, c.manifest) ∷ (trace_files c.verb c.traces ++ optional_file role.Seeks c.seeks),
+      name,
+      rw e (ap (λ l. (role.Manifest, c.manifest) ∷ l) (sym (append_assoc (trace_files c.verb c.traces) (optional_file role.Seeks c.seeks) ((role.Certificate, name) ∷ [])))),
+    )
+
+late_asked : (checks : Bool) (c : CommandWords) (why : Stop) (old new : Shelved) → IsLate checks why → (checks ≡ true → IsSome c.certificate) → Asks (film_files c) old new → AsksFor (film_files c) why old new
+late_asked checks c (stop.Settings setting) old new l some asks = asks
+late_asked checks c (stop.File r why) old new l some asks =
+    let last = certificate_last c (some l.0) in
+    let up : AsksUpTo (film_files c) role.Certificate old new = record { before = last.0; name = last.1; later = []; split = last.2; asks = subst (λ named. Asks named old new) last.2 asks } in
+    let at : AsksFor (film_files c) (stop.File role.Certificate (fault.Refused l.2)) old new = up in
+    subst (λ s. AsksFor (film_files c) s old new) (sym (ap (λ q. stop.File q why) l.1 ∙ ap (stop.File role.Certificate) l.3)) at
+
+-- its files were read, and it then answered by its inputs
+pub about_ends : (m : Manner) (after : InputValues → Outcome) (c : CommandWords) (i : InputValues) (old new : Shelved) (out out2 : Seen) (e : Ending) → (m.checks ≡ true → IsSome c.certificate)
+    → Comes (film_files c) (λ (i : InputValues). i) (inputs_of c) old (Ok i) new → Writes m (after i) out e out2 → Ends (film_files c) m (about after c) old out e new out2
+unfolding about
+about_ends m after c i old new out out2 e some read w = by_ending e w
+  where
+    same : (files : Files) → Tells old files → (unless_stopped (inputs_of c files) >>= after) ≡ after i
+    same files t = rw (read.1 files t) refl
+
+    by_ending : (e : Ending) → Writes m (after i) out e out2 → Ends (film_files c) m (λ files. unless_stopped (inputs_of c files) >>= after) old out e new out2
+    by_ending ending.Done w = record { asked = read.0; leaves = tt; comes = λ files t. subst (λ o. ComesTo o ending.Done out out2) (sym (same files t)) w }
+    by_ending ending.Invalid w = record { asked = read.0; leaves = w.0; comes = λ files t. subst (λ o. ComesTo o ending.Invalid out out2) (sym (same files t)) w.1 }
+    by_ending ending.Usage w = absurd w
+    by_ending (ending.Stopped why) w = record { asked = late_asked m.checks c why old new w.0 some read.0; leaves = w.2; comes = λ files t. stops_err (unless_stopped (inputs_of c files) >>= after) why (same files t ∙ w.1) }
+    by_ending (ending.Spent segment) w = record { asked = read.0; leaves = w.1; comes = λ files t. same files t ∙ w.0 }
+    by_ending ending.OutputFailed w = record { asked = read.0; leaves = w.0; comes = λ files t. subst (λ o. ComesTo o ending.OutputFailed out out2) (sym (same files t)) w.1 }
+    by_ending ending.NoMemory w = record { asked = asks_all (film_files c) old new read.0; leaves = w.0; comes = λ files t. subst (λ o. ComesTo o ending.NoMemory out out2) (sym (same files t)) w.1 }
+
+-- a command that names no file, and answers with a text
+pub alone_ends : (m : Manner) (text : Text) (shelf : Shelved) (out out2 : Seen) (e : Ending) → Writes m (Ok (printed text)) out e out2 → Ends [] m (λ files. Ok (printed text)) shelf out e shelf out2
+alone_ends m text shelf out out2 ending.Done w = record { asked = asks_none shelf; leaves = tt; comes = λ files t. w }
+alone_ends m text shelf out out2 ending.Invalid w = record { asked = asks_none shelf; leaves = w.0; comes = λ files t. w.1 }
+alone_ends m text shelf out out2 ending.Usage w = absurd w
+alone_ends m text shelf out out2 (ending.Stopped why) w = let h = w.1 in cc
+alone_ends m text shelf out out2 (ending.Spent segment) w = let h = w.0 in cc
+alone_ends m text shelf out out2 ending.OutputFailed w = record { asked = asks_none shelf; leaves = w.0; comes = λ files t. w.1 }
+alone_ends m text shelf out out2 ending.NoMemory w = record { asked = asks_all [] shelf shelf (asks_none shelf); leaves = w.0; comes = λ files t. w.1 }
+
+-- ---- words
+
+-- how a command ended, by its verb
+pub ends_by : (v : Verb) (c : CommandWords) (shelf : Shelved) (out : Seen) (e : Ending) (shelf2 : Shelved) (out2 : Seen) → c.verb ≡ v → Ends (files_by v c) (manner_by v) (answer_by v c) shelf out e shelf2 out2 → Ends (files_of c) (manner_of c) (answer_of c) shelf out e shelf2 out2
+ends_by v c shelf out e shelf2 out2 h x = subst (λ w. Ends (files_by w c) (manner_by w) (answer_by w c) shelf out e shelf2 out2) (sym h) x
+
+-- words that ask for a command end as it does
+pub command_ends : (line : List Text) (c : CommandWords) (shelf : Shelved) (out : Seen) (e : Ending) (shelf2 : Shelved) (out2 : Seen) → command_of line ≡ Some c → Ends (files_of c) (manner_of c) (answer_of c) shelf out e shelf2 out2
+    → Admits line (command_of line) e × Ends (named_files line) (manner_in (command_of line)) (outcome line) shelf out e shelf2 out2
+command_ends line c shelf out e shelf2 out2 h x = subst (λ o. Admits line o e × Ends (named_by o) (manner_in o) (outcome_by o) shelf out e shelf2 out2) (sym h) (tt, x)
+
+-- refused words
+pub usage_ends : (line : List Text) (shelf : Shelved) (out : Seen) → command_of line ≡ None → Admits line (command_of line) ending.Usage × Ends (named_files line) (manner_in (command_of line)) (outcome line) shelf out ending.Usage shelf out
+usage_ends line shelf out h =
+    subst (λ o. Admits line o ending.Usage × Ends (named_by o) (manner_in o) (outcome_by o) shelf out ending.Usage shelf out) (sym h) (inl refl, record { asked = refl; leaves = (refl, refl); comes = λ files t. refl })
+
+admits_wanting : (line : List Text) (o : Option CommandWords) → begins_with_verb line ≡ true → Admits line o ending.NoMemory
+admits_wanting line None b = inr (refl, b)
+admits_wanting line (Some c) b = tt
+
+-- words whose reading wanted memory
+pub wanting_ends : (line : List Text) (shelf : Shelved) (out : Seen) → begins_with_verb line ≡ true → Admits line (command_of line) ending.NoMemory × Ends (named_files line) (manner_in (command_of line)) (outcome line) shelf out ending.NoMemory shelf out
+wanting_ends line shelf out b = (
+  admits_wanting line (command_of line) b,
+  record {
+    asked = record { asked = []; later = named_files line; split = refl; asks = asks_none shelf };
+    leaves = λ h. inl refl;
+    comes = λ files t. nothing_written out.written out.written (text_in (outcome line files)) refl;
+  },
+)

@@ -7,7 +7,6 @@ use Rattle.lab_words.specs.declared.WordsErr.{WordsErr}
 use Rattle.lab_words.specs.declared.WordsErr.TheVariants as words_err
 use Rattle.lab_words.specs.Command.{CommandWords}
 use Rattle.lab_words.specs.Words.{asked_of, begins_with_verb, command_of, has_dashes, verb_of}
-use Rattle.abrlab_top.specs.Outcome.{AreTaken}
 
 some_verb : (dashes : Bool) (v : Option Verb) (f : Verb → Option CommandWords) → IsSome (if dashes then None else option_and_then f v) → is_some v ≡ true
 some_verb true v f e = cc
@@ -15,7 +14,7 @@ some_verb false None f e = cc
 some_verb false (Some v) f e = refl
 
 -- words that ask for a command begin with one
-pub begins : (words : List Text) → AreTaken words → begins_with_verb words ≡ true
+pub begins : (words : List Text) → IsSome (command_of words) → begins_with_verb words ≡ true
 unfolding command_of
 begins [] e = cc
 begins (word ∷ words) e = some_verb (has_dashes words) (verb_of word) (λ verb. asked_of verb words) e

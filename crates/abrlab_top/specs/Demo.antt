@@ -1,12 +1,11 @@
 -- What `demo` answers: five rules on the made case of a number, its plan, and the verdict on the plan's certificate.
-use Rattle.std.specs.Prelude.{ℕ, ℤ, List, [], ◌∷◌, ◌++◌, codes}
+use Rattle.std.specs.Prelude.{ℕ, ℤ, List, [], ◌∷◌, ◌++◌, Ok, codes}
 use Rattle.std.specs.List.{flat_map}
 use Rattle.std.specs.Fmt.{decimal, signed_decimal}
 use Rattle.lab_io.specs.Piece.{fields_line}
 use Rattle.lab_io.specs.Sink.{Text}
 use Rattle.lab_model.specs.declared.trace.Period.{Period}
 use Rattle.lab_model.specs.Rules.{RuleKind, bola, fixed, mpc, throughput}
-use Rattle.lab_words.specs.Command.{CommandWords}
 use Rattle.player_core.specs.Available.{all_ahead}
 use Rattle.labels.specs.Frontier.{frontier}
 use Rattle.player_core.specs.Scene.{Task, task_of}
@@ -14,7 +13,7 @@ use Rattle.labels.specs.Read.{SpentAt}
 use Rattle.demo_case.specs.declared.case.DemoCase.{DemoCase}
 use Rattle.demo_case.specs.Case.{demo_film, demo_periods, demo_setup, demo_task}
 use Rattle.demo_case.specs.Laws.{demo_budget}
-use Rattle.abrlab_top.specs.Answer.{Answer, printed}
+use Rattle.abrlab_top.specs.Answer.{Outcome, printed}
 use Rattle.abrlab_top.specs.Plan.{certificate_on, labels_on}
 use Rattle.abrlab_top.specs.Rows.{BenchValue, row_of}
 
@@ -48,9 +47,9 @@ plan_report g = demo_plan (certificate_on g).score (labels_on g) ++ fields_line 
 unfoldable pub demo_text : ℕ → Text
 demo_text n = demo_line n ++ (flat_map (row_of (demo_bench n)) demo_rules ++ plan_report (demo_task n))
 
--- what `demo` answers, by its words
-abbrev pub demo : CommandWords → Answer
-demo c = printed (demo_text c.number)
+-- what `demo` answers, by its number
+abbrev pub demo : ℕ → Outcome
+demo number = Ok (printed (demo_text number))
 
 -- ---- cases
 

@@ -1,120 +1,88 @@
--- What a run comes to, by its words and its files: its status, its text and its note.
-use Rattle.std.specs.Prelude.{◌≡◌, ◌⊎◌, ℕ, Bool, true, false, List, [], Option, Some, None, option_map, Result, Ok, Err, IsSome}
+-- What a run comes to, by its words and its files.
+use Rattle.std.specs.Prelude.{ℕ, List, [], Option, Some, None, Ok, Err}
 use Rattle.lab_io.specs.Sink.{Text}
 use Rattle.lab_words.specs.declared.Verb.{Verb}
 use Rattle.lab_words.specs.declared.Verb.TheVariants as verb
 use Rattle.lab_words.specs.Command.{CommandWords}
 use Rattle.lab_words.specs.Words.{command_of}
-use Rattle.lab_inputs.specs.declared.stop.FileFault.{FileFault}
-use Rattle.lab_inputs.specs.declared.stop.FileFault.TheVariants as fault
-use Rattle.lab_inputs.specs.declared.stop.Stop.{Stop}
-use Rattle.lab_inputs.specs.declared.stop.Stop.TheVariants as stop
-use Rattle.lab_inputs.specs.Files.{Files, NamedFile, files_of}
-use Rattle.lab_inputs.specs.Inputs.{◌>>=◌}
-use Rattle.lab_inputs.specs.Notes.{stop_note, usage_note}
-use Rattle.lab_inputs.specs.Settings.{ready_of}
-use Rattle.abrlab_top.specs.Answer.{Answer}
-use Rattle.abrlab_top.specs.Simulate.{simulate}
-use Rattle.abrlab_top.specs.Compare.{compare}
-use Rattle.abrlab_top.specs.Plan.{plan}
+use Rattle.lab_inputs.specs.Files.{◌>>=◌, Files}
+use Rattle.lab_inputs.specs.Inputs.{InputValues, inputs_of}
+use Rattle.lab_inputs.specs.Roles.{NamedFile, files_of}
+use Rattle.abrlab_top.specs.declared.ending.Ending.TheVariants as ending
+use Rattle.abrlab_top.specs.Answer.{Outcome, ending_in, text_in, unless_stopped}
 use Rattle.abrlab_top.specs.Check.{check}
+use Rattle.abrlab_top.specs.Compare.{compare}
 use Rattle.abrlab_top.specs.Demo.{demo}
+use Rattle.abrlab_top.specs.Ending.{note_of, status_of}
+use Rattle.abrlab_top.specs.Plan.{plan}
+use Rattle.abrlab_top.specs.Simulate.{simulate}
+use Rattle.abrlab_top.specs.Stages.{Manner, at_the_end, of_a_check, refusing, row_by_row}
 
--- ---- the words
+-- ---- a command
 
--- the words ask for a command
-abbrev pub AreTaken : List Text → Type 0
-AreTaken words = IsSome (command_of words)
+-- what a command on a film comes to: its files are read, and then it answers by its inputs
+unfoldable pub about : (InputValues → Outcome) → CommandWords → Files → Outcome
+about answer c files = do
+  inputs ← unless_stopped (inputs_of c files)
+  answer inputs
 
--- the files that a command names, if there is one
-abbrev pub files_asked : Option CommandWords → List NamedFile
-files_asked None = []
-files_asked (Some c) = files_of c
+-- what each command comes to
+abbrev pub answer_by : Verb → CommandWords → Files → Outcome
+answer_by verb.Simulate c files = about simulate c files
+answer_by verb.Compare c files = about compare c files
+answer_by verb.Plan c files = about (plan c.budget c.as_certificate) c files
+answer_by verb.Check c files = about check c files
+answer_by verb.Demo c files = demo c.number
+
+-- what a command comes to
+abbrev pub answer_of : CommandWords → Files → Outcome
+answer_of c = answer_by c.verb c
+
+-- the manner of each command
+abbrev pub manner_by : Verb → Manner
+manner_by verb.Simulate = at_the_end
+manner_by verb.Compare = row_by_row
+manner_by verb.Plan = at_the_end
+manner_by verb.Check = of_a_check
+manner_by verb.Demo = row_by_row
+
+-- the same by all that a command asks for
+abbrev pub manner_of : CommandWords → Manner
+manner_of c = manner_by c.verb
+
+-- ---- the whole: words that are refused name no file, and are usage
+
+-- the files that words name, in the order of refusals
+abbrev pub named_by : Option CommandWords → List NamedFile
+named_by None = []
+named_by (Some c) = files_of c
+
+-- their manner
+abbrev pub manner_in : Option CommandWords → Manner
+manner_in None = refusing
+manner_in (Some c) = manner_of c
+
+-- what they come to
+abbrev pub outcome_by : Option CommandWords → Files → Outcome
+outcome_by None files = Err ending.Usage
+outcome_by (Some c) files = answer_of c files
 
 -- the files that the words name, in the order of refusals
 abbrev pub named_files : List Text → List NamedFile
-named_files words = files_asked (command_of words)
-
--- ---- the commands
-
--- what each command answers, or the stop that comes first
-abbrev pub answer_by : Verb → CommandWords → Files → Result Answer Stop
-answer_by verb.Simulate c files = do
-  inputs ← ready_of c files
-  Ok (simulate c inputs)
-answer_by verb.Compare c files = do
-  inputs ← ready_of c files
-  Ok (compare c inputs)
-answer_by verb.Plan c files = do
-  inputs ← ready_of c files
-  plan c inputs
-answer_by verb.Check c files = check c files
-answer_by verb.Demo c files = Ok (demo c)
-
--- what a command answers, or the stop that comes first
-abbrev pub answer_of : CommandWords → Files → Result Answer Stop
-answer_of c = answer_by c.verb c
-
--- whether a command writes a row as soon as it has it, and not all at the end
-abbrev pub writes_between : Verb → Bool
-writes_between verb.Simulate = false
-writes_between verb.Compare = true
-writes_between verb.Plan = false
-writes_between verb.Check = false
-writes_between verb.Demo = true
-
--- ---- the whole
-
--- the outcome of words and files: none where the words are refused, else an answer or the stop that comes first
-abbrev pub Outcome : Type 0
-Outcome = Option (Result Answer Stop)
+named_files words = named_by (command_of words)
 
 -- the outcome of words and files
-unfoldable pub outcome : List Text → Files → Outcome
-outcome words files = option_map (λ c. answer_of c files) (command_of words)
-
--- the status where something is wrong with a file
-abbrev pub fault_status : FileFault → ℕ
-fault_status fault.NotRead = 4
-fault_status fault.TooLong = 3
-fault_status (fault.Refused why) = 3
-
--- the status of a command that writes a text: 0, or 1 where it says that a certificate isn't valid
-abbrev pub IsWritten : ℕ → Type 0
-IsWritten status = (status ≡ 0) ⊎ (status ≡ 1)
-
--- the status of a command that stops before it writes
-abbrev pub stop_status : Stop → ℕ
-stop_status (stop.File role why) = fault_status why
-stop_status (stop.Settings setting) = 3
-stop_status (stop.Budget segment) = 6
-
--- the status of an outcome
-abbrev pub outcome_status : Outcome → ℕ
-outcome_status None = 2
-outcome_status (Some (Ok a)) = a.status
-outcome_status (Some (Err why)) = stop_status why
-
--- the text of an outcome
-abbrev pub outcome_text : Outcome → Text
-outcome_text None = []
-outcome_text (Some (Ok a)) = a.text
-outcome_text (Some (Err why)) = []
-
--- the note of an outcome
-abbrev pub outcome_note : Outcome → Text
-outcome_note None = usage_note
-outcome_note (Some (Ok a)) = []
-outcome_note (Some (Err why)) = stop_note why
+abbrev pub outcome : List Text → Files → Outcome
+outcome words files = outcome_by (command_of words) files
 
 -- the status that words and files ask for
 abbrev pub status : List Text → Files → ℕ
-status words files = outcome_status (outcome words files)
+status words files = status_of (ending_in (outcome words files))
 
 -- what words and files ask to print on `out`
 abbrev pub text : List Text → Files → Text
-text words files = outcome_text (outcome words files)
+text words files = text_in (outcome words files)
 
 -- what words and files ask to print on `err`
 abbrev pub note : List Text → Files → Text
-note words files = outcome_note (outcome words files)
+note words files = note_of (ending_in (outcome words files))

@@ -1,29 +1,31 @@
 //! `check`: the verdict on anybody's certificate.
 
-ghost use Rattle.std.specs.Prelude.{◌≡◌, None, Some, Ok, Err, length, vec_len};
+ghost use Rattle.std.specs.Prelude.{◌≡◌, List, Some, Ok, Err};
+ghost use Rattle.std.specs.List.{slice_get};
 ghost use Rattle.lab_io.specs.Piece.{fields_line};
-ghost use Rattle.lab_io.specs.Sink.{Puts};
-ghost use Rattle.lab_words.specs.declared.Verb.TheVariants.{Check};
-ghost use Rattle.lab_words.specs.Command.{CommandWords, view};
+ghost use Rattle.lab_io.specs.Sink.{Puts, Text};
+ghost use Rattle.lab_model.specs.declared.trace.Period.{Period};
+ghost use Rattle.lab_words.specs.declared.Verb.TheVariants as verb;
+ghost use Rattle.lab_words.specs.Command.{view};
 ghost use Rattle.lab_words.specs.Limits.{IsWithinLimits};
-ghost use Rattle.lab_inputs.specs.Files.{files_of};
 ghost use Rattle.lab_inputs.specs.Inputs.{InputValues};
-ghost use Rattle.lab_inputs.specs.Settings.{misfit_of, setup_of};
-ghost use Rattle.lab_inputs.specs.Stages.{Comes, IsSound, values_of};
-ghost use Rattle.lab_model.specs.Fit.{SetupFits};
+ghost use Rattle.lab_inputs.specs.Roles.{film_files};
+ghost use Rattle.lab_inputs.specs.Settings.{Fits, settled};
+ghost use Rattle.lab_inputs.specs.Stages.{network_of};
 ghost use Rattle.certificate_text.specs.Walk.{IsBegun, begun};
-ghost use Rattle.abrlab_top.specs.Check.{check, place_fields, verdict_text};
-ghost use Rattle.abrlab_top.specs.Stages.{Ends, Judges, bad_line, judged, verdict_ending};
+ghost use Rattle.abrlab_top.specs.Check.{check, place_fields, verdict_ending, verdict_text};
+ghost use Rattle.abrlab_top.specs.Ending.{ended};
+ghost use Rattle.abrlab_top.specs.Outcome.{about};
+ghost use Rattle.abrlab_top.specs.Runs.{Ends};
+ghost use Rattle.abrlab_top.specs.Stages.{Judges, Writes, bad_line, of_a_check};
 
-use crate::ending::ending_of;
+use crate::ending::Ending;
 use certificate_check::{Verdict, check_lines};
 use certificate_text::Lines;
-use lab_inputs::{
-    Ending, FileFault, Halt, Inputs, Role, Setting, Settings, Stop, read_inputs, settings_on,
-};
+use lab_inputs::{FileFault, Inputs, Network, Role, Stop, read_inputs};
 use lab_io::Piece::{Number, Word};
 use lab_io::{PutErr, Shelf, Sink, put_fields, put_text};
-use lab_model::{InputFault, Setup};
+use lab_model::InputFault;
 use lab_words::Command;
 use network_clock::Clock;
 use std::alloc::Global;
@@ -36,86 +38,64 @@ pub(crate) struct Judgement {
     pub verdict: Verdict,
 }
 
-/// Why a fault of the certificate ends the command.
-fn bad_line(fault: InputFault) -> Halt
+/// How a fault of the certificate ends the command.
+fn bad_line(fault: InputFault) -> Ending
     ensures { result ≡ bad_line fault }
 {
     match fault {
-        InputFault::Memory => Halt::NoMemory,
+        InputFault::Memory => Ending::NoMemory,
         InputFault::Refused(why) => {
-            Halt::Stopped(Stop::File(Role::Certificate, FileFault::Refused(why)))
+            Ending::Stopped(Stop::File(Role::Certificate, FileFault::Refused(why)))
         }
     }
 }
 
-/// The verdict of lines that have just begun, on the one trace.
+/// The verdict of lines that have just begun, on this network.
 fn judge_lines(
     alloc: Global,
     inputs: &Inputs,
-    setup: &Setup,
+    network: &Network,
     lines: Lines<'_>,
-) -> Result<Judgement, Halt>
-    requires traces { vec_len inputs.now.traces ≡ 1 }
-    requires setup { SetupFits setup.now inputs.now.manifest }
+) -> Result<Judgement, Ending>
+    requires network { slice_get inputs.now.networks 0 ≡ Some (network_of network.now) }
+    requires settled { settled inputs.now ≡ Ok inputs.now }
+    requires fits { Fits inputs.now }
     requires lines { IsBegun lines }
-    // It is what a command with this setup judges whose settings fit.
-    ensures { (c : CommandWords) → setup.now ≡ setup_of c
-        → misfit_of c inputs.now.manifest ≡ None
-        → begun inputs.now.certificate.items ≡ Ok lines.entry
-        → Judges c (values_of inputs.now) result }
+    requires certificate { begun inputs.now.certificate ≡ Ok lines }
+    ensures { Judges inputs.now result }
 {
-    let [trace] = inputs.traces.as_slice() else {
-        unreachable!()
-    };
-    let Ok(clock) = Clock::new(alloc, trace) else {
-        return Err(Halt::NoMemory);
-    };
+    let clock = Clock::new(alloc, &network.trace)?;
     let score = lines.score();
-    match check_lines(&inputs.manifest, &clock, setup, lines) {
+    match check_lines(inputs.manifest(), &clock, inputs.setup(), lines) {
         Ok(verdict) => Ok(Judgement { score, verdict }),
         Err(fault) => Err(bad_line(fault)),
     }
 }
 
-/// Why a setting that does not fit ends the command: a bad line of the certificate comes first.
-fn misfit_behind(lines: Lines<'_>, setting: Setting) -> Halt
-    ensures { (c : CommandWords) → (i : InputValues) → misfit_of c i.film ≡ Some setting
-        → begun i.certificate ≡ Ok lines.entry → Judges c i (Err result) }
+/// How a setting that does not fit ends the command: a bad line of the certificate comes first.
+fn misfit_behind(lines: Lines<'_>, why: Stop) -> Ending
+    ensures { (i : InputValues) → (n : Text × List Period) → slice_get i.networks 0 ≡ Some n
+        → settled i ≡ Err why → begun i.certificate ≡ Ok lines.entry → Judges i (Err result) }
 {
     match lines.read_rest() {
-        Ok(()) => Halt::Stopped(Stop::Settings(setting)),
+        Ok(()) => Ending::Stopped(why),
         Err(fault) => bad_line(fault),
     }
 }
 
-/// What the files and settings of a command come to.
-fn judge_inputs(alloc: Global, command: &Command, inputs: &Inputs) -> Result<Judgement, Halt>
-    requires limits { IsWithinLimits (view command.now) }
-    requires verb { (view command.now).verb ≡ Check }
-    requires sound { IsSound inputs.now }
-    requires traces { vec_len inputs.now.traces ≡ length (view command.now).traces }
-    ensures { Judges (view command.now) (values_of inputs.now) result }
+/// The verdict on the certificate, on this network.
+fn judge(alloc: Global, inputs: &Inputs, network: &Network) -> Result<Judgement, Ending>
+    requires network { slice_get inputs.now.networks 0 ≡ Some (network_of network.now) }
+    ensures { Judges inputs.now result }
 {
-    let Settings { setup, misfit } = settings_on(alloc, command, &inputs.manifest)?;
-    let lines = match Lines::begin(alloc, &inputs.certificate) {
+    let lines = match Lines::begin(alloc, inputs.certificate()) {
         Ok(lines) => lines,
         Err(fault) => return Err(bad_line(fault)),
     };
-    match misfit {
-        Some(setting) => Err(misfit_behind(lines, setting)),
-        None => judge_lines(alloc, inputs, &setup, lines),
+    match inputs.fit() {
+        Ok(()) => judge_lines(alloc, inputs, network, lines),
+        Err(stop) => Err(misfit_behind(lines, stop)),
     }
-}
-
-/// The verdict on the certificate that the files of a command hold.
-fn judge_files<F: Shelf>(alloc: Global, command: &Command, shelf: &mut F) -> Result<Judgement, Halt>
-    requires limits { IsWithinLimits (view command.now) }
-    requires verb { (view command.now).verb ≡ Check }
-    ensures { Comes (files_of (view command.now)) judged (check (view command.now))
-        (F.shelved shelf.old) result (F.shelved shelf.new) }
-{
-    let inputs = read_inputs(alloc, shelf, command)?;
-    judge_inputs(alloc, command, &inputs)
 }
 
 /// Says a clause by its number, and a place where it fails.
@@ -161,31 +141,42 @@ fn put_judgement<O: Sink>(out: &mut O, said: Judgement) -> Result<(), PutErr>
     }
 }
 
-/// How a command ends whose text says this verdict.
-fn verdict_ending(verdict: Verdict) -> Ending
-    ensures { result ≡ verdict_ending verdict }
+/// That the verdict is yes, or the ending of a run that says no.
+fn verdict_end(verdict: Verdict) -> Result<(), Ending>
+    ensures { ended result ≡ verdict_ending verdict }
 {
     match verdict {
-        Verdict::Yes => Ending::Done,
-        Verdict::No { .. } => Ending::Invalid,
+        Verdict::Yes => Ok(()),
+        Verdict::No { .. } => Err(Ending::Invalid),
     }
+}
+
+/// Checks the certificate and writes the verdict.
+fn write_verdict<O: Sink>(alloc: Global, inputs: &Inputs, out: &mut O) -> Result<(), Ending>
+    ensures { Writes of_a_check (check inputs.now)
+        (O.seen out.old) (ended result) (O.seen out.new) }
+{
+    let Some(network) = inputs.network() else {
+        return Ok(());
+    };
+    let said = judge(alloc, inputs, network)?;
+    put_judgement(out, said)?;
+    verdict_end(said.verdict)
 }
 
 /// Reads the files, checks the certificate and writes the verdict.
 pub(crate) fn check<F: Shelf, O: Sink>(
     alloc: Global,
-    command: &Command,
+    command: Command,
     shelf: &mut F,
     out: &mut O,
-) -> Ending
-    requires limits { IsWithinLimits (view command.now) }
-    requires verb { (view command.now).verb ≡ Check }
-    ensures { Ends (view command.now) (F.shelved shelf.old) (O.seen out.old) result
+) -> Result<(), Ending>
+    requires limits { IsWithinLimits (view command) }
+    requires verb { (view command).verb ≡ verb.Check }
+    ensures { Ends (film_files (view command)) of_a_check (about check (view command))
+        (F.shelved shelf.old) (O.seen out.old) (ended result)
         (F.shelved shelf.new) (O.seen out.new) }
 {
-    match judge_files(alloc, command, shelf) {
-        Ok(said) => ending_of(verdict_ending(said.verdict), put_judgement(out, said)),
-        Err(Halt::Stopped(stop)) => Ending::Stopped(stop),
-        Err(Halt::NoMemory) => Ending::NoMemory,
-    }
+    let inputs = read_inputs(alloc, shelf, command)?;
+    write_verdict(alloc, &inputs, out)
 }

@@ -1,16 +1,20 @@
 //! The command that the words ask for, and what became of it.
 
-ghost use Rattle.std.specs.Prelude.{map, string_bytes};
+ghost use Rattle.std.specs.Prelude.{◌≡◌, map, string_bytes};
 ghost use Rattle.lab_words.specs.Command.{view};
 ghost use Rattle.lab_words.specs.Limits.{IsWithinLimits};
-ghost use Rattle.abrlab_top.specs.Stages.{Ends, Ran};
+ghost use Rattle.lab_words.specs.Words.{command_of};
+ghost use Rattle.lab_inputs.specs.Roles.{files_of};
+ghost use Rattle.abrlab_top.specs.Ending.{ended};
+ghost use Rattle.abrlab_top.specs.Outcome.{answer_of, manner_in, manner_of, named_files, outcome};
+ghost use Rattle.abrlab_top.specs.Runs.{Admits, Ends};
 
 use crate::check::check;
 use crate::compare::compare;
 use crate::demo::demo;
+use crate::ending::Ending;
 use crate::plan::plan;
 use crate::simulate::simulate;
-use lab_inputs::Ending;
 use lab_io::{Shelf, Sink};
 use lab_words::{Command, Verb, WordsErr, read_words};
 use std::alloc::Global;
@@ -18,12 +22,13 @@ use std::alloc::Global;
 /// Reads what a command needs, and writes what it answers.
 fn answer_command<F: Shelf, O: Sink>(
     alloc: Global,
-    command: &Command,
+    command: Command,
     shelf: &mut F,
     out: &mut O,
-) -> Ending
-    requires limits { IsWithinLimits (view command.now) }
-    ensures { Ends (view command.now) (F.shelved shelf.old) (O.seen out.old) result
+) -> Result<(), Ending>
+    requires limits { IsWithinLimits (view command) }
+    ensures { Ends (files_of (view command)) (manner_of (view command)) (answer_of (view command))
+        (F.shelved shelf.old) (O.seen out.old) (ended result)
         (F.shelved shelf.new) (O.seen out.new) }
 {
     match command.verb {
@@ -31,7 +36,17 @@ fn answer_command<F: Shelf, O: Sink>(
         Verb::Compare => compare(alloc, command, shelf, out),
         Verb::Plan => plan(alloc, command, shelf, out),
         Verb::Check => check(alloc, command, shelf, out),
-        Verb::Demo => demo(alloc, command, out),
+        Verb::Demo => demo(alloc, command.number, out),
+    }
+}
+
+/// How a command ended.
+fn ending_of(came: Result<(), Ending>) -> Ending
+    ensures { result ≡ ended came }
+{
+    match came {
+        Ok(()) => Ending::Done,
+        Err(ending) => ending,
     }
 }
 
@@ -42,11 +57,14 @@ pub(crate) fn run_command<F: Shelf, O: Sink>(
     shelf: &mut F,
     out: &mut O,
 ) -> Ending
-    ensures { Ran (map string_bytes words.now) (F.shelved shelf.old) (O.seen out.old) result
-        (F.shelved shelf.new) (O.seen out.new) }
+    ensures words { Admits (map string_bytes words.now)
+        (command_of (map string_bytes words.now)) result }
+    ensures ends { Ends (named_files (map string_bytes words.now))
+        (manner_in (command_of (map string_bytes words.now))) (outcome (map string_bytes words.now))
+        (F.shelved shelf.old) (O.seen out.old) result (F.shelved shelf.new) (O.seen out.new) }
 {
     match read_words(alloc, words) {
-        Ok(command) => answer_command(alloc, &command, shelf, out),
+        Ok(command) => ending_of(answer_command(alloc, command, shelf, out)),
         Err(WordsErr::Usage) => Ending::Usage,
         Err(WordsErr::Memory) => Ending::NoMemory,
     }

@@ -1,81 +1,86 @@
-//! `compare`: rules side by side on traces.
+//! `compare`: rules side by side on networks.
 
-ghost use Rattle.std.specs.Prelude.{◌≡◌, ◌<◌, length, string_bytes, map};
-ghost use Rattle.lab_words.specs.declared.Verb.TheVariants.{Compare};
+ghost use Rattle.std.specs.Prelude.{map};
+ghost use Rattle.std.specs.List.{flat_map};
 ghost use Rattle.lab_words.specs.Command.{view};
-ghost use Rattle.lab_words.specs.Limits.{IsWithinLimits};
-ghost use Rattle.lab_inputs.specs.Stages.{IsReady, values_of};
-ghost use Rattle.abrlab_top.specs.Compare.{compare, trace_rows};
-ghost use Rattle.abrlab_top.specs.Stages.{Ends, WritesRows};
+ghost use Rattle.lab_words.specs.Limits.{HasFilm, IsWithinLimits};
+ghost use Rattle.lab_inputs.specs.Roles.{film_files};
+ghost use Rattle.lab_inputs.specs.Settings.{Fits};
+ghost use Rattle.lab_inputs.specs.Stages.{network_of};
+ghost use Rattle.abrlab_top.specs.Compare.{compare, network_rows};
+ghost use Rattle.abrlab_top.specs.Ending.{ended};
+ghost use Rattle.abrlab_top.specs.Outcome.{about};
+ghost use Rattle.abrlab_top.specs.Runs.{Ends};
+ghost use Rattle.abrlab_top.specs.Stages.{Writes, WritesRows, row_by_row};
 
-use crate::ending::ending_of;
+use crate::ending::Ending;
 use crate::row::Bench;
-use lab_inputs::{Ending, Halt, Ready, prepare};
+use lab_inputs::{Inputs, Network, read_inputs};
 use lab_io::Piece::Word;
 use lab_io::{PutErr, Shelf, Sink, put_fields};
-use lab_model::Trace;
 use lab_words::Command;
 use network_clock::Clock;
 use std::alloc::Global;
 
-/// Writes the line of a trace, and a row for each rule on it.
-fn write_trace<O: Sink>(
+/// Writes the line of a network, and a row for each rule on it.
+fn write_network<O: Sink>(
     alloc: Global,
-    command: &Command,
-    ready: &Ready,
-    name: &str,
-    trace: &Trace,
+    inputs: &Inputs,
+    network: &Network,
     out: &mut O,
 ) -> Result<(), PutErr>
-    requires limits { IsWithinLimits (view command.now) }
-    requires ready { IsReady (view command.now) ready.now }
-    ensures { WritesRows (O.seen out.old)
-        (trace_rows (view command.now) (values_of ready.now.inputs) name.now trace.now)
+    requires fits { Fits inputs.now }
+    ensures { WritesRows (O.seen out.old) (network_rows inputs.now (network_of network.now))
         result (O.seen out.new) }
 {
-    put_fields(out, &[Word("trace"), Word(name)])?;
-    let Ok(clock) = Clock::new(alloc, trace) else {
+    put_fields(out, &[Word("trace"), Word(&network.name)])?;
+    let Ok(clock) = Clock::new(alloc, &network.trace) else {
         return Err(PutErr::Memory);
     };
-    let Ready { inputs, setup } = ready;
-    let bench = Bench::new(&inputs.manifest, &clock, setup, &inputs.seeks);
-    bench.write_rows(alloc, &command.rules, out)
+    let bench = Bench::new(inputs.manifest(), &clock, inputs.setup(), inputs.seeks());
+    bench.write_rows(alloc, inputs.rules(), out)
 }
 
-/// Writes each trace with its rows, in order.
-fn write_comparison<O: Sink>(
+/// Writes each network with its rows, in order.
+fn write_networks<O: Sink>(
     alloc: Global,
-    command: &Command,
-    ready: &Ready,
+    inputs: &Inputs,
+    networks: &[Network],
     out: &mut O,
 ) -> Result<(), PutErr>
-    requires limits { IsWithinLimits (view command.now) }
-    requires ready { IsReady (view command.now) ready.now }
+    requires fits { Fits inputs.now }
     ensures { WritesRows (O.seen out.old)
-        (compare (view command.now) (values_of ready.now.inputs)).text
+        (flat_map (network_rows inputs.now) (map network_of networks.now))
         result (O.seen out.new) }
 {
-    for (place, trace) in ready.inputs.traces.iter().enumerate() {
-        write_trace(alloc, command, ready, &command.traces[place], trace, out)?;
+    for network in networks {
+        write_network(alloc, inputs, network, out)?;
     }
     Ok(())
+}
+
+/// Plays each session right before its row is written.
+fn write_comparison<O: Sink>(alloc: Global, inputs: &Inputs, out: &mut O) -> Result<(), Ending>
+    ensures { Writes row_by_row (compare inputs.now)
+        (O.seen out.old) (ended result) (O.seen out.new) }
+{
+    inputs.fit()?;
+    Ok(write_networks(alloc, inputs, inputs.networks(), out)?)
 }
 
 /// Reads the files, and plays each session right before its row is written.
 pub(crate) fn compare<F: Shelf, O: Sink>(
     alloc: Global,
-    command: &Command,
+    command: Command,
     shelf: &mut F,
     out: &mut O,
-) -> Ending
-    requires limits { IsWithinLimits (view command.now) }
-    requires verb { (view command.now).verb ≡ Compare }
-    ensures { Ends (view command.now) (F.shelved shelf.old) (O.seen out.old) result
+) -> Result<(), Ending>
+    requires limits { IsWithinLimits (view command) }
+    requires film { HasFilm (view command).verb }
+    ensures { Ends (film_files (view command)) row_by_row (about compare (view command))
+        (F.shelved shelf.old) (O.seen out.old) (ended result)
         (F.shelved shelf.new) (O.seen out.new) }
 {
-    match prepare(alloc, shelf, command) {
-        Ok(ready) => ending_of(Ending::Done, write_comparison(alloc, command, &ready, out)),
-        Err(Halt::Stopped(stop)) => Ending::Stopped(stop),
-        Err(Halt::NoMemory) => Ending::NoMemory,
-    }
+    let inputs = read_inputs(alloc, shelf, command)?;
+    write_comparison(alloc, &inputs, out)
 }

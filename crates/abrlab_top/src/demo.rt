@@ -1,29 +1,26 @@
 //! `demo`: everything on one made case.
 
 ghost use Rattle.std.specs.Prelude.{◌≡◌, ◌≤◌, IfOk, map};
-ghost use Rattle.lab_io.specs.Shelf.{Shelved};
 ghost use Rattle.lab_io.specs.Sink.{Puts};
-ghost use Rattle.lab_words.specs.declared.Verb.TheVariants.{Demo};
-ghost use Rattle.lab_words.specs.Command.{named, view};
-ghost use Rattle.lab_words.specs.Limits.{IsWithinLimits};
+ghost use Rattle.lab_words.specs.Command.{named};
 ghost use Rattle.lab_words.specs.Rules.{spoken};
 ghost use Rattle.player_core.specs.Scene.{IsTask};
 ghost use Rattle.labels.specs.Parts.{plan_parts};
 ghost use Rattle.certificate_text.specs.Form.{certificate_parts};
-ghost use Rattle.abrlab_top.specs.Demo.{FitsBudget, demo_line, demo_plan, demo_rules, demo_text, plan_report, task_in};
-ghost use Rattle.abrlab_top.specs.Stages.{Ends, WritesRows};
+ghost use Rattle.abrlab_top.specs.Demo.{FitsBudget, demo, demo_line, demo_plan, demo_rules, demo_text, plan_report, task_in};
+ghost use Rattle.abrlab_top.specs.Ending.{ended};
+ghost use Rattle.abrlab_top.specs.Stages.{Writes, WritesRows, row_by_row};
 
-use crate::ending::ending_of;
+use crate::ending::Ending;
 use crate::row::Bench;
 use certificate_check::{Verdict, check};
 use certificate_text::Certificate;
 use demo_case::{DemoCase, demo_case};
 use frontier_planner::{Plan, PlanErr, plan};
-use lab_inputs::Ending;
 use lab_io::Piece::{Number, Word};
 use lab_io::{PutErr, Sink, put_fields};
 use lab_model::Manifest;
-use lab_words::{Command, NamedRule, RuleWords};
+use lab_words::{NamedRule, RuleWords};
 use network_clock::Clock;
 use std::alloc::{AllocError, Global};
 
@@ -135,12 +132,10 @@ fn write_demo<O: Sink>(alloc: Global, number: u32, out: &mut O) -> Result<(), Pu
     write_plan(alloc, &case, &clock, out)
 }
 
-/// Writes the summary of the made case; it reads no file.
-pub(crate) fn demo<O: Sink>(alloc: Global, command: &Command, out: &mut O) -> Ending
-    requires limits { IsWithinLimits (view command.now) }
-    requires verb { (view command.now).verb ≡ Demo }
-    ensures { (shelf : Shelved)
-        → Ends (view command.now) shelf (O.seen out.old) result shelf (O.seen out.new) }
+/// Writes the summary of the made case of a number; it reads no file.
+pub(crate) fn demo<O: Sink>(alloc: Global, number: u32, out: &mut O) -> Result<(), Ending>
+    requires { number ≤ 2147483647 }
+    ensures { Writes row_by_row (demo number) (O.seen out.old) (ended result) (O.seen out.new) }
 {
-    ending_of(Ending::Done, write_demo(alloc, command.number, out))
+    Ok(write_demo(alloc, number, out)?)
 }

@@ -13,15 +13,16 @@ mod row;
 mod rule;
 mod simulate;
 
-ghost use Rattle.std.specs.Prelude.{map, string_bytes};
-ghost use Rattle.abrlab_top.specs.Causes.{HasCause, IsComplete, LeavesShelf, world};
-ghost use Rattle.abrlab_top.specs.Headline.{PlansTheBest, SaysYesSoundly, Simulates};
+ghost use Rattle.std.specs.Prelude.{◌≡◌, map, string_bytes};
+ghost use Rattle.abrlab_top.specs.declared.ending.Ending.{Ending};
+ghost use Rattle.abrlab_top.specs.Ending.{status_of};
+ghost use Rattle.abrlab_top.specs.Proves.{PlansTheBest, SaysYesSoundly, Simulates};
+ghost use Rattle.abrlab_top.specs.Runs.{Runs, world};
 
 use crate::command::run_command;
-use crate::ending::ending_status;
-use lab_inputs::tell;
+pub use ending::Ending;
 use lab_io::{Shelf, Sink};
-pub use laws::plans_are_accepted;
+pub use laws::{plans_are_accepted, runs_are_complete, runs_leave_the_shelf, statuses_have_causes};
 pub use memory::{Printed, run_in_memory};
 pub use rule::AnyRule;
 use std::alloc::Global;
@@ -44,6 +45,11 @@ pub fn run<F: Shelf, O: Sink, E: Sink>(
     out: &mut O,
     err: &mut E,
 ) -> u8
+    // How it ended, with the cause of that: the outcome of the words and the files, what the shelf was asked, what went out.
+    ensures runs { (e : Ending) × (result ≡ status_of e) × Runs (map string_bytes words.now)
+        (world (F.shelved shelf.old) (O.seen out.old) (E.seen err.old))
+        e (world (F.shelved shelf.new) (O.seen out.new) (E.seen err.new)) }
+    // What its text proves where it answers 0.
     ensures simulates { Simulates (map string_bytes words.now)
         (world (F.shelved shelf.old) (O.seen out.old) (E.seen err.old))
         result
@@ -56,18 +62,8 @@ pub fn run<F: Shelf, O: Sink, E: Sink>(
         (world (F.shelved shelf.old) (O.seen out.old) (E.seen err.old))
         result
         (world (F.shelved shelf.new) (O.seen out.new) (E.seen err.new)) }
-    ensures cause { HasCause (map string_bytes words.now)
-        (world (F.shelved shelf.old) (O.seen out.old) (E.seen err.old))
-        result
-        (world (F.shelved shelf.new) (O.seen out.new) (E.seen err.new)) }
-    ensures complete { IsComplete (map string_bytes words.now)
-        (world (F.shelved shelf.old) (O.seen out.old) (E.seen err.old))
-        result
-        (world (F.shelved shelf.new) (O.seen out.new) (E.seen err.new)) }
-    ensures shelf { LeavesShelf (map string_bytes words.now)
-        result (F.shelved shelf.old) (F.shelved shelf.new) }
 {
     let ending = run_command(alloc, words, shelf, out);
-    tell(err, ending);
-    ending_status(ending)
+    ending.tell(err);
+    ending.status()
 }

@@ -14,14 +14,17 @@ ghost use Rattle.player_core.specs.Scene.{IsTask, task_of};
 ghost use Rattle.labels.specs.Parts.{plan_parts};
 ghost use Rattle.frontier_planner.specs.Planned.{PlanAnswer};
 ghost use Rattle.labels.specs.Form.{IsCertificate};
-ghost use Rattle.lab_inputs.specs.Stages.{IsReady, values_of};
-ghost use Rattle.abrlab_top.specs.Plan.{parts_text, plan_lines};
-ghost use Rattle.abrlab_top.specs.Stages.{Ends, Plans};
+ghost use Rattle.lab_inputs.specs.Roles.{film_files};
+ghost use Rattle.abrlab_top.specs.Ending.{ended};
+ghost use Rattle.abrlab_top.specs.Outcome.{about};
+ghost use Rattle.abrlab_top.specs.Plan.{parts_text, plan, plan_lines};
+ghost use Rattle.abrlab_top.specs.Runs.{Ends};
+ghost use Rattle.abrlab_top.specs.Stages.{Writes, at_the_end};
 
-use crate::ending::ending_of;
+use crate::ending::Ending;
 use certificate_text::{put_plan, put_score, write_certificate};
 use frontier_planner::{Plan, PlanErr};
-use lab_inputs::{Ending, Halt, Ready, Stop, prepare};
+use lab_inputs::{Inputs, read_inputs};
 use lab_io::Piece::{Number, Word};
 use lab_io::{PutErr, Shelf, Sink, put_fields};
 use lab_model::{Manifest, Setup};
@@ -54,7 +57,7 @@ fn put_answer<O: Sink>(
     plan: &Plan,
     as_certificate: bool,
 ) -> Result<(), PutErr>
-    requires { IsCertificate (plan_parts m.now plan.now) }
+    requires form { IsCertificate (plan_parts m.now plan.now) }
     ensures { Puts (O.seen out.old)
         (parts_text as_certificate (plan_parts m.now plan.now) plan.now.labels)
         (O.seen out.new) result }
@@ -83,49 +86,42 @@ fn plan_on(
     frontier_planner::plan(alloc, m, clock, set, budget)
 }
 
-/// The plan on the one trace.
-fn plan_of(alloc: Global, command: &Command, ready: &Ready) -> Result<Plan, PlanErr>
-    requires limits { IsWithinLimits (view command.now) }
-    requires verb { (view command.now).verb ≡ verb.Plan }
-    requires ready { IsReady (view command.now) ready.now }
-    ensures { Plans (view command.now) (values_of ready.now.inputs) result }
+/// Plans and writes the plan, or its certificate.
+fn write_plan<O: Sink>(
+    alloc: Global,
+    inputs: &Inputs,
+    budget: u32,
+    as_certificate: bool,
+    out: &mut O,
+) -> Result<(), Ending>
+    requires budget { IsWithin 1 1000000 budget }
+    ensures { Writes at_the_end (plan budget as_certificate inputs.now)
+        (O.seen out.old) (ended result) (O.seen out.new) }
 {
-    let [trace] = ready.inputs.traces.as_slice() else {
-        unreachable!()
+    let Some(network) = inputs.network() else {
+        return Ok(());
     };
-    let Ok(clock) = Clock::new(alloc, trace) else {
-        return Err(PlanErr::Memory);
-    };
-    let Ready { inputs, setup } = ready;
-    plan_on(alloc, &inputs.manifest, &clock, setup, command.budget)
+    inputs.fit()?;
+    let clock = Clock::new(alloc, &network.trace)?;
+    let plan = plan_on(alloc, inputs.manifest(), &clock, inputs.setup(), budget)?;
+    Ok(put_answer(out, inputs.manifest(), &plan, as_certificate)?)
 }
 
 /// Reads the files, plans and writes the plan.
 pub(crate) fn plan<F: Shelf, O: Sink>(
     alloc: Global,
-    command: &Command,
+    command: Command,
     shelf: &mut F,
     out: &mut O,
-) -> Ending
-    requires limits { IsWithinLimits (view command.now) }
-    requires verb { (view command.now).verb ≡ verb.Plan }
-    ensures { Ends (view command.now) (F.shelved shelf.old) (O.seen out.old) result
+) -> Result<(), Ending>
+    requires limits { IsWithinLimits (view command) }
+    requires verb { (view command).verb ≡ verb.Plan }
+    ensures { Ends (film_files (view command)) at_the_end
+        (about (plan (view command).budget (view command).as_certificate) (view command))
+        (F.shelved shelf.old) (O.seen out.old) (ended result)
         (F.shelved shelf.new) (O.seen out.new) }
 {
-    let ready = match prepare(alloc, shelf, command) {
-        Ok(ready) => ready,
-        Err(Halt::Stopped(stop)) => return Ending::Stopped(stop),
-        Err(Halt::NoMemory) => return Ending::NoMemory,
-    };
-    match plan_of(alloc, command, &ready) {
-        Ok(plan) => {
-            let manifest = &ready.inputs.manifest;
-            ending_of(
-                Ending::Done,
-                put_answer(out, manifest, &plan, command.as_certificate),
-            )
-        }
-        Err(PlanErr::BudgetSpent { segment }) => Ending::Stopped(Stop::Budget(segment)),
-        Err(PlanErr::Memory) => Ending::NoMemory,
-    }
+    let (budget, as_certificate) = (command.budget, command.as_certificate);
+    let inputs = read_inputs(alloc, shelf, command)?;
+    write_plan(alloc, &inputs, budget, as_certificate, out)
 }

@@ -1,17 +1,18 @@
-//! `simulate`: the session of one trace and one rule.
+//! `simulate`: the session of one network and one rule.
 
-ghost use Rattle.std.specs.Prelude.{◌≡◌};
-ghost use Rattle.lab_words.specs.declared.Verb.TheVariants.{Simulate};
 ghost use Rattle.lab_words.specs.Command.{view};
-ghost use Rattle.lab_words.specs.Limits.{IsWithinLimits};
-ghost use Rattle.lab_inputs.specs.Stages.{IsReady, values_of};
+ghost use Rattle.lab_words.specs.Limits.{HasFilm, IsWithinLimits};
+ghost use Rattle.lab_inputs.specs.Roles.{film_files};
+ghost use Rattle.abrlab_top.specs.Ending.{ended};
+ghost use Rattle.abrlab_top.specs.Outcome.{about};
+ghost use Rattle.abrlab_top.specs.Runs.{Ends};
 ghost use Rattle.abrlab_top.specs.Simulate.{simulate};
-ghost use Rattle.abrlab_top.specs.Stages.{Ends, Writes};
+ghost use Rattle.abrlab_top.specs.Stages.{Writes, at_the_end};
 
-use crate::ending::ending_of;
+use crate::ending::Ending;
 use crate::rule::any_rule;
-use lab_inputs::{Ending, Halt, Ready, prepare};
-use lab_io::{PutErr, Shelf, Sink};
+use lab_inputs::{Inputs, read_inputs};
+use lab_io::{Shelf, Sink};
 use lab_words::Command;
 use network_clock::Clock;
 use player_core::play;
@@ -19,50 +20,43 @@ use session_report::write_session;
 use std::alloc::Global;
 
 /// Plays the session and writes its text.
-fn write_simulation<O: Sink>(
-    alloc: Global,
-    command: &Command,
-    ready: &Ready,
-    out: &mut O,
-) -> Result<(), PutErr>
-    requires limits { IsWithinLimits (view command.now) }
-    requires verb { (view command.now).verb ≡ Simulate }
-    requires ready { IsReady (view command.now) ready.now }
-    ensures { Writes (view command.now).verb
-        (simulate (view command.now) (values_of ready.now.inputs)).text
-        (O.seen out.old) result (O.seen out.new) }
+fn write_simulation<O: Sink>(alloc: Global, inputs: &Inputs, out: &mut O) -> Result<(), Ending>
+    ensures { Writes at_the_end (simulate inputs.now)
+        (O.seen out.old) (ended result) (O.seen out.new) }
 {
-    let ([trace], [rule]) = (ready.inputs.traces.as_slice(), command.rules.as_slice()) else {
-        unreachable!()
+    let Some(network) = inputs.network() else {
+        return Ok(());
     };
-    let Ok(rule) = any_rule(alloc, &rule.rule) else {
-        return Err(PutErr::Memory);
+    let Some(rule) = inputs.rule() else {
+        return Ok(());
     };
-    let Ok(clock) = Clock::new(alloc, trace) else {
-        return Err(PutErr::Memory);
-    };
-    let Ready { inputs, setup } = ready;
-    let Ok(session) = play(alloc, &inputs.manifest, &clock, setup, &inputs.seeks, rule) else {
-        return Err(PutErr::Memory);
-    };
-    write_session(&session, &setup.weights, out)
+    inputs.fit()?;
+    let clock = Clock::new(alloc, &network.trace)?;
+    let rule = any_rule(alloc, &rule.rule)?;
+    let session = play(
+        alloc,
+        inputs.manifest(),
+        &clock,
+        inputs.setup(),
+        inputs.seeks(),
+        rule,
+    )?;
+    Ok(write_session(&session, &inputs.setup().weights, out)?)
 }
 
 /// Reads the files, plays the session and writes its text.
 pub(crate) fn simulate<F: Shelf, O: Sink>(
     alloc: Global,
-    command: &Command,
+    command: Command,
     shelf: &mut F,
     out: &mut O,
-) -> Ending
-    requires limits { IsWithinLimits (view command.now) }
-    requires verb { (view command.now).verb ≡ Simulate }
-    ensures { Ends (view command.now) (F.shelved shelf.old) (O.seen out.old) result
+) -> Result<(), Ending>
+    requires limits { IsWithinLimits (view command) }
+    requires film { HasFilm (view command).verb }
+    ensures { Ends (film_files (view command)) at_the_end (about simulate (view command))
+        (F.shelved shelf.old) (O.seen out.old) (ended result)
         (F.shelved shelf.new) (O.seen out.new) }
 {
-    match prepare(alloc, shelf, command) {
-        Ok(ready) => ending_of(Ending::Done, write_simulation(alloc, command, &ready, out)),
-        Err(Halt::Stopped(stop)) => Ending::Stopped(stop),
-        Err(Halt::NoMemory) => Ending::NoMemory,
-    }
+    let inputs = read_inputs(alloc, shelf, command)?;
+    write_simulation(alloc, &inputs, out)
 }

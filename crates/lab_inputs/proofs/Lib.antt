@@ -1,4 +1,5 @@
 pub mod Files
 pub mod Fits
+pub mod Roles
 pub mod Steps
 pub mod Within

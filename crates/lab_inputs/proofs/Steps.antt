@@ -1,39 +1,37 @@
 -- One file after the other: what those before it gave, and what one more adds or refuses.
-use Rattle.std.proofs.Common.{◌≡◌, ℕ, ◌+◌, ◌≤◌, ◌++◌, List, [], ◌∷◌, map, string_bytes, String, Option, Some, None, Result, Ok, Err, IsOk, ap, sym, ◌∙◌, refl, inl, inr, arith, append_assoc, length, length-append, ◌<◌, take, drop, get_or, add-one, drop-cons, subst}
+use Rattle.std.specs.Option.{option_copied}
+use Rattle.std.specs.Borrow.{Bor}
+use Rattle.std.specs.List.{All, slice_get}
+use Rattle.std.specs.Prelude.{IfSome}
+use Rattle.std.proofs.Common.{◌≡◌, ℕ, ◌+◌, ◌≤◌, ◌++◌, List, [], ◌∷◌, map, option_map, string_bytes, String, Option, Some, None, Result, Ok, Err, IsOk, ap, sym, ◌∙◌, refl, inl, inr, arith, append_assoc, length, ◌<◌, take, drop, get_or, add-one, drop-cons, subst}
 use Rattle.std.proofs.lemmas.List.{length-map, length-take-le, map-append, take-append-drop}
 use Rattle.std.proofs.Math.Seq.{take-suc}
-use Rattle.std.proofs.lemmas.List.Sums.{sum_by-append, sum_by-cons, sum_by_push}
 use Rattle.std.specs.Result.{IsErrAnd}
+use Rattle.std.proofs.lemmas.Option.{slice_get-map}
 use Rattle.std.proofs.lemmas.Result.{err_from_is_err_and}
 use Rattle.lab_model.specs.declared.fault.Refusal.{Refusal}
-use Rattle.lab_model.specs.Film.{Film, segments_of}
-use Rattle.manifest_reader.specs.Manifest.{manifest_of}
-use Rattle.seek_script.specs.Script.{seeks_of}
+use Rattle.lab_model.specs.Film.{Film}
 use Rattle.lab_io.specs.Sink.{Text, Rose}
 use Rattle.lab_io.specs.Shelf.{Shelved}
-use Rattle.lab_model.specs.Rules.{RuleKind}
-use Rattle.lab_words.specs.declared.NamedRule.{NamedRule}
 use Rattle.lab_words.specs.declared.Verb.{Verb}
 use Rattle.lab_words.specs.declared.Verb.TheVariants as verb
 use Rattle.lab_words.specs.Limits.{HasFilm}
-use Rattle.lab_words.specs.Rules.{spoken}
-use Rattle.lab_words.specs.Command.{CommandWords, named}
+use Rattle.lab_words.specs.Command.{CommandWords}
 use Rattle.lab_inputs.specs.declared.fetch.FileErr.{FileErr}
 use Rattle.lab_inputs.specs.declared.fetch.FileErr.TheVariants as err
-use Rattle.lab_inputs.specs.declared.inputs.FileName.{FileName}
-use Rattle.lab_inputs.specs.declared.stop.Role.{Role}
-use Rattle.lab_inputs.specs.declared.stop.Role.TheVariants as role
+use Rattle.lab_inputs.specs.declared.role.FileName.{FileName}
+use Rattle.lab_inputs.specs.declared.role.Role.{Role}
+use Rattle.lab_inputs.specs.declared.role.Role.TheVariants as role
 use Rattle.lab_inputs.specs.declared.stop.FileFault.{FileFault}
 use Rattle.lab_inputs.specs.declared.stop.FileFault.TheVariants as fault
-use Rattle.lab_inputs.specs.declared.stop.Setting.{Setting}
 use Rattle.lab_inputs.specs.declared.stop.Stop.{Stop}
 use Rattle.lab_inputs.specs.declared.stop.Stop.TheVariants as stop
 use Rattle.lab_inputs.specs.declared.stop.Halt.{Halt}
 use Rattle.lab_inputs.specs.declared.stop.Halt.TheVariants as halt
-use Rattle.lab_inputs.specs.Files.{Files, NamedFile, bytes_of, files_by, files_of, film_files, later_files, optional_file, request_of, trace_count, trace_files, trace_role, traces_among, traces_from}
-use Rattle.lab_inputs.specs.Inputs.{◌>>=◌, AreAccepted, InputValues, at_role, film_alone, film_in, inputs_from, inputs_of, read_as, result_map, trace_of, with_bytes, with_certificate, with_file, with_files, with_film, with_seeks, with_trace}
-use Rattle.lab_inputs.specs.Settings.{kinds_of, misfit, ready_of, setup_of, unless_misfit}
-use Rattle.lab_inputs.specs.Stages.{Asks, AsksSome, AsksUpTo, Comes, Reads, Stops, Tells, file_of, halt_of}
+use Rattle.lab_inputs.specs.Contents.{ContentValues, film_alone}
+use Rattle.lab_inputs.specs.Files.{◌>>=◌, AreAccepted, Files, at_role, bytes_of, contents_from, film_in, read_as, request_of, with_file, with_files}
+use Rattle.lab_inputs.specs.Roles.{NamedFile, files_by, files_of, film_files, result_map, row_of, trace_files, trace_role, traces_from}
+use Rattle.lab_inputs.specs.Stages.{Asks, AsksFor, AsksSome, AsksUpTo, Comes, Reads, Tells, file_of, halt_of}
 use Rattle.lab_inputs.proofs.Files.{asks_all, asks_none}
 
 -- these files were asked for, and then those
@@ -61,13 +59,13 @@ pub halts : {X Y Z W : Type 0} (before after : List NamedFile) (file : NamedFile
 halts before after file seen seen2 value whole old mid new err.Memory a ok stops x =
     record { asked = before ++ x.asked; later = x.later ++ after; split = split_more before x.asked x.later after file x.split; asks = asks_more before x.asked old mid new a x.asks }
 halts before after file seen seen2 value whole old mid new (err.Stopped fault.NotRead) a ok stops x =
-    (record { before = before; name = file.1; later = after; split = refl; asks = asks_more before (file ∷ []) old mid new a x.0 }, rose_later _ _ _ (a.faults file.1) x.1, ok)
+    ((record { before = before; name = file.1; later = after; split = refl; asks = asks_more before (file ∷ []) old mid new a x.0 }, rose_later _ _ _ (a.faults file.1) x.1, ok), λ files t. tt)
 halts before after file seen seen2 value whole old mid new (err.Stopped fault.TooLong) a ok stops x =
     (record { before = before; name = file.1; later = after; split = refl; asks = asks_more before (file ∷ []) old mid new a x.0 }, λ files t. stops files fault.TooLong t (x.1 files (a.files ∙ t)))
 halts before after file seen seen2 value whole old mid new (err.Stopped (fault.Refused why)) a ok stops x =
     (record { before = before; name = file.1; later = after; split = refl; asks = asks_more before (file ∷ []) old mid new a x.0 }, λ files t. stops files (fault.Refused why) t (x.1 files (a.files ∙ t)))
 
-bind_more : {A : Type 0} (o : Result A Stop) (f g : A → Result InputValues Stop) (v : InputValues) (r : Result InputValues Stop) → ((x : A) → f x ≡ Ok v → g x ≡ r) → (o >>= f) ≡ Ok v → (o >>= g) ≡ r
+bind_more : {A : Type 0} (o : Result A Stop) (f g : A → Result ContentValues Stop) (v : ContentValues) (r : Result ContentValues Stop) → ((x : A) → f x ≡ Ok v → g x ≡ r) → (o >>= f) ≡ Ok v → (o >>= g) ≡ r
 bind_more (Ok x) f g v r h e = h x e
 bind_more (Err s) f g v r h e = cc
 
@@ -75,62 +73,33 @@ bind_more (Err s) f g v r h e = cc
 pub ok_same : {A E : Type 0} (o : Result A E) (x y : A) → o ≡ Ok x → o ≡ Ok y → x ≡ y
 ok_same o x y e h = cc
 
-files_more : (i v : InputValues) (xs ys : List NamedFile) (files : Files) → with_files i xs files ≡ Ok v → with_files i (xs ++ ys) files ≡ with_files v ys files
+files_more : (i v : ContentValues) (xs ys : List NamedFile) (files : Files) → with_files i xs files ≡ Ok v → with_files i (xs ++ ys) files ≡ with_files v ys files
 files_more i v [] ys files e = ap (λ j. with_files j ys files) (ok_same (with_files i [] files) i v refl e)
 files_more i v (x ∷ xs) ys files e = bind_more (at_role x.0 (with_file i x files)) _ _ v _ (λ m h. files_more m v xs ys files h) e
 
 -- the files before these gave their values
-pub inputs_more : (manifest : Text) (v : InputValues) (xs ys : List NamedFile) (files : Files) → inputs_from manifest xs files ≡ Ok v → inputs_from manifest (xs ++ ys) files ≡ with_files v ys files
-unfolding inputs_from
+pub inputs_more : (manifest : Text) (v : ContentValues) (xs ys : List NamedFile) (files : Files) → contents_from manifest xs files ≡ Ok v → contents_from manifest (xs ++ ys) files ≡ with_files v ys files
+unfolding contents_from
 inputs_more manifest v xs ys files e = bind_more (at_role role.Manifest (film_in manifest files)) _ _ v _ (λ film h. files_more (film_alone film) v xs ys files h) e
 
 -- one file more gives its value
-pub inputs_one_more : (manifest : Text) (v w : InputValues) (xs : List NamedFile) (file : NamedFile) (files : Files) → inputs_from manifest xs files ≡ Ok v → with_file v file files ≡ Ok w → inputs_from manifest (xs ++ file ∷ []) files ≡ Ok w
+pub inputs_one_more : (manifest : Text) (v w : ContentValues) (xs : List NamedFile) (file : NamedFile) (files : Files) → contents_from manifest xs files ≡ Ok v → with_file v file files ≡ Ok w → contents_from manifest (xs ++ file ∷ []) files ≡ Ok w
 inputs_one_more manifest v w xs file files e h = inputs_more manifest v xs (file ∷ []) files e ∙ rw h refl
 
 -- one file more refuses the whole
-pub inputs_stopped : (manifest : Text) (v : InputValues) (xs ys : List NamedFile) (file : NamedFile) (why : FileFault) (files : Files) → inputs_from manifest xs files ≡ Ok v → with_file v file files ≡ Err why
-    → inputs_from manifest (xs ++ file ∷ ys) files ≡ Err (stop.File file.0 why)
+pub inputs_stopped : (manifest : Text) (v : ContentValues) (xs ys : List NamedFile) (file : NamedFile) (why : FileFault) (files : Files) → contents_from manifest xs files ≡ Ok v → with_file v file files ≡ Err why
+    → contents_from manifest (xs ++ file ∷ ys) files ≡ Err (stop.File file.0 why)
 inputs_stopped manifest v xs ys file why files e h = inputs_more manifest v xs (file ∷ ys) files e ∙ rw h refl
 
 -- the manifest refuses the whole
-pub film_stopped : (manifest : Text) (later : List NamedFile) (why : FileFault) (files : Files) → film_in manifest files ≡ Err why → inputs_from manifest later files ≡ Err (stop.File role.Manifest why)
-unfolding inputs_from
+pub film_stopped : (manifest : Text) (later : List NamedFile) (why : FileFault) (files : Files) → film_in manifest files ≡ Err why → contents_from manifest later files ≡ Err (stop.File role.Manifest why)
+unfolding contents_from
 film_stopped manifest later why files h = rw h refl
 
 -- the manifest alone
-pub film_first : (manifest : Text) (film : Film) (files : Files) → film_in manifest files ≡ Ok film → inputs_from manifest [] files ≡ Ok (film_alone film)
-unfolding inputs_from
+pub film_first : (manifest : Text) (film : Film) (files : Files) → film_in manifest files ≡ Ok film → contents_from manifest [] files ≡ Ok (film_alone film)
+unfolding contents_from
 film_first manifest film files h = rw h refl
-
-one_trace : (v : Verb) (place : ℕ) → trace_count (trace_role v place) ≡ 1
-one_trace verb.Simulate place = refl
-one_trace verb.Compare place = refl
-one_trace verb.Plan place = refl
-one_trace verb.Check place = refl
-one_trace verb.Demo place = refl
-
-all_traces : (v : Verb) (place : ℕ) (names : List Text) → traces_among (traces_from v place names) ≡ length names
-all_traces v place [] = refl
-all_traces v place (name ∷ names) =
-    let h = all_traces v (place + 1) names in
-    let one = one_trace v place in
-    let e = sum_by-cons (λ (file : NamedFile). trace_count file.0) (trace_role v place, name) (traces_from v (place + 1) names) in
-    omega (arith, e, one, h)
-
-no_traces : (seeks certificate : Option Text) → traces_among (optional_file role.Seeks seeks ++ optional_file role.Certificate certificate) ≡ 0
-no_traces None None = refl
-no_traces None (Some name) = refl
-no_traces (Some name) None = refl
-no_traces (Some name) (Some other) = refl
-
--- the traces among the files of a command are those that the words name
-pub traces_named : (c : CommandWords) → traces_among (later_files c) ≡ length c.traces
-traces_named c =
-    let e = sum_by-append (λ (file : NamedFile). trace_count file.0) (trace_files c.verb c.traces) (optional_file role.Seeks c.seeks ++ optional_file role.Certificate c.certificate) in
-    let some = all_traces c.verb 1 c.traces in
-    let none = no_traces c.seeks c.certificate in
-    omega (arith, e, some, none)
 
 from_more : (v : Verb) (place : ℕ) (names : List Text) (name : Text) → traces_from v place (names ++ name ∷ []) ≡ traces_from v place names ++ (trace_role v (place + length names), name) ∷ []
 from_more v place [] name = ap (λ p. (trace_role v p, name) ∷ []) (omega arith)
@@ -163,35 +132,30 @@ pub next_file : (items : List FileName) (i : ℕ) (d : FileName) → i < length 
 next_file items i d lt = ap (map file_of) (rw (add-one, take-suc items i d lt) refl) ∙ map-append file_of (take i items) (get_or items i d ∷ [])
 
 -- the manifest gives no film
-pub film_halts : {X : Type 0} (seen : X → InputValues) (manifest : Text) (later : List NamedFile) (old new : Shelved) (r : Result Film FileErr) (e : FileErr) (h : Halt) → r ≡ Err e → h ≡ halt_of role.Manifest e
-    → Reads (role.Manifest, manifest) (λ (film : Film). film) (film_in manifest) old r new → Comes ((role.Manifest, manifest) ∷ later) seen (inputs_from manifest later) old (Err h) new
+pub film_halts : {X : Type 0} (seen : X → ContentValues) (manifest : Text) (later : List NamedFile) (old new : Shelved) (r : Result Film FileErr) (e : FileErr) (h : Halt) → r ≡ Err e → h ≡ halt_of role.Manifest e
+    → Reads (role.Manifest, manifest) (λ (film : Film). film) (film_in manifest) old r new → Comes ((role.Manifest, manifest) ∷ later) seen (contents_from manifest later) old (Err h) new
 film_halts seen manifest later old new r e h same k x =
     let xx : Reads (role.Manifest, manifest) (λ (film : Film). film) (film_in manifest) old (Err e) new = rw same at x in
-    rw k (halts [] later (role.Manifest, manifest) (λ film. film) seen (film_in manifest) (inputs_from manifest later) old old new e (asks_none old) (λ files t. tt) (λ files why t f. film_stopped manifest later why files f) xx)
+    rw k (halts [] later (role.Manifest, manifest) (λ film. film) seen (film_in manifest) (contents_from manifest later) old old new e (asks_none old) (λ files t. tt) (λ files why t f. film_stopped manifest later why files f) xx)
 
 -- a later file gives no value
-pub later_halts : {X Z : Type 0} (seen : X → InputValues) (seen2 : Z → InputValues) (manifest : Text) (later before after : List NamedFile) (file : NamedFile) (v : InputValues) (old mid new : Shelved) (r : Result X FileErr) (e : FileErr) (h : Halt)
-    → later ≡ before ++ file ∷ after → r ≡ Err e → h ≡ halt_of file.0 e → Asks ((role.Manifest, manifest) ∷ before) old mid → ((files : Files) → Tells old files → inputs_from manifest before files ≡ Ok v)
-    → Reads file seen (with_file v file) mid r new → Comes ((role.Manifest, manifest) ∷ later) seen2 (inputs_from manifest later) old (Err h) new
+pub later_halts : {X Z : Type 0} (seen : X → ContentValues) (seen2 : Z → ContentValues) (manifest : Text) (later before after : List NamedFile) (file : NamedFile) (v : ContentValues) (old mid new : Shelved) (r : Result X FileErr) (e : FileErr) (h : Halt)
+    → later ≡ before ++ file ∷ after → r ≡ Err e → h ≡ halt_of file.0 e → Asks ((role.Manifest, manifest) ∷ before) old mid → ((files : Files) → Tells old files → contents_from manifest before files ≡ Ok v)
+    → Reads file seen (with_file v file) mid r new → Comes ((role.Manifest, manifest) ∷ later) seen2 (contents_from manifest later) old (Err h) new
 later_halts seen seen2 manifest later before after file v old mid new r e h split same k a ok x =
     let xx : Reads file seen (with_file v file) mid (Err e) new = rw same at x in
-    let whole : Comes ((role.Manifest, manifest) ∷ (before ++ file ∷ after)) seen2 (inputs_from manifest (before ++ file ∷ after)) old (Err h) new = rw k (halts ((role.Manifest, manifest) ∷ before) after file seen seen2 (with_file v file) (inputs_from manifest (before ++ file ∷ after)) old mid new e a
+    let whole : Comes ((role.Manifest, manifest) ∷ (before ++ file ∷ after)) seen2 (contents_from manifest (before ++ file ∷ after)) old (Err h) new = rw k (halts ((role.Manifest, manifest) ∷ before) after file seen seen2 (with_file v file) (contents_from manifest (before ++ file ∷ after)) old mid new e a
     (λ files t. rw (ok files t) refl) (λ files why t f. inputs_stopped manifest v before after file why files (ok files t) f) xx) in
-    subst (λ l. Comes ((role.Manifest, manifest) ∷ l) seen2 (inputs_from manifest l) old (Err h) new) (sym split) whole
-
--- one file more counts where it is a trace
-pub traces_next : (xs : List NamedFile) (file : NamedFile) (old new : ℕ) → old ≡ traces_among xs → new ≡ old + trace_count file.0 → new ≡ traces_among (xs ++ file ∷ [])
-traces_next xs file old new e h = let f = sum_by_push (λ (file : NamedFile). trace_count file.0) xs file in omega (arith, f, e, h)
+    subst (λ l. Comes ((role.Manifest, manifest) ∷ l) seen2 (contents_from manifest l) old (Err h) new) (sym split) whole
 
 -- what ends a stage ends what follows on it
 halt_later : {X Y Z W : Type 0} (named : List NamedFile) (seen : X → Y) (seen2 : Z → W) (meant : Files → Result Y Stop) (after : Y → Result W Stop) (old new : Shelved) (h : Halt)
     → Comes named seen meant old (Err h) new → Comes named seen2 (λ files. meant files >>= after) old (Err h) new
 halt_later named seen seen2 meant after old new halt.NoMemory x = x
-halt_later named seen seen2 meant after old new (halt.Stopped (stop.File role fault.NotRead)) x = x
+halt_later named seen seen2 meant after old new (halt.Stopped (stop.File role fault.NotRead)) x = (x.0, λ files t. tt)
 halt_later named seen seen2 meant after old new (halt.Stopped (stop.File role fault.TooLong)) x = (x.0, λ files t. rw (x.1 files t) refl)
 halt_later named seen seen2 meant after old new (halt.Stopped (stop.File role (fault.Refused why))) x = (x.0, λ files t. rw (x.1 files t) refl)
 halt_later named seen seen2 meant after old new (halt.Stopped (stop.Settings setting)) x = (x.0, λ files t. rw (x.1 files t) refl)
-halt_later named seen seen2 meant after old new (halt.Stopped (stop.Budget segment)) x = (x.0, λ files t. rw (x.1 files t) refl)
 
 -- the same at the exit of a `?`
 pub comes_failed : {X Y Z W : Type 0} (named : List NamedFile) (seen : X → Y) (seen2 : Z → W) (meant : Files → Result Y Stop) (after : Y → Result W Stop) (old new : Shelved) (r : Result X Halt) (q : Result Z Halt) (h : Halt)
@@ -200,31 +164,6 @@ comes_failed named seen seen2 meant after old new r q h e k x =
     let p = err_from_is_err_and q k in
     let xx : Comes named seen meant old (Err h) new = rw e at x in
     rw (p.1 ∙ ap Err p.2) (halt_later named seen seen2 meant after old new h xx)
-
-kinds_same : (rules : List NamedRule) → map (λ rule. spoken rule.rule) rules ≡ map (λ (rule : Text × RuleKind). rule.1) (map named rules)
-kinds_same [] = refl
-kinds_same (rule ∷ rules) = ap (λ l. spoken rule.rule ∷ l) (kinds_same rules)
-
--- the rules of a command, seen in one step
-pub kinds_of_rules : (rules seen : List NamedRule) → seen ≡ rules → map (λ rule. spoken rule.rule) seen ≡ map (λ (rule : Text × RuleKind). rule.1) (map named rules)
-kinds_of_rules rules seen e = rw e (kinds_same rules)
-
-named_length : (rules : List NamedRule) → length (map named rules) ≡ length rules
-named_length rules = length-map rules named
-
--- the rules of a command, counted through a slice
-pub rules_counted : (rules seen : List NamedRule) → seen ≡ rules → length seen ≡ length (map named rules)
-rules_counted rules seen e = ap length e ∙ sym (named_length rules)
-
--- a setting does not fit
-pub ready_misfits : (c : CommandWords) (files : Files) (i : InputValues) (setting : Setting) → inputs_of c files ≡ Ok i → Some setting ≡ misfit (setup_of c) (kinds_of c) i.film → ready_of c files ≡ Err (stop.Settings setting)
-unfolding ready_of
-ready_misfits c files i setting e m = rw (e, ← m) refl
-
--- all settings fit
-pub ready_made : (c : CommandWords) (files : Files) (i : InputValues) → inputs_of c files ≡ Ok i → None ≡ misfit (setup_of c) (kinds_of c) i.film → ready_of c files ≡ Ok i
-unfolding ready_of
-ready_made c files i e m = rw (e, ← m) refl
 
 ok_value : {A E : Type 0} (r : Result A E) → IsOk r → (x : A) × (r ≡ Ok x)
 ok_value (Ok x) h = (x, refl)
@@ -236,7 +175,7 @@ heads x y xs ys e = cc
 tails : (x y : NamedFile) (xs ys : List NamedFile) → x ∷ xs ≡ y ∷ ys → xs ≡ ys
 tails x y xs ys e = cc
 
-not_there : (i : InputValues) (file : NamedFile) (files : Files) → files file.1 ≡ None → with_file i file files ≡ Err fault.NotRead
+not_there : (i : ContentValues) (file : NamedFile) (files : Files) → files file.1 ≡ None → with_file i file files ≡ Err fault.NotRead
 unfolding with_file
 not_there i file files n = rw n refl
 
@@ -246,7 +185,7 @@ no_film manifest files n = rw n refl
 
 -- a file that is lacking is what the inputs come to, where those before it are accepted
 pub lacking : (manifest : Text) (later before after : List NamedFile) (file : NamedFile) (files : Files) → (role.Manifest, manifest) ∷ later ≡ before ++ file ∷ after → AreAccepted before files → files file.1 ≡ None
-    → inputs_from manifest later files ≡ Err (stop.File file.0 fault.NotRead)
+    → contents_from manifest later files ≡ Err (stop.File file.0 fault.NotRead)
 lacking manifest later [] after file files split ok none =
     let same : (role.Manifest, manifest) ≡ file = heads _ _ _ _ split in
     let gone : files manifest ≡ None = ap (λ (f : NamedFile). files f.1) same ∙ none in
@@ -254,8 +193,8 @@ lacking manifest later [] after file files split ok none =
 lacking manifest later (first ∷ xs) after file files split ok none =
     let same : (role.Manifest, manifest) ≡ first = heads _ _ _ _ split in
     let rest : later ≡ xs ++ file ∷ after = tails _ _ _ _ split in
-    let v = ok_value (inputs_from first.1 xs files) ok in
-    let read : inputs_from manifest xs files ≡ Ok v.0 = ap (λ (f : NamedFile). inputs_from f.1 xs files) same ∙ v.1 in
+    let v = ok_value (contents_from first.1 xs files) ok in
+    let read : contents_from manifest xs files ≡ Ok v.0 = ap (λ (f : NamedFile). contents_from f.1 xs files) same ∙ v.1 in
     rw rest (inputs_stopped manifest v.0 xs after file fault.NotRead files read (not_there v.0 file files none))
 
 -- a command on a film names the manifest and the files behind it
@@ -284,41 +223,20 @@ named_film c before later file e = by_verb c.verb c e
     by_verb verb.Check c e = tt
     by_verb verb.Demo c e = no_member before later file e
 
--- what a stage over the files of a film comes to, over the files of the command
-pub comes_on_film : {X Y : Type 0} (c : CommandWords) (seen : X → Y) (meant : Files → Result Y Stop) (old new : Shelved) (r : Result X Halt) → HasFilm c.verb → Comes (film_files c) seen meant old r new → Comes (files_of c) seen meant old r new
-comes_on_film c seen meant old new r film h = subst (λ named. Comes named seen meant old r new) (sym (on_film c film)) h
-
 up_to_some : (named : List NamedFile) (role : Role) (old new : Shelved) → AsksUpTo named role old new → AsksSome named old new
 up_to_some named role old new a = record { asked = a.before ++ (role, a.name) ∷ []; later = a.later; split = a.split ∙ sym (append_assoc a.before ((role, a.name) ∷ []) a.later); asks = a.asks }
 
 -- the files that were asked for before a stop are the first of those that are named
-pub stops_some : {Y : Type 0} (named : List NamedFile) (meant : Files → Result Y Stop) (old new : Shelved) (why : Stop) → Stops named meant old why new → AsksSome named old new
-stops_some named meant old new (stop.File role fault.NotRead) x = up_to_some named role old new x.0
-stops_some named meant old new (stop.File role fault.TooLong) x = up_to_some named role old new x.0
-stops_some named meant old new (stop.File role (fault.Refused why)) x = up_to_some named role old new x.0
-stops_some named meant old new (stop.Settings setting) x = asks_all named old new x.0
-stops_some named meant old new (stop.Budget segment) x = asks_all named old new x.0
+pub stops_some : (named : List NamedFile) (old new : Shelved) (why : Stop) → AsksFor named why old new → AsksSome named old new
+stops_some named old new (stop.File role fault.NotRead) x = up_to_some named role old new x.0
+stops_some named old new (stop.File role fault.TooLong) x = up_to_some named role old new x
+stops_some named old new (stop.File role (fault.Refused why)) x = up_to_some named role old new x
+stops_some named old new (stop.Settings setting) x = asks_all named old new x
 
 -- what a value adds comes of a value
 pub map_ok : {A B E : Type 0} (f : A → B) (o : Result A E) (y : B) → result_map f o ≡ Ok y → (x : A) × (y ≡ f x) × (o ≡ Ok x)
 map_ok f (Ok x) y e = (x, ok_same _ y (f x) e refl, refl)
 map_ok f (Err why) y e = cc
-
-length_kept : (old new : InputValues) (n : ℕ) → new.traces ≡ old.traces → n ≡ 0 → length new.traces ≡ length old.traces + n
-length_kept old new n e h = let k = ap length e in omega (arith, k, h)
-
-bytes_traces : (file : NamedFile) (i j : InputValues) (bytes : Text) → with_bytes file.0 file.1 i bytes ≡ Ok j → length j.traces ≡ length i.traces + trace_count file.0
-bytes_traces (role.Manifest, name) i j bytes e = let x = map_ok (with_film i) (manifest_of bytes) j e in length_kept i j 0 (ap (λ (v : InputValues). v.traces) x.1) refl
-bytes_traces (role.Trace, name) i j bytes e =
-    let x = map_ok (with_trace i) (trace_of name bytes) j e in
-    let k = ap (λ (v : InputValues). length v.traces) x.1 in
-    k ∙ length-append i.traces (x.0 ∷ [])
-bytes_traces (role.TraceAt place, name) i j bytes e =
-    let x = map_ok (with_trace i) (trace_of name bytes) j e in
-    let k = ap (λ (v : InputValues). length v.traces) x.1 in
-    k ∙ length-append i.traces (x.0 ∷ [])
-bytes_traces (role.Certificate, name) i j bytes e = length_kept i j 0 (sym (ap (λ (v : InputValues). v.traces) (ok_same _ (with_certificate i bytes) j refl e))) refl
-bytes_traces (role.Seeks, name) i j bytes e = let x = map_ok (with_seeks i) (seeks_of bytes (segments_of i.film)) j e in length_kept i j 0 (ap (λ (v : InputValues). v.traces) x.1) refl
 
 -- what a reader accepts, it makes
 pub read_ok : {A : Type 0} (o : Result A Refusal) (x : A) → read_as o ≡ Ok x → o ≡ Ok x
@@ -335,35 +253,41 @@ pub role_ok : {A : Type 0} (role : Role) (o : Result A FileFault) (x : A) → at
 role_ok role (Ok y) x e = let k : y ≡ x = ok_same _ y x refl e in ap Ok k
 role_ok role (Err why) x e = cc
 
-file_traces : (file : NamedFile) (i j : InputValues) (files : Files) → with_file i file files ≡ Ok j → length j.traces ≡ length i.traces + trace_count file.0
-unfolding with_file
-file_traces file i j files e = let x = bind_ok (bytes_of file.0 (files file.1)) (λ bytes. read_as (with_bytes file.0 file.1 i bytes)) j e in bytes_traces file i j x.0 (read_ok (with_bytes file.0 file.1 i x.0) j x.2)
+-- what ends a stage ends what its value would have added to
+halt_mapped : {X Y Z W : Type 0} (named : List NamedFile) (seen : X → Y) (seen2 : Z → W) (f : Y → W) (meant : Files → Result Y Stop) (old new : Shelved) (h : Halt)
+    → Comes named seen meant old (Err h) new → Comes named seen2 (λ files. result_map f (meant files)) old (Err h) new
+halt_mapped named seen seen2 f meant old new halt.NoMemory x = x
+halt_mapped named seen seen2 f meant old new (halt.Stopped (stop.File role fault.NotRead)) x = (x.0, λ files t. tt)
+halt_mapped named seen seen2 f meant old new (halt.Stopped (stop.File role fault.TooLong)) x = (x.0, λ files t. rw (x.1 files t) refl)
+halt_mapped named seen seen2 f meant old new (halt.Stopped (stop.File role (fault.Refused why))) x = (x.0, λ files t. rw (x.1 files t) refl)
+halt_mapped named seen seen2 f meant old new (halt.Stopped (stop.Settings setting)) x = (x.0, λ files t. rw (x.1 files t) refl)
 
-files_traces : (later : List NamedFile) (i j : InputValues) (files : Files) → with_files i later files ≡ Ok j → length j.traces ≡ length i.traces + traces_among later
-files_traces [] i j files e = let k = ap (λ (v : InputValues). length v.traces) (ok_same (with_files i [] files) i j refl e) in omega (arith, k)
-files_traces (file ∷ later) i j files e =
-    let x = bind_ok (at_role file.0 (with_file i file files)) (λ more. with_files more later files) j e in
-    let one = file_traces file i x.0 files (role_ok file.0 (with_file i file files) x.0 x.1) in
-    let rest = files_traces later x.0 j files x.2 in
-    let both = sum_by-cons (λ (file : NamedFile). trace_count file.0) file later in
-    omega (arith, one, rest, both)
+-- the same at the exit of a `?`
+pub mapped_failed : {X Y Z W : Type 0} (named : List NamedFile) (seen : X → Y) (seen2 : Z → W) (f : Y → W) (meant : Files → Result Y Stop) (old new : Shelved) (r : Result X Halt) (q : Result Z Halt) (h : Halt)
+    → r ≡ Err h → IsErrAnd q (λ y. y ≡ h) → Comes named seen meant old r new → Comes named seen2 (λ files. result_map f (meant files)) old q new
+mapped_failed named seen seen2 f meant old new r q h e k x =
+    let p = err_from_is_err_and q k in
+    let xx : Comes named seen meant old (Err h) new = rw e at x in
+    rw (p.1 ∙ ap Err p.2) (halt_mapped named seen seen2 f meant old new h xx)
 
-from_traces : (manifest : Text) (later : List NamedFile) (j : InputValues) (files : Files) → inputs_from manifest later files ≡ Ok j → length j.traces ≡ traces_among later
-unfolding inputs_from
-from_traces manifest later j files e =
-    let x = bind_ok (at_role role.Manifest (film_in manifest files)) (λ film. with_files (film_alone film) later files) j e in
-    let k = files_traces later (film_alone x.0) j files x.2 in
-    omega (arith, k)
+-- a stage that went well, with what its value adds to
+pub mapped_ok : {X Y Z W : Type 0} (named : List NamedFile) (seen : X → Y) (seen2 : Z → W) (f : Y → W) (meant : Files → Result Y Stop) (old new : Shelved) (r : Result X Halt) (x : X) (z : Z)
+    → r ≡ Ok x → seen2 z ≡ f (seen x) → Comes named seen meant old r new → Comes named seen2 (λ files. result_map f (meant files)) old (Ok z) new
+mapped_ok named seen seen2 f meant old new r x z e k h =
+    let c : Comes named seen meant old (Ok x) new = rw e at h in
+    (c.0, λ files t. rw (c.1 files t, k) refl)
 
--- where no setting stops, what was read stays
-pub misfit_ok : (i j : InputValues) (o : Option Setting) → unless_misfit i o ≡ Ok j → i ≡ j
-misfit_ok i j None e = ok_same _ i j refl e
-misfit_ok i j (Some setting) e = cc
+-- what a reference in an option points to, seen in another way
+seen_behind : {A B : Type 0} (f : A → B) (o : Option (Bor A)) → option_map (λ (x : Bor A). f x.now) o ≡ option_map f (option_copied o)
+seen_behind f None = refl
+seen_behind f (Some x) = refl
 
--- there is a trace for each that the words name
-pub ready_traces : (c : CommandWords) (files : Files) (j : InputValues) → ready_of c files ≡ Ok j → length j.traces ≡ length c.traces
-unfolding ready_of
-ready_traces c files j e =
-    let x = bind_ok (inputs_of c files) (λ i. unless_misfit i (misfit (setup_of c) (kinds_of c) i.film)) j e in
-    let same = misfit_ok x.0 j _ x.2 in
-    ap (λ (v : InputValues). length v.traces) (sym same) ∙ from_traces c.manifest (later_files c) x.0 files x.1 ∙ traces_named c
+-- a reference to the first of some elements shows the first of what they are seen as
+pub first_seen : {A B : Type 0} (f : A → B) (xs : List A) (ys : List B) (o : Option (Bor A)) → option_copied o ≡ slice_get xs 0 → map f xs ≡ ys → option_map (λ (x : Bor A). f x.now) o ≡ slice_get ys 0
+first_seen f xs ys o e h = seen_behind f o ∙ ap (option_map f) e ∙ sym (slice_get-map f xs 0) ∙ ap (λ l. slice_get l 0) h
+
+-- what holds of all that they are seen as holds of it
+pub first_holds : {A B : Type 0} (P : B → Type 0) (f : A → B) (ys : List B) (o : Option (Bor A)) → option_map (λ (x : Bor A). f x.now) o ≡ slice_get ys 0 → All P ys → IfSome o (λ (x : Bor A). P (f x.now))
+first_holds P f ys None e h = tt
+first_holds P f [] (Some x) e h = cc
+first_holds P f (y ∷ ys) (Some x) e h = let same : f x.now ≡ y = cc in subst P (sym same) (h 0 y (omega arith))

@@ -1,3 +1,5 @@
+pub mod Contents
+pub mod Roles
 pub mod Files
 pub mod Inputs
 pub mod Settings

@@ -1,32 +1,20 @@
--- What stands on `err`: one line for each way in which a run ends, but for a text that went out whole.
-use Rattle.std.specs.Prelude.{◌≡◌, List, [], ◌∷◌, ◌++◌, codes, Result}
+-- The line on `err` of a stop: what is wrong with a file, or which setting does not fit.
+use Rattle.std.specs.Prelude.{List, [], ◌∷◌, ◌++◌, codes}
 use Rattle.std.specs.Fmt.{decimal}
-use Rattle.lab_io.specs.declared.PutErr.{PutErr}
 use Rattle.lab_io.specs.Piece.{fields_line}
-use Rattle.lab_io.specs.Sink.{Text, Seen, Puts}
+use Rattle.lab_io.specs.Sink.{Text}
 use Rattle.lab_model.specs.declared.fault.Refusal.{Refusal}
 use Rattle.lab_model.specs.declared.fault.Kind.{Kind}
 use Rattle.lab_model.specs.declared.fault.Kind.TheVariants as kind
 use Rattle.lab_model.specs.declared.fault.Key.{Key}
 use Rattle.lab_model.specs.declared.fault.Key.TheVariants as key
-use Rattle.lab_inputs.specs.declared.stop.Role.{Role}
-use Rattle.lab_inputs.specs.declared.stop.Role.TheVariants as role
 use Rattle.lab_inputs.specs.declared.stop.FileFault.{FileFault}
 use Rattle.lab_inputs.specs.declared.stop.FileFault.TheVariants as fault
 use Rattle.lab_inputs.specs.declared.stop.Setting.{Setting}
 use Rattle.lab_inputs.specs.declared.stop.Setting.TheVariants as setting
 use Rattle.lab_inputs.specs.declared.stop.Stop.{Stop}
 use Rattle.lab_inputs.specs.declared.stop.Stop.TheVariants as stop
-use Rattle.lab_inputs.specs.declared.stop.Ending.{Ending}
-use Rattle.lab_inputs.specs.declared.stop.Ending.TheVariants as ending
-
--- the words of a role
-abbrev pub role_text : Role → Text
-role_text role.Manifest = codes "manifest"
-role_text role.Trace = codes "trace"
-role_text (role.TraceAt place) = codes "trace " ++ decimal place
-role_text role.Seeks = codes "seeks"
-role_text role.Certificate = codes "certificate"
+use Rattle.lab_inputs.specs.Roles.{row_of}
 
 -- the word of a kind of fault
 abbrev pub kind_word : Kind → Text
@@ -76,33 +64,7 @@ setting_fields setting.Buffer = codes "buffer" ∷ []
 setting_fields setting.Utilities = codes "utilities" ∷ []
 setting_fields (setting.Rule place) = codes "rule" ∷ decimal place ∷ []
 
--- the line of a command that stops before it writes
+-- the line of a stop
 abbrev pub stop_note : Stop → Text
-stop_note (stop.File role why) = codes "abrlab: " ++ (role_text role ++ (codes " file: " ++ fields_line (fault_fields why)))
+stop_note (stop.File role why) = codes "abrlab: " ++ ((row_of role).words ++ (codes " file: " ++ fields_line (fault_fields why)))
 stop_note (stop.Settings setting) = codes "abrlab: settings: " ++ fields_line (setting_fields setting)
-stop_note (stop.Budget segment) = codes "abrlab: budget spent at segment " ++ fields_line (decimal segment ∷ [])
-
--- the line where the words are refused
-abbrev pub usage_note : Text
-usage_note = fields_line (codes "abrlab: usage: simulate, compare, plan, check, demo" ∷ [])
-
--- the line where `out` did not take the text
-abbrev pub output_note : Text
-output_note = fields_line (codes "abrlab: output failed" ∷ [])
-
--- the line where memory was wanting
-abbrev pub memory_note : Text
-memory_note = fields_line (codes "abrlab: no memory" ∷ [])
-
--- a text was put, and went out whole or in part
-abbrev pub Says : Seen → Text → Seen → Type 0
-Says old said new = (answer : Result (Unit {0}) PutErr) × Puts old said new answer
-
--- `err` was told of the ending, but for a text that went out whole
-abbrev pub Told : Seen → Ending → Seen → Type 0
-Told old ending.Done new = new ≡ old
-Told old ending.Invalid new = new ≡ old
-Told old ending.Usage new = Says old usage_note new
-Told old (ending.Stopped why) new = Says old (stop_note why) new
-Told old ending.OutputFailed new = Says old output_note new
-Told old ending.NoMemory new = Says old memory_note new

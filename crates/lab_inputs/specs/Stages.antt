@@ -1,30 +1,25 @@
 -- What a stage of a command has for a cause: the files that it asked for, and what came of them.
-use Rattle.std.specs.Prelude.{◌≡◌, ◌≤◌, true, List, [], ◌∷◌, ◌++◌, map, Some, Result, Ok, Err, length, vec_len}
-use Rattle.std.specs.List.{All}
+use Rattle.std.specs.Prelude.{◌≡◌, ◌≤◌, true, List, [], ◌∷◌, ◌++◌, map, Some, Result, Ok, Err, string_bytes}
 use Rattle.lab_io.specs.Sink.{Text, Rose}
 use Rattle.lab_io.specs.Shelf.{Shelved}
 use Rattle.lab_model.specs.declared.fault.InputFault.{InputFault}
 use Rattle.lab_model.specs.declared.fault.InputFault.TheVariants.{Memory, Refused}
-use Rattle.lab_model.specs.Film.{segments_of}
-use Rattle.lab_model.specs.Fit.{SetupFits}
-use Rattle.lab_model.specs.Rules.{KindFits}
-use Rattle.lab_words.specs.Command.{CommandWords}
-use Rattle.lab_model.specs.Seeks.{SeeksFit}
+use Rattle.lab_model.specs.declared.trace.Period.{Period}
 use Rattle.lab_inputs.specs.declared.fetch.FileErr.{FileErr}
 use Rattle.lab_inputs.specs.declared.fetch.FileErr.TheVariants as err
-use Rattle.lab_inputs.specs.declared.inputs.FileName.{FileName}
-use Rattle.lab_inputs.specs.declared.inputs.Inputs.{Inputs}
-use Rattle.lab_inputs.specs.declared.settings.Ready.{Ready}
-use Rattle.lab_inputs.specs.declared.stop.Role.{Role}
+use Rattle.lab_inputs.specs.declared.contents.Network.{Network}
+use Rattle.lab_inputs.specs.declared.role.FileName.{FileName}
+use Rattle.lab_inputs.specs.declared.role.Role.{Role}
 use Rattle.lab_inputs.specs.declared.stop.FileFault.{FileFault}
 use Rattle.lab_inputs.specs.declared.stop.FileFault.TheVariants as fault
 use Rattle.lab_inputs.specs.declared.stop.Stop.{Stop}
 use Rattle.lab_inputs.specs.declared.stop.Stop.TheVariants as stop
 use Rattle.lab_inputs.specs.declared.stop.Halt.{Halt}
 use Rattle.lab_inputs.specs.declared.stop.Halt.TheVariants as halt
-use Rattle.lab_inputs.specs.Files.{Files, NamedFile, request_of}
-use Rattle.lab_inputs.specs.Inputs.{AreAccepted, InputValues}
-use Rattle.lab_inputs.specs.Settings.{kinds_of, setup_of}
+use Rattle.lab_inputs.specs.Files.{AreAccepted, Files, request_of}
+use Rattle.lab_inputs.specs.Inputs.{InputValues}
+use Rattle.lab_inputs.specs.Roles.{NamedFile}
+use Rattle.lab_inputs.specs.Settings.{Fits, settled}
 
 -- the shelf tells these files
 abbrev pub Tells : Shelved → Files → Type 0
@@ -56,11 +51,14 @@ pub record AsksUpTo (named : List NamedFile) (role : Role) (old new : Shelved) :
   pub split : named ≡ before ++ (role, name) ∷ later
   pub asks : Asks (before ++ (role, name) ∷ []) old new
 
--- it was asked for the files up to the one that stops the command, or for all
+-- what it was asked for by a command that stops so: the files up to the one that is refused, or all; the count of a file that was
+-- not read rose, and over told files those before it are accepted
 abbrev pub AsksFor : List NamedFile → Stop → Shelved → Shelved → Type 0
-AsksFor named (stop.File role why) old new = AsksUpTo named role old new
+AsksFor named (stop.File role fault.NotRead) old new =
+    (at : AsksUpTo named role old new) × Rose (old.faults at.name) (new.faults at.name) × ((files : Files) → Tells old files → AreAccepted at.before files)
+AsksFor named (stop.File role fault.TooLong) old new = AsksUpTo named role old new
+AsksFor named (stop.File role (fault.Refused why)) old new = AsksUpTo named role old new
 AsksFor named (stop.Settings setting) old new = Asks named old new
-AsksFor named (stop.Budget segment) old new = Asks named old new
 
 -- ---- what a stage comes to
 
@@ -76,14 +74,16 @@ Reads file seen meant old (Err (err.Stopped fault.TooLong)) new = Asks (file ∷
 Reads file seen meant old (Err (err.Stopped (fault.Refused why))) new = Asks (file ∷ []) old new × Means meant old (Err (fault.Refused why))
 Reads file seen meant old (Err err.Memory) new = AsksSome (file ∷ []) old new
 
--- why a command stopped: the count of a file rose, and those before it are accepted; else over told files it comes to this
+-- a stage comes to this stop; a file that is not read says nothing of what it comes to
+abbrev pub StopsAt : {Y E : Type 0} → (Stop → E) → Result Y E → Stop → Type 0
+StopsAt into meant (stop.File role fault.NotRead) = Unit {0}
+StopsAt into meant (stop.File role fault.TooLong) = meant ≡ Err (into (stop.File role fault.TooLong))
+StopsAt into meant (stop.File role (fault.Refused why)) = meant ≡ Err (into (stop.File role (fault.Refused why)))
+StopsAt into meant (stop.Settings setting) = meant ≡ Err (into (stop.Settings setting))
+
+-- why a stage stopped: what was asked for, and what it comes to over told files
 abbrev pub Stops : {Y : Type 0} → List NamedFile → (Files → Result Y Stop) → Shelved → Stop → Shelved → Type 0
-Stops named meant old (stop.File role fault.NotRead) new =
-    (at : AsksUpTo named role old new) × Rose (old.faults at.name) (new.faults at.name) × ((files : Files) → Tells old files → AreAccepted at.before files)
-Stops named meant old (stop.File role fault.TooLong) new = AsksUpTo named role old new × Means meant old (Err (stop.File role fault.TooLong))
-Stops named meant old (stop.File role (fault.Refused why)) new = AsksUpTo named role old new × Means meant old (Err (stop.File role (fault.Refused why)))
-Stops named meant old (stop.Settings setting) new = Asks named old new × Means meant old (Err (stop.Settings setting))
-Stops named meant old (stop.Budget segment) new = Asks named old new × Means meant old (Err (stop.Budget segment))
+Stops named meant old why new = AsksFor named why old new × ((files : Files) → Tells old files → StopsAt (λ s. s) (meant files) why)
 
 -- what a stage of a command that names these files gave: its value, or why the command stopped
 abbrev pub Comes : {X Y : Type 0} → List NamedFile → (X → Y) → (Files → Result Y Stop) → Shelved → Result X Halt → Shelved → Type 0
@@ -107,18 +107,11 @@ halt_of role (err.Stopped why) = halt.Stopped (stop.File role why)
 abbrev pub file_of : FileName → NamedFile
 file_of file = (file.role, file.name.now)
 
--- what was read, without where it lies in memory
-abbrev pub values_of : Inputs → InputValues
-values_of i = record { film = i.manifest; traces = i.traces.items; seeks = i.seeks.items; certificate = i.certificate.items }
+-- a network behind its name, without where the name lies in memory
+abbrev pub network_of : Network → Text × List Period
+network_of n = (string_bytes n.name, n.trace)
 
--- the seeks are within the film
-abbrev pub IsSound : Inputs → Type 0
-IsSound i = SeeksFit i.seeks.items (segments_of i.manifest)
-
--- what is in hand fits the film: the setup, each rule and the seeks; and there is a trace for each that the words name
-pub record IsReady (c : CommandWords) (r : Ready) : Type 0 where
-  pub setup : r.setup ≡ setup_of c
-  pub fits : SetupFits r.setup r.inputs.manifest
-  pub rules : All (λ kind. KindFits kind r.inputs.manifest) (kinds_of c)
-  pub seeks : IsSound r.inputs
-  pub traces : vec_len r.inputs.traces ≡ length c.traces
+-- what testing the settings came to: all fits, or the stop that tells the first that does not
+abbrev pub IsSettled : InputValues → Result (Unit {0}) Stop → Type 0
+IsSettled i (Ok done) = (settled i ≡ Ok i) × Fits i
+IsSettled i (Err why) = settled i ≡ Err why

@@ -1,10 +1,11 @@
 //! A file of a command, fetched from the shelf within its limit.
 
 ghost use Rattle.std.specs.Prelude.{◌≡◌};
-ghost use Rattle.lab_inputs.specs.Files.{bytes_of, limit_of};
+ghost use Rattle.lab_inputs.specs.Files.{bytes_of};
 ghost use Rattle.lab_inputs.specs.Stages.{Reads, err_of, halt_of};
 
-use crate::stop::{FileFault, Halt, Role, Stop};
+use crate::role::Role;
+use crate::stop::{FileFault, Halt, Stop};
 use lab_io::{FetchErr, Shelf};
 use lab_model::InputFault;
 use std::alloc::Global;
@@ -44,16 +45,6 @@ impl FileErr {
     }
 }
 
-/// The most bytes of a file.
-fn limit_of(role: Role) -> u64
-    ensures { result ≡ limit_of role }
-{
-    match role {
-        Role::Manifest | Role::Trace | Role::TraceAt(_) | Role::Seeks => 67_108_864,
-        Role::Certificate => 536_870_912,
-    }
-}
-
 /// The bytes of a file, of which one more than the limit is asked for.
 pub(crate) fn fetch_file<F: Shelf>(
     alloc: Global,
@@ -65,7 +56,7 @@ pub(crate) fn fetch_file<F: Shelf>(
         (λ files. bytes_of role (files name.now))
         (F.shelved shelf.old) result (F.shelved shelf.new) }
 {
-    let limit = limit_of(role);
+    let limit = role.limit();
     match shelf.fetch(alloc, name, limit + 1) {
         Ok(bytes) if bytes.len() as u64 > limit => Err(FileErr::Stopped(FileFault::TooLong)),
         Ok(bytes) => Ok(bytes),

@@ -1,14 +1,17 @@
-//! What every command on a manifest begins with: its files, read in the order of refusals, and its settings; and
-//! how a run ends, with the line on `err` that says so.
+//! What every command on a manifest begins with: its files, read in the order of refusals, as one value with the setup and
+//! the rules of its words; and whether these fit the film.
 #![tactic(auto)]
 
+mod contents;
 mod fetch;
 mod inputs;
 mod note;
+mod role;
 mod settings;
 mod stop;
 
+pub use contents::Network;
 pub use inputs::{Inputs, read_inputs};
-pub use note::tell;
-pub use settings::{Ready, Settings, prepare, settings_on};
-pub use stop::{Ending, FileFault, Halt, Role, Setting, Stop};
+pub use note::put_stop;
+pub use role::Role;
+pub use stop::{FileFault, Halt, Setting, Stop};

@@ -1,14 +1,14 @@
-//! The line on `err`.
+//! The line of a stop.
 
-ghost use Rattle.std.specs.Prelude.{◌≡◌, ◌∷◌, ◌++◌, [], codes, map};
-ghost use Rattle.std.specs.Fmt.{decimal};
-ghost use Rattle.lab_io.specs.Piece.{fields_line, piece_text};
+ghost use Rattle.std.specs.Prelude.{◌≡◌};
+ghost use Rattle.lab_io.specs.Piece.{fields_line};
 ghost use Rattle.lab_io.specs.Sink.{Puts};
-ghost use Rattle.lab_inputs.specs.Notes.{Told, fault_fields, key_word, kind_word, refusal_fields, role_text, setting_fields, stop_note};
+ghost use Rattle.lab_inputs.specs.Notes.{fault_fields, key_word, kind_word, refusal_fields, setting_fields, stop_note};
 
-use crate::stop::{Ending, FileFault, Role, Setting, Stop};
+use crate::role::Role;
+use crate::stop::{FileFault, Setting, Stop};
 use lab_io::Piece::{Number, Word};
-use lab_io::{PutErr, Sink, put_fields, put_number, put_text};
+use lab_io::{PutErr, Sink, put_fields, put_text};
 use lab_model::{Key, Kind, Refusal};
 
 fn kind_word(kind: Kind) -> &'static str
@@ -51,34 +51,6 @@ fn key_word(key: Key) -> &'static str
     }
 }
 
-/// Says a place.
-fn put_place<E: Sink>(err: &mut E, place: usize) -> Result<(), PutErr>
-    ensures { Puts (E.seen err.old) (decimal place) (E.seen err.new) result }
-{
-    put_number(err, place as i128)
-}
-
-/// Says which of several traces a file is.
-fn put_numbered_trace<E: Sink>(err: &mut E, place: usize) -> Result<(), PutErr>
-    ensures { Puts (E.seen err.old) (role_text (Role.TraceAt place)) (E.seen err.new) result }
-{
-    put_text(err, "trace ")?;
-    put_place(err, place)
-}
-
-/// Says what a file is for.
-fn put_role<E: Sink>(err: &mut E, role: Role) -> Result<(), PutErr>
-    ensures { Puts (E.seen err.old) (role_text role) (E.seen err.new) result }
-{
-    match role {
-        Role::Manifest => put_text(err, "manifest"),
-        Role::Trace => put_text(err, "trace"),
-        Role::TraceAt(place) => put_numbered_trace(err, place),
-        Role::Seeks => put_text(err, "seeks"),
-        Role::Certificate => put_text(err, "certificate"),
-    }
-}
-
 /// Says why a reader refused a file, and where.
 fn put_refusal<E: Sink>(err: &mut E, why: Refusal) -> Result<(), PutErr>
     ensures { Puts (E.seen err.old) (fields_line (refusal_fields why)) (E.seen err.new) result }
@@ -109,7 +81,7 @@ fn put_fault<E: Sink>(err: &mut E, fault: FileFault) -> Result<(), PutErr>
 }
 
 /// Says which rule does not fit.
-fn put_rule<E: Sink>(err: &mut E, place: u8) -> Result<(), PutErr>
+fn put_rule<E: Sink>(err: &mut E, place: usize) -> Result<(), PutErr>
     ensures { Puts (E.seen err.old) (fields_line (setting_fields (Setting.Rule place)))
         (E.seen err.new) result }
 {
@@ -132,7 +104,7 @@ fn put_file<E: Sink>(err: &mut E, role: Role, fault: FileFault) -> Result<(), Pu
     ensures { Puts (E.seen err.old) (stop_note (Stop.File role fault)) (E.seen err.new) result }
 {
     put_text(err, "abrlab: ")?;
-    put_role(err, role)?;
+    role.put(err)?;
     put_text(err, " file: ")?;
     put_fault(err, fault)
 }
@@ -145,43 +117,12 @@ fn put_settings<E: Sink>(err: &mut E, setting: Setting) -> Result<(), PutErr>
     put_setting(err, setting)
 }
 
-/// Says which segment, and ends the line.
-fn put_segment<E: Sink>(err: &mut E, segment: u16) -> Result<(), PutErr>
-    ensures { Puts (E.seen err.old) (fields_line (decimal segment ∷ [])) (E.seen err.new) result }
-{
-    put_fields(err, &[Number(segment as i128)])
-}
-
-/// Says at the end of which segment the budget was spent.
-fn put_budget<E: Sink>(err: &mut E, segment: u16) -> Result<(), PutErr>
-    ensures { Puts (E.seen err.old) (stop_note (Stop.Budget segment)) (E.seen err.new) result }
-{
-    put_text(err, "abrlab: budget spent at segment ")?;
-    put_segment(err, segment)
-}
-
-/// Says why a command stopped before it wrote.
-fn put_stop<E: Sink>(err: &mut E, stop: Stop) -> Result<(), PutErr>
+/// Says why a command stopped before it wrote, as one line.
+pub fn put_stop<E: Sink>(err: &mut E, stop: Stop) -> Result<(), PutErr>
     ensures { Puts (E.seen err.old) (stop_note stop) (E.seen err.new) result }
 {
     match stop {
         Stop::File(role, fault) => put_file(err, role, fault),
         Stop::Settings(setting) => put_settings(err, setting),
-        Stop::Budget(segment) => put_budget(err, segment),
     }
-}
-
-/// Says on `err` how a run ended, and nothing where its text went out whole. Where `err` does not take the line,
-/// nobody is told.
-pub fn tell<E: Sink>(err: &mut E, ending: Ending)
-    ensures { Told (E.seen err.old) ending (E.seen err.new) }
-{
-    let usage = "abrlab: usage: simulate, compare, plan, check, demo";
-    let _ = match ending {
-        Ending::Done | Ending::Invalid => Ok(()),
-        Ending::Usage => put_fields(err, &[Word(usage)]),
-        Ending::Stopped(stop) => put_stop(err, stop),
-        Ending::OutputFailed => put_fields(err, &[Word("abrlab: output failed")]),
-        Ending::NoMemory => put_fields(err, &[Word("abrlab: no memory")]),
-    };
 }

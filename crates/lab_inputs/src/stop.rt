@@ -1,22 +1,8 @@
-//! How a run ends.
+//! Why a command stops before it writes.
 
+use crate::role::Role;
 use lab_model::Refusal;
 use std::alloc::AllocError;
-
-/// What a file is for.
-#[derive(Clone, Copy, PartialEq, Eq, Debug)]
-pub enum Role {
-    /// The film.
-    Manifest,
-    /// The recorded network.
-    Trace,
-    /// One of several recorded networks, by its place from 1.
-    TraceAt(usize),
-    /// The seek script.
-    Seeks,
-    /// The certificate.
-    Certificate,
-}
 
 /// What is wrong with a file.
 #[derive(Clone, Copy, PartialEq, Eq, Debug)]
@@ -37,7 +23,7 @@ pub enum Setting {
     /// The utilities are not one for each rung.
     Utilities,
     /// A rule, by its place from 1, asks for what the film does not have.
-    Rule(u8),
+    Rule(usize),
 }
 
 /// Why a command stops before it writes.
@@ -47,8 +33,6 @@ pub enum Stop {
     File(Role, FileFault),
     /// The settings do not fit the film.
     Settings(Setting),
-    /// The labels of a plan, up to the end of this segment and not before, are more than the budget.
-    Budget(u16),
 }
 
 /// Why there is nothing to write.
@@ -69,21 +53,4 @@ impl From<AllocError> for Halt {
     fn from(_refused: AllocError) -> Halt {
         Halt::NoMemory
     }
-}
-
-/// How a run ends.
-#[derive(Clone, Copy, PartialEq, Eq, Debug)]
-pub enum Ending {
-    /// The text went out whole.
-    Done,
-    /// The text went out whole, which says that a certificate isn't valid.
-    Invalid,
-    /// The words are refused.
-    Usage,
-    /// The command stopped before it wrote.
-    Stopped(Stop),
-    /// `out` did not take the text.
-    OutputFailed,
-    /// Memory was wanting.
-    NoMemory,
 }

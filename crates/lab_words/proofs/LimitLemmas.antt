@@ -1,5 +1,5 @@
 -- What a command line asks for keeps its limits.
-use Rattle.std.proofs.Common.{◌≡◌, ◌++◌, length-append, ◌&&◌, ◌<◌, ◌≤◌, ◌+◌, ◌⊎◌, ℕ, List, [], ◌∷◌, Bool, true, false, Option, Some, None, Result, Ok, Err, IfOk, length, refl, sym, ap, subst, arith, cond, inl, inr, zero, suc, option_map, option_and_then, codes, lit≤}
+use Rattle.std.proofs.Common.{◌≡◌, ◌++◌, length-append, ◌&&◌, ◌<◌, ◌≤◌, ◌+◌, ◌⊎◌, ℕ, List, [], ◌∷◌, Bool, true, false, Option, Some, None, Result, Ok, Err, IfOk, length, refl, sym, ap, subst, arith, cond, inl, inr, zero, suc, option_map, option_and_then, codes, lit≤, if◌then◌else◌}
 use Rattle.std.proofs.lemmas.Bool.Decides.{nat_tests}
 use Rattle.std.proofs.lemmas.List.Splits.{length-slice_split}
 use Rattle.std.specs.List.{All, after_first, before_first, list_any, slice_split}
@@ -26,7 +26,7 @@ use Rattle.lab_words.specs.Table.{accepted}
 use Rattle.lab_model.specs.OptionSteps.{◌>>=◌}
 use Rattle.lab_model.proofs.OptionSteps.{then_some}
 use Rattle.lab_words.specs.Values.{Gives, is_given, is_stray, several, some_plain, number_in, number_or, optional, required, rule_in}
-use Rattle.lab_words.specs.Words.{asked_of}
+use Rattle.lab_words.specs.Words.{asked_of, command_of, has_dashes, verb_of}
 use Rattle.lab_words.specs.declared.Command.{Command}
 use Rattle.lab_words.specs.declared.Verb.{Verb}
 use Rattle.lab_words.specs.declared.Verb.TheVariants as verb
@@ -409,3 +409,14 @@ asked_within verb.Demo words c h = let rows = went demo_in (accepted demo_app wo
 pub gives_within : (v : Verb) (words : List Text) (r : Result Command WordsErr) → Gives view r (asked_of v words) → IfOk r (λ c. IsWithinLimits (view c))
 gives_within v words (Ok c) h = asked_within v words (view c) h
 gives_within v words (Err e) h = tt
+
+-- what words ask for is within the limits
+pub command_within : (words : List Text) (c : CommandWords) → command_of words ≡ Some c → IsWithinLimits c
+unfolding command_of
+command_within [] c h = cc
+command_within (word ∷ words) c h = by_verb (has_dashes words) (verb_of word) h
+  where
+    by_verb : (dashes : Bool) (v : Option Verb) → (if dashes then None else option_and_then (λ verb. asked_of verb words) v) ≡ Some c → IsWithinLimits c
+    by_verb true v h = cc
+    by_verb false None h = cc
+    by_verb false (Some v) h = asked_within v words c h

@@ -1,8 +1,14 @@
+use Rattle.std.proofs.Common.{subst}
 use Rattle.lab_words.specs.Command.{view}
-use Rattle.abrlab_top.proofs.Judged.{judged_ends}
+use Rattle.lab_words.specs.Limits.{HasItsOwn}
+use Rattle.abrlab_top.specs.Check.{check}
+use Rattle.abrlab_top.specs.Stages.{of_a_check}
+use Rattle.abrlab_top.proofs.Whole.{about_ends, read_failed}
 use Rattle.abrlab_top.proofs.check.check.Goals as goal
 
-pub returns-in-Ok : goal.returns-in-Ok
-returns-in-Ok g c =
-    let words = view c.args.command.now in
-    rw (c.ending_of.ensures, c.verdict_ending.ensures) (judged_ends words c.in-Ok.said _ _ _ _ c.requires.verb c.in-Ok.ensures.0 c.in-Ok.ensures.1 c.put_judgement.result c.put_judgement.ensures)
+pub returns-in_err-inputs : goal.returns-in_err-inputs
+returns-in_err-inputs g c = read_failed of_a_check check (view c.args.command) _ _ _ c.read_inputs.result c.from_residual.result _ c.in_err-inputs.was c.from_residual.ensures.1 c.read_inputs.ensures
+
+pub returns : goal.returns
+returns g c =
+    about_ends of_a_check check (view c.args.command) c.in_ok-inputs.inputs _ _ _ _ _ (λ h. subst (λ v. HasItsOwn v (view c.args.command)) c.requires.verb c.requires.limits.own) c.in_ok-inputs.ensures c.write_verdict.ensures

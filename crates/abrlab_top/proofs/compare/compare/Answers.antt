@@ -1,14 +1,11 @@
-use Rattle.std.proofs.Common.{Ok, ap, refl}
 use Rattle.lab_words.specs.Command.{view}
-use Rattle.lab_inputs.specs.Stages.{values_of}
 use Rattle.abrlab_top.specs.Compare.{compare}
-use Rattle.abrlab_top.proofs.RowByRow.{writes_rows}
-use Rattle.abrlab_top.proofs.Traces.{compare_printed}
-use Rattle.abrlab_top.proofs.Whole.{ends_written}
+use Rattle.abrlab_top.specs.Stages.{row_by_row}
+use Rattle.abrlab_top.proofs.Whole.{about_ends, read_failed}
 use Rattle.abrlab_top.proofs.compare.compare.Goals as goal
 
-pub returns-in-Ok : goal.returns-in-Ok
-returns-in-Ok g c =
-    rw c.ending_of.ensures (ends_written (view c.args.command.now) (λ i. Ok (compare (view c.args.command.now) i)) (values_of c.in-Ok.ready.inputs) (compare (view c.args.command.now) (values_of c.in-Ok.ready.inputs)).text _ _ _ _ c.write_comparison.result
-    (λ files. rw c.requires.verb refl) (ap Ok (compare_printed (view c.args.command.now) (values_of c.in-Ok.ready.inputs))) c.in-Ok.ensures.ready.0 c.in-Ok.ensures.ready.1
-    (writes_rows (view c.args.command.now).verb _ _ _ _ (rw c.requires.verb refl) c.write_comparison.ensures))
+pub returns-in_err-inputs : goal.returns-in_err-inputs
+returns-in_err-inputs g c = read_failed row_by_row compare (view c.args.command) _ _ _ c.read_inputs.result c.from_residual.result _ c.in_err-inputs.was c.from_residual.ensures.1 c.read_inputs.ensures
+
+pub returns : goal.returns
+returns g c = about_ends row_by_row compare (view c.args.command) c.in_ok-inputs.inputs _ _ _ _ _ (λ h. cc) c.in_ok-inputs.ensures c.write_comparison.ensures

@@ -1,24 +1,30 @@
-use Rattle.std.proofs.Common.{◌∙◌, drop, map, refl, string_bytes, sym}
-use Rattle.lab_words.specs.Command.{view}
-use Rattle.lab_inputs.specs.Stages.{values_of}
-use Rattle.abrlab_top.proofs.RowByRow.{rows_as, rows_failed, rows_more, rows_none}
-use Rattle.abrlab_top.proofs.Traces.{compared, traces_end, traces_from}
+use Rattle.std.proofs.Common.{ap}
+use Rattle.std.specs.List.{flat_map}
+use Rattle.abrlab_top.specs.Compare.{compare, network_rows}
+use Rattle.abrlab_top.specs.Stages.{row_by_row}
+use Rattle.abrlab_top.proofs.Networks.{compare_stopped, compared}
+use Rattle.abrlab_top.proofs.RowByRow.{rows_as, rows_done, rows_ended}
+use Rattle.abrlab_top.proofs.Whole.{all_settled, exit, settings_stop, unsettled}
 use Rattle.abrlab_top.proofs.compare.write_comparison.Goals as goal
 
-pub loop-place-preserved : goal.loop-place-preserved
-loop-place-preserved g c = λ end answer h.
-    let e = traces_from (view c.args.command.now) (values_of c.args.ready.now.inputs) c.args.command.now.traces.items c.args.ready.now.inputs.traces.items c.deref-trace-items.result.now c.loop-place.place c.index.result.now c.deref.result.now c.trace-item.result
-    c.deref-trace-items.ensures.value c.loop-place-test.true (c.deref-trace-items.ensures.len ∙ c.requires.ready.traces) c.index.ensures c.deref.ensures c.trace-item.is in
-    c.loop-place.invariant end answer (rows_as _ _ _ _ _ (sym e) (rows_more _ _ _ _ _ _ _ _ c.in_ok-write_trace.was c.write_trace.ensures h))
+pub returns-in_err-fit : goal.returns-in_err-fit
+returns-in_err-fit g c =
+    let i = c.args.inputs.now in
+    let stop = unsettled i c.fit.result _ c.in_err-fit.was c.fit.ensures in
+    exit row_by_row (compare i) _ _ c.from_residual.result _ c.from_residual.ensures.1 (settings_stop row_by_row i (compare i) _ _ stop (compare_stopped i _ stop))
 
-pub returns-in_err-write_trace : goal.returns-in_err-write_trace
-returns-in_err-write_trace g c =
-    let e = traces_from (view c.args.command.now) (values_of c.args.ready.now.inputs) c.args.command.now.traces.items c.args.ready.now.inputs.traces.items c.deref-trace-items.result.now c.loop-place.place c.index.result.now c.deref.result.now c.trace-item.result
-    c.deref-trace-items.ensures.value c.loop-place-test.true (c.deref-trace-items.ensures.len ∙ c.requires.ready.traces) c.index.ensures c.deref.ensures c.trace-item.is in
-    rows_as _ _ _ _ _ (sym (compared (view c.args.command.now) (values_of c.args.ready.now.inputs)))
-    (c.loop-place.invariant _ _ (rows_as _ _ _ _ _ (sym e) (rows_failed _ _ _ _ _ c.from_residual.result _ c.in_err-write_trace.was c.from_residual.ensures.1 c.write_trace.ensures)))
+pub write_networks-requires : goal.write_networks-requires
+write_networks-requires g c = record { fits = (all_settled c.args.inputs.now c.fit.result _ c.in_ok-fit.was c.fit.ensures).1 }
+
+pub returns-in_err-write_networks : goal.returns-in_err-write_networks
+returns-in_err-write_networks g c =
+    let i = c.args.inputs.now in
+    let done = all_settled i c.fit.result _ c.in_ok-fit.was c.fit.ensures in
+    exit row_by_row (compare i) _ _ c.from_residual-in_err-write_networks.result _ c.from_residual-in_err-write_networks.ensures.1
+    (rows_ended (compare i) (flat_map (network_rows i) i.networks) _ _ c.write_networks.result _ (compared i done.0) c.in_err-write_networks.was (rows_as _ _ _ _ _ (ap (flat_map (network_rows i)) c.networks.ensures) c.write_networks.ensures))
 
 pub returns : goal.returns
 returns g c =
-    rows_as _ _ _ _ _ (sym (compared (view c.args.command.now) (values_of c.args.ready.now.inputs)))
-    (c.loop-place.invariant _ _ (rows_as _ _ _ _ _ (sym (traces_end (view c.args.command.now) (values_of c.args.ready.now.inputs) (map string_bytes (drop c.loop-place.place c.args.command.now.traces.items)) c.args.ready.now.inputs.traces.items c.deref-trace-items.result.now c.loop-place.place c.deref-trace-items.ensures.value c.loop-place-test.false)) (rows_none _ _ refl)))
+    let i = c.args.inputs.now in
+    let done = all_settled i c.fit.result _ c.in_ok-fit.was c.fit.ensures in
+    rows_done (compare i) (flat_map (network_rows i) i.networks) _ _ c.write_networks.result _ (compared i done.0) c.in_ok-write_networks.was (rows_as _ _ _ _ _ (ap (flat_map (network_rows i)) c.networks.ensures) c.write_networks.ensures)

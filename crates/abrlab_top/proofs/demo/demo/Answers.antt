@@ -1,8 +1,13 @@
 use Rattle.std.proofs.Common.{refl}
-use Rattle.lab_words.specs.Command.{view}
-use Rattle.abrlab_top.proofs.MadeCase.{ends_demo}
-use Rattle.abrlab_top.proofs.RowByRow.{writes_rows}
+use Rattle.abrlab_top.specs.Demo.{demo, demo_text}
+use Rattle.abrlab_top.specs.Stages.{row_by_row}
+use Rattle.abrlab_top.proofs.RowByRow.{rows_done, rows_ended}
+use Rattle.abrlab_top.proofs.Whole.{exit}
 use Rattle.abrlab_top.proofs.demo.demo.Goals as goal
 
+pub returns-in_err-write_demo : goal.returns-in_err-write_demo
+returns-in_err-write_demo g c =
+    exit row_by_row (demo c.args.number) _ _ c.from_residual.result _ c.from_residual.ensures.1 (rows_ended (demo c.args.number) (demo_text c.args.number) _ _ c.write_demo.result _ refl c.in_err-write_demo.was c.write_demo.ensures)
+
 pub returns : goal.returns
-returns g c = λ shelf. rw c.ending_of.ensures (ends_demo (view c.args.command.now) shelf _ _ c.write_demo.result c.requires.verb (writes_rows (view c.args.command.now).verb _ _ _ _ (rw c.requires.verb refl) c.write_demo.ensures))
+returns g c = rows_done (demo c.args.number) (demo_text c.args.number) _ _ c.write_demo.result _ refl c.in_ok-write_demo.was c.write_demo.ensures

@@ -1,5 +1,5 @@
-use Rattle.abrlab_top.proofs.Accepted.{plans_accepted}
+use Rattle.abrlab_top.proofs.Accepted.{runs_accepted}
 use Rattle.abrlab_top.proofs.laws.plans_are_accepted.Goals as goal
 
 pub returns : goal.returns
-returns c = plans_accepted
+returns c = runs_accepted

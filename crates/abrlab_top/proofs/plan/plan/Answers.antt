@@ -1,17 +1,13 @@
-use Rattle.std.proofs.Common.{refl}
 use Rattle.lab_words.specs.Command.{view}
-use Rattle.lab_inputs.specs.Stages.{values_of}
-use Rattle.labels.specs.Parts.{plan_parts}
-use Rattle.abrlab_top.specs.Plan.{parts_text, plan}
-use Rattle.abrlab_top.proofs.Whole.{ends_wanting, ends_written, writes}
+use Rattle.abrlab_top.specs.Plan.{plan}
+use Rattle.abrlab_top.specs.Stages.{at_the_end}
+use Rattle.abrlab_top.proofs.Whole.{about_ends, read_failed}
 use Rattle.abrlab_top.proofs.plan.plan.Goals as goal
 
-pub returns-in-Ok-plan_of : goal.returns-in-Ok-plan_of
-returns-in-Ok-plan_of g c =
-    let said = parts_text c.args.command.now.as_certificate (plan_parts c.in-Ok.ready.inputs.manifest c.in-Ok-plan_of.plan) c.in-Ok-plan_of.plan.labels in
-    rw c.ending_of.ensures (ends_written (view c.args.command.now) (plan (view c.args.command.now)) (values_of c.in-Ok.ready.inputs) said _ _ _ _ c.put_answer.result
-    (λ files. rw c.requires.verb refl) c.in-Ok-plan_of.ensures.1 c.in-Ok.ensures.ready.0 c.in-Ok.ensures.ready.1
-    (writes (view c.args.command.now).verb (g.O.Sink.seen c.args.out.now) (g.O.Sink.seen c.put_answer.new.out) said said c.put_answer.result refl c.put_answer.ensures))
+pub returns-in_err-inputs : goal.returns-in_err-inputs
+returns-in_err-inputs g c =
+    read_failed at_the_end (plan (view c.args.command).budget (view c.args.command).as_certificate) (view c.args.command) _ _ _ c.read_inputs.result c.from_residual.result _ c.in_err-inputs.was c.from_residual.ensures.1 c.read_inputs.ensures
 
 pub returns : goal.returns
-returns g c = ends_wanting (view c.args.command.now) (g.F.Shelf.shelved c.args.shelf.now) (g.F.Shelf.shelved c.prepare.new.shelf) (g.O.Sink.seen c.args.out.now) c.in-Ok.ensures.ready.0
+returns g c =
+    about_ends at_the_end (plan (view c.args.command).budget (view c.args.command).as_certificate) (view c.args.command) c.in_ok-inputs.inputs _ _ _ _ _ (λ h. cc) c.in_ok-inputs.ensures c.write_plan.ensures

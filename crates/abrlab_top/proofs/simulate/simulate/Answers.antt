@@ -1,11 +1,11 @@
 use Rattle.lab_words.specs.Command.{view}
-use Rattle.lab_inputs.specs.Stages.{values_of}
-use Rattle.std.proofs.Common.{Ok, ap, refl}
 use Rattle.abrlab_top.specs.Simulate.{simulate}
-use Rattle.abrlab_top.proofs.Whole.{ends_written, simulate_printed}
+use Rattle.abrlab_top.specs.Stages.{at_the_end}
+use Rattle.abrlab_top.proofs.Whole.{about_ends, read_failed}
 use Rattle.abrlab_top.proofs.simulate.simulate.Goals as goal
 
-pub returns-in-Ok : goal.returns-in-Ok
-returns-in-Ok g c =
-    rw c.ending_of.ensures (ends_written (view c.args.command.now) (λ i. Ok (simulate (view c.args.command.now) i)) (values_of c.in-Ok.ready.inputs) (simulate (view c.args.command.now) (values_of c.in-Ok.ready.inputs)).text _ _ _ _ c.write_simulation.result
-    (λ files. rw c.requires.verb refl) (ap Ok (simulate_printed (view c.args.command.now) (values_of c.in-Ok.ready.inputs))) c.in-Ok.ensures.ready.0 c.in-Ok.ensures.ready.1 c.write_simulation.ensures)
+pub returns-in_err-inputs : goal.returns-in_err-inputs
+returns-in_err-inputs g c = read_failed at_the_end simulate (view c.args.command) _ _ _ c.read_inputs.result c.from_residual.result _ c.in_err-inputs.was c.from_residual.ensures.1 c.read_inputs.ensures
+
+pub returns : goal.returns
+returns g c = about_ends at_the_end simulate (view c.args.command) c.in_ok-inputs.inputs _ _ _ _ _ (λ h. cc) c.in_ok-inputs.ensures c.write_simulation.ensures

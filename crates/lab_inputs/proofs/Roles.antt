@@ -1,0 +1,124 @@
+-- The one place of the proofs where roles are told apart: what the row of each says of what its bytes add.
+use Rattle.std.proofs.Common.{◌≡◌, ◌∙◌, ℕ, ◌+◌, ◌++◌, List, [], ◌∷◌, Bool, true, false, Option, Some, None, Result, Ok, length, length-append, ap, sym, refl, subst, arith, if◌then◌else◌}
+use Rattle.std.specs.Prelude.{sum_by}
+use Rattle.std.specs.List.{All}
+use Rattle.std.proofs.lemmas.List.Elements.{All-push}
+use Rattle.std.proofs.lemmas.List.Sums.{sum_by-append, sum_by-cons}
+use Rattle.lab_io.specs.Sink.{Text}
+use Rattle.lab_model.specs.declared.trace.Period.{Period}
+use Rattle.lab_model.specs.Cycle.{IsTrace}
+use Rattle.lab_model.specs.Film.{IsFilm, segments_of}
+use Rattle.lab_words.specs.declared.Verb.{Verb}
+use Rattle.lab_words.specs.declared.Verb.TheVariants as verb
+use Rattle.lab_words.specs.Command.{CommandWords}
+use Rattle.manifest_reader.specs.Manifest.{manifest_of}
+use Rattle.manifest_reader.proofs.Accepted.{manifest-limits}
+use Rattle.seek_script.specs.Script.{seeks_of}
+use Rattle.trace_reader.specs.Trace.{trace_json}
+use Rattle.trace_reader.specs.TraceCsv.{trace_csv_of}
+use Rattle.trace_reader.proofs.Accepted.{trace_csv-limits, trace_json-limits}
+use Rattle.lab_inputs.specs.declared.role.Role.{Role}
+use Rattle.lab_inputs.specs.declared.role.Role.TheVariants as role
+use Rattle.lab_inputs.specs.Contents.{ContentValues, is_csv, trace_of, with_certificate, with_film, with_network, with_seeks}
+use Rattle.lab_inputs.specs.Roles.{NamedFile, later_files, optional_file, result_map, row_of, trace_files, trace_role, traces_from}
+use Rattle.lab_inputs.proofs.Steps.{map_ok, ok_same}
+
+-- the film and the networks keep their limits
+pub record AreWithin (v : ContentValues) : Type 0 where
+  pub film : IsFilm v.film
+  pub networks : All (λ (n : Text × List Period). IsTrace n.1) v.networks
+
+by_format : (csv : Bool) (bytes : Text) (ps : List Period) → (if csv then trace_csv_of bytes else trace_json bytes) ≡ Ok ps → IsTrace ps
+by_format true bytes ps h = trace_csv-limits bytes ps h
+by_format false bytes ps h = trace_json-limits bytes ps h
+
+network_within : (name bytes : Text) (v w : ContentValues) → result_map (with_network name v) (trace_of name bytes) ≡ Ok w → AreWithin v → AreWithin w
+network_within name bytes v w h k =
+    let x = map_ok (with_network name v) (trace_of name bytes) w h in
+    let limits = by_format (is_csv name) bytes x.0 x.2 in
+    subst AreWithin (sym x.1) (record { film = k.film; networks = All-push (λ (n : Text × List Period). IsTrace n.1) v.networks (name, x.0) k.networks limits })
+
+-- what one file more adds keeps the limits
+pub adds_within : (r : Role) (name bytes : Text) (v w : ContentValues) → (row_of r).adds name v bytes ≡ Ok w → AreWithin v → AreWithin w
+adds_within role.Manifest name bytes v w h k =
+    let x = map_ok (with_film v) (manifest_of bytes) w h in
+    subst AreWithin (sym x.1) (record { film = manifest-limits bytes x.0 x.2; networks = k.networks })
+adds_within role.Trace name bytes v w h k = network_within name bytes v w h k
+adds_within (role.TraceAt place) name bytes v w h k = network_within name bytes v w h k
+adds_within role.Seeks name bytes v w h k =
+    let x = map_ok (with_seeks v) (seeks_of bytes (segments_of v.film)) w h in
+    subst AreWithin (sym x.1) (record { film = k.film; networks = k.networks })
+adds_within role.Certificate name bytes v w h k =
+    subst AreWithin (ok_same _ (with_certificate v bytes) w refl h) (record { film = k.film; networks = k.networks })
+
+-- ---- how many networks there are
+
+-- how many networks a file of this role is
+pub networks_in : Role → ℕ
+networks_in role.Manifest = 0
+networks_in role.Trace = 1
+networks_in (role.TraceAt place) = 1
+networks_in role.Seeks = 0
+networks_in role.Certificate = 0
+
+-- how many networks these files are
+pub networks_among : List NamedFile → ℕ
+networks_among files = sum_by (λ (file : NamedFile). networks_in file.0) files
+
+count_kept : (v w : ContentValues) → w.networks ≡ v.networks → length w.networks ≡ length v.networks + 0
+count_kept v w e = let k = ap length e in omega (arith, k)
+
+-- one file more adds as many networks as its role says
+pub adds_count : (r : Role) (name bytes : Text) (v w : ContentValues) → (row_of r).adds name v bytes ≡ Ok w → length w.networks ≡ length v.networks + networks_in r
+unfolding networks_in
+adds_count role.Manifest name bytes v w h = let x = map_ok (with_film v) (manifest_of bytes) w h in count_kept v w (ap (λ (u : ContentValues). u.networks) x.1)
+adds_count role.Trace name bytes v w h =
+    let x = map_ok (with_network name v) (trace_of name bytes) w h in
+    ap (λ (u : ContentValues). length u.networks) x.1 ∙ length-append v.networks ((name, x.0) ∷ [])
+adds_count (role.TraceAt place) name bytes v w h =
+    let x = map_ok (with_network name v) (trace_of name bytes) w h in
+    ap (λ (u : ContentValues). length u.networks) x.1 ∙ length-append v.networks ((name, x.0) ∷ [])
+adds_count role.Seeks name bytes v w h = let x = map_ok (with_seeks v) (seeks_of bytes (segments_of v.film)) w h in count_kept v w (ap (λ (u : ContentValues). u.networks) x.1)
+adds_count role.Certificate name bytes v w h = count_kept v w (sym (ap (λ (u : ContentValues). u.networks) (ok_same _ (with_certificate v bytes) w refl h)))
+
+one_network : (v : Verb) (place : ℕ) → networks_in (trace_role v place) ≡ 1
+unfolding networks_in
+one_network verb.Simulate place = refl
+one_network verb.Compare place = refl
+one_network verb.Plan place = refl
+one_network verb.Check place = refl
+one_network verb.Demo place = refl
+
+-- the files of one more and of those behind it
+pub among_cons : (file : NamedFile) (files : List NamedFile) → networks_among (file ∷ files) ≡ networks_in file.0 + networks_among files
+unfolding networks_among
+among_cons file files = sum_by-cons (λ (file : NamedFile). networks_in file.0) file files
+
+-- no files are no networks
+pub among_none : networks_among [] ≡ 0
+unfolding networks_among
+among_none = refl
+
+all_networks : (v : Verb) (place : ℕ) (names : List Text) → networks_among (traces_from v place names) ≡ length names
+all_networks v place [] = among_none
+all_networks v place (name ∷ names) =
+    let h = all_networks v (place + 1) names in
+    let one = one_network v place in
+    let e = among_cons (trace_role v place, name) (traces_from v (place + 1) names) in
+    omega (arith, e, one, h)
+
+no_networks : (seeks certificate : Option Text) → networks_among (optional_file role.Seeks seeks ++ optional_file role.Certificate certificate) ≡ 0
+unfolding networks_among networks_in
+no_networks None None = refl
+no_networks None (Some name) = refl
+no_networks (Some name) None = refl
+no_networks (Some name) (Some other) = refl
+
+-- the networks among the files of a command are those that the words name
+pub networks_named : (c : CommandWords) → networks_among (later_files c) ≡ length c.traces
+unfolding networks_among
+networks_named c =
+    let e = sum_by-append (λ (file : NamedFile). networks_in file.0) (trace_files c.verb c.traces) (optional_file role.Seeks c.seeks ++ optional_file role.Certificate c.certificate) in
+    let some = all_networks c.verb 1 c.traces in
+    let none = no_networks c.seeks c.certificate in
+    omega (arith, e, some, none)
