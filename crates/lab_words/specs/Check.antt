@@ -7,7 +7,7 @@ use Rattle.lab_words.specs.Settings.{settings_in, settings_words, with_settings}
 use Rattle.lab_words.specs.Spelling.{Text}
 use Rattle.lab_words.specs.Table.{table_app}
 use Rattle.lab_model.specs.OptionSteps.{◌>>=◌}
-use Rattle.lab_words.specs.Values.{required}
+use Rattle.lab_words.specs.Values.{optional_number, required}
 use Rattle.lab_words.specs.declared.Verb.TheVariants as verb
 use Rattle.lab_words.specs.declared.table.Kind.{Kind}
 use Rattle.lab_words.specs.declared.table.Kind.TheVariants as kind
@@ -17,6 +17,7 @@ abbrev pub check_words : List (Text × Kind)
 check_words = (codes "manifest", kind.Required)
     ∷ (codes "trace", kind.Required)
     ∷ (codes "certificate", kind.Required)
+    ∷ (codes "live", kind.Optional)
     ∷ []
 
 -- the command for `clap`
@@ -30,8 +31,10 @@ check_in rows = do
   trace ← required (codes "trace") rows
   settings ← settings_in rows
   certificate ← required (codes "certificate") rows
+  live ← optional_number 0 120000000 (codes "live") rows
   Some (record (with_settings settings (blank verb.Check)) {
     manifest = manifest;
     traces = trace ∷ [];
     certificate = Some certificate;
+    live = live;
   })

@@ -25,6 +25,7 @@ pub record CommandWords : Type 0 where
   pub as_certificate : Bool
   pub certificate : Option Text
   pub number : ℕ
+  pub live : Option ℕ
 
 -- a command that asks for nothing yet
 abbrev pub blank : Verb → CommandWords
@@ -45,6 +46,7 @@ blank verb = record {
   as_certificate = false;
   certificate = None;
   number = 0;
+  live = None;
 }
 
 -- a rule and its word, without where they lie in memory
@@ -70,4 +72,5 @@ view c = record {
   as_certificate = c.as_certificate;
   certificate = option_map string_bytes c.certificate;
   number = c.number;
+  live = c.live;
 }

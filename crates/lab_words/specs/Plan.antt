@@ -7,7 +7,7 @@ use Rattle.lab_words.specs.Settings.{settings_in, settings_words, with_settings}
 use Rattle.lab_words.specs.Spelling.{Text}
 use Rattle.lab_words.specs.Table.{table_app}
 use Rattle.lab_model.specs.OptionSteps.{◌>>=◌}
-use Rattle.lab_words.specs.Values.{is_given, number_in, required}
+use Rattle.lab_words.specs.Values.{is_given, number_in, optional_number, required}
 use Rattle.lab_words.specs.declared.Verb.TheVariants as verb
 use Rattle.lab_words.specs.declared.table.Kind.{Kind}
 use Rattle.lab_words.specs.declared.table.Kind.TheVariants as kind
@@ -18,6 +18,7 @@ plan_words = (codes "manifest", kind.Required)
     ∷ (codes "trace", kind.Required)
     ∷ (codes "budget", kind.Optional)
     ∷ (codes "as-certificate", kind.Flag)
+    ∷ (codes "live", kind.Optional)
     ∷ []
 
 -- the command for `clap`
@@ -31,9 +32,11 @@ plan_in rows = do
   trace ← required (codes "trace") rows
   settings ← settings_in rows
   budget ← number_in 200000 1 1000000 (codes "budget") rows
+  live ← optional_number 0 120000000 (codes "live") rows
   Some (record (with_settings settings (blank verb.Plan)) {
     manifest = manifest;
     traces = trace ∷ [];
     budget = budget;
     as_certificate = is_given (codes "as-certificate") rows;
+    live = live;
   })

@@ -99,6 +99,8 @@ pub struct Command {
     pub certificate: Option<String>,
     /// The number of the made-up case, from 0 to 2147483647.
     pub number: u32,
+    /// The media that are there at instant 0, from 0 to 120000000 ms, where the film is live.
+    pub live: Option<u32>,
 }
 
 impl Command {
@@ -123,6 +125,7 @@ impl Command {
             as_certificate: false,
             certificate: None,
             number: 0,
+            live: None,
         }
     }
 }

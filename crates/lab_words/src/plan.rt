@@ -8,20 +8,21 @@ ghost use Rattle.lab_words.specs.Table.{accepted};
 ghost use Rattle.lab_words.specs.Values.{Gives};
 ghost use Rattle.lab_words.specs.Words.{asked_of};
 
-use crate::settings::{SETTINGS, settings_in};
+use crate::settings::{MOST_LIVE, SETTINGS, settings_in};
 use crate::table::{Kind, Word, table_matches};
-use crate::values::{file_name, is_given, number_in};
+use crate::values::{file_name, is_given, number_in, optional_number};
 use crate::{Command, Verb, WordsErr};
 use clap::ArgMatches;
 use std::alloc::Global;
 
 /// The words of `plan` alone.
 #[rattlefmt::skip]
-static PLAN: [Word; 4] = [
+static PLAN: [Word; 5] = [
     Word { name: "manifest", kind: Kind::Required },
     Word { name: "trace", kind: Kind::Required },
     Word { name: "budget", kind: Kind::Optional },
     Word { name: "as-certificate", kind: Kind::Flag },
+    Word { name: "live", kind: Kind::Optional },
 ];
 
 /// The matches of `plan` on the words behind it.
@@ -41,11 +42,13 @@ fn plan_in(alloc: Global, matches: &ArgMatches<'_>) -> Result<Command, WordsErr>
     let trace = file_name(alloc, matches, "trace")?;
     let settings = settings_in(alloc, matches)?;
     let budget = number_in(matches, "budget", 200_000, 1, 1_000_000)?;
+    let live = optional_number(matches, "live", 0, MOST_LIVE)?;
     Ok(Command {
         manifest,
         traces: vec![in alloc; trace]?,
         budget,
         as_certificate: is_given(matches, "as-certificate"),
+        live,
         ..settings.command(alloc, Verb::Plan)
     })
 }
