@@ -13,13 +13,13 @@ use Rattle.lab_model.specs.Rules.{RuleKind, fixed, listed, throughput, bola, mpc
 use Rattle.lab_model.proofs.Rows.{weighing_within}
 use Rattle.lab_model.specs.Row.{AreWeights}
 use Rattle.lab_model.specs.Weighing.{IsWeighing, weighing}
-use Rattle.lab_words.specs.Limits.{AreWeighed, IsRuleWithin, IsWithinLimits}
+use Rattle.lab_words.specs.Limits.{AreWeighed, IsGrid, IsRuleWithin, IsWithinLimits}
 use Rattle.lab_words.specs.Rules.{has_colon, rule_of, rule_of_kind}
-use Rattle.lab_words.specs.Spelling.{Text, all_numbers, in_range, is_number, never_falls, number_of, numbers_of, pieces_of, unless_falling, utilities_of}
-use Rattle.lab_words.specs.Check.{check_app, check_in}
+use Rattle.lab_words.specs.Spelling.{Text, all_numbers, grid_by, grid_of, has_comma, in_range, is_number, never_falls, number_of, numbers_of, pieces_of, unless_falling, utilities_of}
+use Rattle.lab_words.specs.Check.{check_agrees, check_app, check_in}
 use Rattle.lab_words.specs.Command.{CommandWords, blank, view}
 use Rattle.lab_words.specs.Demo.{demo_app, demo_in}
-use Rattle.lab_words.specs.Plan.{plan_app, plan_in}
+use Rattle.lab_words.specs.Plan.{grid_if, grid_in, plan_agrees, plan_app, plan_in}
 use Rattle.lab_words.specs.Settings.{SettingsWords, UtilitiesWords, settings_in, utilities_by, utilities_in, with_settings}
 use Rattle.lab_words.specs.Compare.{at_most, compare_app, compare_in, distinct, few, named_rule, named_rules, rules_in, traces_in}
 use Rattle.lab_words.specs.Simulate.{simulate_agrees, simulate_app, simulate_in}
@@ -203,6 +203,27 @@ live_within rows live h = below live (optional_within 0 120000000 (codes "live")
     below None w = tt
     below (Some ms) w = w.1
 
+grid_by_within : (time value : Text) (g : ℕ × ℕ) → grid_by time value ≡ Some g → IsGrid g.0 g.1
+grid_by_within time value g h =
+    let ms = then_some (number_of 1 10000 time) _ g h in
+    let thousandths = then_some (number_of 1 1000000 value) _ g ms.2 in
+    let same : (ms.0, thousandths.0) ≡ g = cc (thousandths.2) in
+    subst (λ (p : ℕ × ℕ). IsGrid p.0 p.1) same (inr (number_within 1 10000 time ms.0 ms.1, number_within 1 1000000 value thousandths.0 thousandths.1))
+
+grid_of_within : (text : Text) (g : ℕ × ℕ) → grid_of text ≡ Some g → IsGrid g.0 g.1
+unfolding grid_of
+grid_of_within text g h = grid_by_within (before_first (λ b. b == 44) text) (after_first (λ b. b == 44) text) g (chosen (has_comma text) _ g h).1
+
+grid_within : (rows : List Row) (g : ℕ × ℕ) → grid_in rows ≡ Some g → IsGrid g.0 g.1
+unfolding grid_in
+grid_within rows g h =
+    let given = then_some (optional (codes "coarse") rows) grid_if g h in
+    by_given given.0 given.2
+  where
+    by_given : (text : Option Text) → grid_if text ≡ Some g → IsGrid g.0 g.1
+    by_given None e = let same : (0, 0) ≡ g = cc in subst (λ (p : ℕ × ℕ). IsGrid p.0 p.1) same (inl (refl, refl))
+    by_given (Some text) e = grid_of_within text g e
+
 were_agreed : (agrees : CommandWords → Bool) (x y : CommandWords) → if_agreed agrees x ≡ Some y → (agrees x ≡ true) × (x ≡ y)
 were_agreed agrees x y h =
     let split = chosen (agrees x) (Some x) y h in
@@ -276,6 +297,7 @@ simulate_within rows c h =
       weights = λ film. within.weights;
       own = tt;
       live = live_within rows live.0 live.1;
+      grid = inl (refl, refl);
       agreed = agreed.0;
     })
 
@@ -376,6 +398,7 @@ compare_within rows c h =
       weights = λ film. within.weights;
       own = tt;
       live = tt;
+      grid = inl (refl, refl);
       agreed = refl;
     })
 
@@ -390,6 +413,7 @@ plan_within rows c h =
     let settings = then_some (settings_in rows) _ c trace.2 in
     let budget = then_some (number_in 200000 1 1000000 (codes "budget") rows) _ c settings.2 in
     let live = then_some (optional_number 0 120000000 (codes "live") rows) _ c budget.2 in
+    let grid = then_some (grid_in rows) _ c live.2 in
     let within = settings_within rows settings.0 settings.1 in
     let made : CommandWords = record (with_settings settings.0 (blank verb.Plan)) {
       manifest = manifest.0;
@@ -397,8 +421,11 @@ plan_within rows c h =
       budget = budget.0;
       as_certificate = is_given (codes "as-certificate") rows;
       live = live.0;
+      coarse_time = grid.0.0;
+      coarse_value = grid.0.1;
     } in
-    let same : made ≡ c = cc (live.2) in
+    let agreed = were_agreed plan_agrees made c grid.2 in
+    let same : made ≡ c = agreed.1 in
     subst IsWithinLimits same (record {
       counts = (refl, refl);
       spoken = no_rules;
@@ -406,7 +433,8 @@ plan_within rows c h =
       weights = λ film. within.weights;
       own = option_within 200000 1 1000000 (codes "budget") rows budget.0 (lit≤ tt, lit≤ tt) budget.1;
       live = live_within rows live.0 live.1;
-      agreed = refl;
+      grid = grid_within rows grid.0 grid.1;
+      agreed = agreed.0;
     })
 
 check_within : (rows : List Row) (c : CommandWords) → check_in rows ≡ Some c → IsWithinLimits c
@@ -423,8 +451,10 @@ check_within rows c h =
       traces = trace.0 ∷ [];
       certificate = Some certificate.0;
       live = live.0;
+      gap = is_given (codes "gap") rows;
     } in
-    let same : made ≡ c = cc (live.2) in
+    let agreed = were_agreed check_agrees made c live.2 in
+    let same : made ≡ c = agreed.1 in
     subst IsWithinLimits same (record {
       counts = (refl, refl);
       spoken = no_rules;
@@ -432,7 +462,8 @@ check_within rows c h =
       weights = λ film. within.weights;
       own = refl;
       live = live_within rows live.0 live.1;
-      agreed = refl;
+      grid = inl (refl, refl);
+      agreed = agreed.0;
     })
 
 demo_within : (rows : List Row) (c : CommandWords) → demo_in rows ≡ Some c → IsWithinLimits c
@@ -449,6 +480,7 @@ demo_within rows c h =
       weights = λ film. absurd film;
       own = (number_within 0 2147483647 text.0 number.0 number.1).1;
       live = tt;
+      grid = inl (refl, refl);
       agreed = refl;
     })
 

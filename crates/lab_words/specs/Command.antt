@@ -26,6 +26,9 @@ pub record CommandWords : Type 0 where
   pub certificate : Option Text
   pub number : ℕ
   pub live : Option ℕ
+  pub coarse_time : ℕ
+  pub coarse_value : ℕ
+  pub gap : Bool
 
 -- a command that asks for nothing yet
 abbrev pub blank : Verb → CommandWords
@@ -47,6 +50,9 @@ blank verb = record {
   certificate = None;
   number = 0;
   live = None;
+  coarse_time = 0;
+  coarse_value = 0;
+  gap = false;
 }
 
 -- a rule and its word, without where they lie in memory
@@ -73,4 +79,7 @@ view c = record {
   certificate = option_map string_bytes c.certificate;
   number = c.number;
   live = c.live;
+  coarse_time = c.coarse_time;
+  coarse_value = c.coarse_value;
+  gap = c.gap;
 }

@@ -58,6 +58,50 @@ const LIVE: [(&str, &str); 7] = [
     ),
 ];
 
+/// Coarse plans and their certificates.
+const COARSE: [(&str, &str); 10] = [
+    (
+        "plan --manifest m --trace t --utilities 0 --coarse 10,200",
+        "live: None, coarse_time: 10, coarse_value: 200, gap: false",
+    ),
+    (
+        "plan --manifest m --trace t --utilities 0 --coarse=10000,1000000",
+        "coarse_time: 10000, coarse_value: 1000000",
+    ),
+    (
+        "check --manifest m --trace t --utilities 0 --certificate c --gap",
+        "coarse_value: 0, gap: true",
+    ),
+    (
+        "plan --manifest m --trace t --utilities 0 --coarse 10",
+        "Usage",
+    ),
+    (
+        "plan --manifest m --trace t --utilities 0 --coarse 1,2,3",
+        "Usage",
+    ),
+    (
+        "plan --manifest m --trace t --utilities 0 --coarse 0,5",
+        "Usage",
+    ),
+    (
+        "plan --manifest m --trace t --utilities 0 --coarse 10001,5",
+        "Usage",
+    ),
+    (
+        "plan --manifest m --trace t --utilities 0 --coarse 5,1000001",
+        "Usage",
+    ),
+    (
+        "plan --manifest m --trace t --utilities 0 --coarse 1,1 --live 0",
+        "Usage",
+    ),
+    (
+        "check --manifest m --trace t --utilities 0 --certificate c --live 0 --gap",
+        "Usage",
+    ),
+];
+
 /// What the words of a line ask for, or why not.
 fn told(alloc: Global, line: &str) -> Result<String, Fail> {
     let words = words_of(alloc, line)?;
@@ -78,5 +122,6 @@ fn shows(rt: &impl Abort, alloc: Global, lines: &[(&str, &str)]) -> Result<(), F
 #[test]
 fn options(rt: HostRuntime) -> Result<(), Fail> {
     shows(&rt, rt.alloc(), &UTILITIES)?;
-    shows(&rt, rt.alloc(), &LIVE)
+    shows(&rt, rt.alloc(), &LIVE)?;
+    shows(&rt, rt.alloc(), &COARSE)
 }
