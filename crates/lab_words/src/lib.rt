@@ -76,8 +76,11 @@ pub struct Command {
     pub rules: Vec<NamedRule>,
     /// The buffer's room, from 1 to 10000000 ms.
     pub buffer_ms: u32,
-    /// The utility of each rung, 1 to 16 of them, non-decreasing, each from 0 to 1000000 points.
+    /// The utility of each rung, 1 to 16 of them, non-decreasing, each from 0 to 1000000 points;
+    /// none where a table is named.
     pub utilities: Vec<u32>,
+    /// The utility table's file name.
+    pub table: Option<String>,
     /// What a switch by one point of utility costs, from 0 to 1000000 thousandths of a point.
     pub switch: u32,
     /// What a millisecond of stall costs, from 0 to 1000000 thousandths of a point.
@@ -96,6 +99,14 @@ pub struct Command {
     pub certificate: Option<String>,
     /// The number of the made-up case, from 0 to 2147483647.
     pub number: u32,
+    /// The media that are there at instant 0, from 0 to 120000000 ms, where the film is live.
+    pub live: Option<u32>,
+    /// The grid's milliseconds, from 1 to 10000; 0 where no coarse plan is asked for.
+    pub coarse_time: u32,
+    /// The grid's thousandths of a point, from 1 to 1000000; 0 where no coarse plan is asked for.
+    pub coarse_value: u32,
+    /// Whether the certificate is one of a coarse plan, with its bound.
+    pub gap: bool,
 }
 
 impl Command {
@@ -110,6 +121,7 @@ impl Command {
             rules: Vec::new(alloc),
             buffer_ms: 0,
             utilities: Vec::new(alloc),
+            table: None,
             switch: 0,
             stall: 0,
             startup: 0,
@@ -119,6 +131,10 @@ impl Command {
             as_certificate: false,
             certificate: None,
             number: 0,
+            live: None,
+            coarse_time: 0,
+            coarse_value: 0,
+            gap: false,
         }
     }
 }
