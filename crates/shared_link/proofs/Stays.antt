@@ -1,6 +1,7 @@
 -- How long nothing happens to a body, and its download at the end of such a stretch.
-use Rattle.std.proofs.Common.{◌≡◌, ◌∙◌, ℕ, ◌+◌, ◌-◌, ◌<◌, ◌≤◌, true, false, cond, ltb, List, Option, Some, None, IfSome, refl, sym, ap, subst, lt-ltb, le-ltb, arith}
-use Rattle.std.proofs.lemmas.Bool.{cond-true, cond-false, true≢false}
+use Rattle.std.proofs.Common.{◌≡◌, ◌∙◌, ℕ, ◌+◌, ◌-◌, ◌<◌, ◌≤◌, true, false, cond, ltb, List, length, get_or, ⊎_elim, Option, Some, None, IfSome, refl, sym, ap, subst, lt-ltb, le-ltb, arith}
+use Rattle.std.proofs.lemmas.Bool.{cases_eq, cond-true, cond-false, true≢false}
+use Rattle.std.proofs.lemmas.List.{get_or_read}
 use Rattle.lab_model.specs.declared.trace.Period.{Period}
 use Rattle.lab_model.specs.Cycle.{IsTrace}
 use Rattle.lab_model.specs.Rules.{RuleKind}
@@ -15,6 +16,7 @@ use Rattle.player_core.specs.Quiet.{IsUntouched}
 use Rattle.player_core.specs.Seen.{seen}
 use Rattle.player_core.proofs.Stretch.{untouched_less}
 use Rattle.shared_link.specs.Calm.{StaysCalm}
+use Rattle.shared_link.specs.Table.{GoesOn}
 
 module _ (o : Course) (takers until : ℕ) (b : Body) where
   -- where nothing of the body's own happens, and its download neither lands nor begins
@@ -68,6 +70,24 @@ stays_less o takers until sooner b calm later less =
     begins_less : (d : Option Running) → IfSome d (λ r. spends (period_at o.scene.now.periods b.t) r.job ≡ false → until ≤ r.begins) → IfSome d (λ r. spends (period_at o.scene.now.periods b.t) r.job ≡ false → sooner ≤ r.begins)
     begins_less None h = tt
     begins_less (Some r) h = λ delay. let most = h delay in omega (arith, most, less)
+
+-- ---- of several bodies
+
+-- one body more: it has ended, or nothing happens to it so long
+pub calm_next : (o : Course) (takers until sooner n t : ℕ) (bs : List Body) (b : Body) → ((i : ℕ) (d : Body) → i < n → GoesOn (get_or bs i d) → StaysCalm o takers until (get_or bs i d)) → ((i : ℕ) (d : Body) → i < length bs → GoesOn (get_or bs i d) → (get_or bs i d).t ≡ t)
+    → n < length bs → b ≡ get_or bs n b → t < sooner → sooner ≤ until → (GoesOn b → StaysCalm o takers sooner b)
+    → (i : ℕ) (d : Body) → i < n + 1 → GoesOn (get_or bs i d) → StaysCalm o takers sooner (get_or bs i d)
+calm_next o takers until sooner n t bs b before times inside here later less now i d low on =
+    ⊎_elim
+    (λ (last : i ≡ n).
+    let place = ap (λ k. get_or bs k d) last in
+    let same : b ≡ get_or bs i d = get_or_read bs n b inside here d ∙ sym place in
+    subst (StaysCalm o takers sooner) same (now (subst GoesOn (sym same) on)))
+    (λ (other : i ≡ n → ⊥).
+    let early : i < n = omega (arith, low, other) in
+    let at = times i d (omega (arith, early, inside)) on in
+    stays_less o takers until sooner (get_or bs i d) (before i d early on) (omega (arith, at, later)) less)
+    (cases_eq i n)
 
 -- ---- the first instant spent on bits, at the end of a stretch
 

@@ -14,14 +14,16 @@ loop-body-preserved c =
       then-takes_bits w ↦ let now = w.takers-is in record {
         few = omega (arith, few, now);
         takers = λ ps stand.
-            let more = takers_more c.args.period ps c.args.bodies.now c.loop-body.body-index c.body-item.result true stand c.loop-body-test.true c.body-item.is (λ history. sym w.if-takes_bits ∙ c.takes_bits.ensures history) in
+            let yes : c.takes_bits.result ≡ true = w.if-takes_bits.true in
+            let more = takers_more c.args.period ps c.args.bodies.now c.loop-body.body-index c.body-item.result true stand c.loop-body-test.true c.body-item.is (λ history. sym yes ∙ c.takes_bits.ensures history) in
             let before = h.takers ps stand in
             omega (arith, now, before, more);
       }
       | else-takes_bits w ↦ let now = w.takers-is in record {
         few = omega (arith, few, now);
         takers = λ ps stand.
-            let more = takers_more c.args.period ps c.args.bodies.now c.loop-body.body-index c.body-item.result false stand c.loop-body-test.true c.body-item.is (λ history. sym w.if-takes_bits ∙ c.takes_bits.ensures history) in
+            let no : c.takes_bits.result ≡ false = w.if-takes_bits.false in
+            let more = takers_more c.args.period ps c.args.bodies.now c.loop-body.body-index c.body-item.result false stand c.loop-body-test.true c.body-item.is (λ history. sym no ∙ c.takes_bits.ensures history) in
             let before = h.takers ps stand in
             omega (arith, now, before, more);
       }

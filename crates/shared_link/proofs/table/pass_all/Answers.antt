@@ -1,8 +1,14 @@
+use Rattle.std.proofs.Common.{◌<◌, length, get_or, arith}
+use Rattle.std.proofs.lemmas.List.{get_or_default}
 use Rattle.shared_link.specs.Table.{Passes}
 use Rattle.shared_link.proofs.Loops.{below_next}
 use Rattle.shared_link.proofs.table.pass_all.Goals as goal
 
 pub loop-body-preserved : goal.loop-body-preserved
 loop-body-preserved c =
-    below_next (Passes c.args.course.now c.args.share) c.args.bodies.now c.loop-body.bodies c.loop-body.body-index c.body-item.result c.pass.new.body
-    c.loop-body.invariant c.loop-body-test.true c.body-item.is c.in_ok-pass.ensures
+    let inside = c.loop-body-test.true in
+    let count = c.loop-body.invariant.count in
+    let here : c.loop-body.body-index < length c.loop-body.bodies = omega (arith, inside, count) in
+    let body = get_or c.loop-body.bodies c.loop-body.body-index c.body-item.result in
+    below_next (Passes c.args.course.now c.args.share) c.args.bodies.now c.loop-body.bodies c.loop-body.body-index body c.pass.new.body
+    c.loop-body.invariant here (get_or_default c.loop-body.bodies c.loop-body.body-index c.body-item.result body here) c.in_ok-pass.ensures
