@@ -21,13 +21,14 @@ use std::alloc::{AllocError, AllocFailed, Global};
 
 /// The words of `compare` alone.
 #[rattlefmt::skip]
-static COMPARE: [Word; 7] = [
+static COMPARE: [Word; 8] = [
     Word { name: "manifest", kind: Kind::Required },
     Word { name: "rules", kind: Kind::Required },
     Word { name: "abandon", kind: Kind::Flag },
     Word { name: "seeks", kind: Kind::Optional },
     Word { name: "regret", kind: Kind::Flag },
     Word { name: "budget", kind: Kind::Optional },
+    Word { name: "near", kind: Kind::Flag },
     Word { name: "trace", kind: Kind::Several },
 ];
 
@@ -103,12 +104,13 @@ fn traces_in(alloc: Global, matches: &ArgMatches<'_>) -> Result<Vec<String>, Wor
     Ok(owned(alloc, names.as_slice())?)
 }
 
-/// The budget, which is for regrets alone.
-fn budget_in(matches: &ArgMatches<'_>, regret: bool) -> Result<u32, WordsErr>
-    ensures { Gives (λ number. number) result (budget_in regret (rows_of (found_of matches.now))) }
+/// The budget, which is for regrets alone, and for the best lists, not for bounds by prices.
+fn budget_in(matches: &ArgMatches<'_>, regret: bool, near: bool) -> Result<u32, WordsErr>
+    ensures { Gives (λ number. number) result
+        (budget_in regret near (rows_of (found_of matches.now))) }
 {
     let default = if regret { 200_000 } else { 0 };
-    number_unless(matches, "budget", !regret, default, 1, 1_000_000)
+    number_unless(matches, "budget", !regret || near, default, 1, 1_000_000)
 }
 
 /// What `compare` is asked for, by the values of its options.
@@ -121,10 +123,11 @@ fn compare_in(alloc: Global, matches: &ArgMatches<'_>) -> Result<Command, WordsE
     let settings = settings_in(alloc, matches)?;
     let seeks = optional_file_name(alloc, matches, "seeks")?;
     let regret = is_given(matches, "regret");
-    let budget = budget_in(matches, regret)?;
+    let near = is_given(matches, "near");
+    let budget = budget_in(matches, regret, near)?;
     let traces = traces_in(alloc, matches)?;
     let abandon = is_given(matches, "abandon");
-    if !at_most_one(&[regret, abandon || seeks.is_some()]) {
+    if !at_most_one(&[regret, abandon || seeks.is_some()]) || !at_most_one(&[near, !regret]) {
         return Err(WordsErr::Usage);
     }
     Ok(Command {
@@ -135,6 +138,7 @@ fn compare_in(alloc: Global, matches: &ArgMatches<'_>) -> Result<Command, WordsE
         seeks,
         budget,
         regret,
+        near,
         ..settings.command(alloc, Verb::Compare)
     })
 }

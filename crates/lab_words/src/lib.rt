@@ -112,6 +112,8 @@ pub struct Command {
     pub players: bool,
     /// Whether each rule's regret is asked for.
     pub regret: bool,
+    /// Whether bounds by prices are asked for in place of the best value.
+    pub near: bool,
 }
 
 impl Command {
@@ -142,6 +144,7 @@ impl Command {
             gap: false,
             players: false,
             regret: false,
+            near: false,
         }
     }
 }
