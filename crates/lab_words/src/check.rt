@@ -17,12 +17,13 @@ use std::alloc::Global;
 
 /// The words of `check` alone.
 #[rattlefmt::skip]
-static CHECK: [Word; 5] = [
+static CHECK: [Word; 6] = [
     Word { name: "manifest", kind: Kind::Required },
     Word { name: "trace", kind: Kind::Required },
     Word { name: "certificate", kind: Kind::Required },
     Word { name: "live", kind: Kind::Optional },
     Word { name: "gap", kind: Kind::Flag },
+    Word { name: "near", kind: Kind::Flag },
 ];
 
 /// The matches of `check` on the words behind it.
@@ -44,7 +45,8 @@ fn check_in(alloc: Global, matches: &ArgMatches<'_>) -> Result<Command, WordsErr
     let certificate = file_name(alloc, matches, "certificate")?;
     let live = optional_number(matches, "live", 0, MOST_LIVE)?;
     let gap = is_given(matches, "gap");
-    if !at_most_one(&[live.is_some(), gap]) {
+    let near = is_given(matches, "near");
+    if !at_most_one(&[live.is_some() || near, gap]) {
         return Err(WordsErr::Usage);
     }
     Ok(Command {
@@ -53,6 +55,7 @@ fn check_in(alloc: Global, matches: &ArgMatches<'_>) -> Result<Command, WordsErr
         certificate: Some(certificate),
         live,
         gap,
+        near,
         ..settings.command(alloc, Verb::Check)
     })
 }

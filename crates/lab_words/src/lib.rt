@@ -73,6 +73,7 @@ pub struct Command {
     pub manifest: String,
     /// The traces' file names.
     pub traces: Vec<String>,
+    /// The rules to compare, or those of the players, in order.
     pub rules: Vec<NamedRule>,
     /// The buffer's room, from 1 to 10000000 ms.
     pub buffer_ms: u32,
@@ -91,7 +92,7 @@ pub struct Command {
     pub abandon: bool,
     /// The seek script's file name.
     pub seeks: Option<String>,
-    /// How many labels a plan may have, from 1 to 1000000.
+    /// How many labels a plan may have, from 1 to 1000000; 0 where a comparison has no regrets.
     pub budget: u32,
     /// Whether the plan's certificate is asked for.
     pub as_certificate: bool,
@@ -107,6 +108,12 @@ pub struct Command {
     pub coarse_value: u32,
     /// Whether the certificate is one of a coarse plan, with its bound.
     pub gap: bool,
+    /// Whether the rules are those of 1 to 8 players on one link.
+    pub players: bool,
+    /// Whether each rule's regret is asked for.
+    pub regret: bool,
+    /// Whether bounds by prices are asked for in place of the best value.
+    pub near: bool,
 }
 
 impl Command {
@@ -135,6 +142,9 @@ impl Command {
             coarse_time: 0,
             coarse_value: 0,
             gap: false,
+            players: false,
+            regret: false,
+            near: false,
         }
     }
 }

@@ -3,12 +3,10 @@
 ghost use Rattle.std.specs.Prelude.{◌≡◌, map, option_map, string_bytes};
 ghost use Rattle.std.specs.List.{list_any};
 ghost use Rattle.clap.specs.Words.{all_of, first_of, found_of, rows_of};
-ghost use Rattle.lab_words.specs.Command.{named};
-ghost use Rattle.lab_words.specs.Values.{Gives, at_most_one, either_view, is_given, is_stray, number_in, one_of, optional, optional_number, required, rule_in, several, some_plain};
+ghost use Rattle.lab_words.specs.Values.{Gives, at_most_one, either_view, is_given, is_stray, number_in, number_unless, one_of, optional, optional_number, required, several, some_plain};
 
+use crate::WordsErr;
 use crate::numbers::number_of;
-use crate::rules::rule_of;
-use crate::{NamedRule, WordsErr};
 use clap::ArgMatches;
 use std::alloc::Global;
 
@@ -200,14 +198,23 @@ pub(crate) fn at_most_one(tests: &[bool]) -> bool
     tests.iter().filter(|test| **test).count() <= 1
 }
 
-/// The rule and its word.
-#[tactic(auto, unfolding(crate::specs::Values::rule_in))]
-pub(crate) fn rule_in(alloc: Global, matches: &ArgMatches<'_>) -> Result<NamedRule, WordsErr>
-    ensures { Gives named result (rule_in (rows_of (found_of matches.now))) }
+/// The number of an option from `least` to `most`, which must not be given where it is barred, or its
+/// default.
+#[tactic(auto, unfolding(crate::specs::Values::number_unless))]
+pub(crate) fn number_unless(
+    matches: &ArgMatches<'_>,
+    name: &str,
+    barred: bool,
+    default: u32,
+    least: u32,
+    most: u32,
+) -> Result<u32, WordsErr>
+    ensures { Gives (λ number. number) result
+        (number_unless barred default least most name.now (rows_of (found_of matches.now))) }
 {
-    let text = required(matches, "rule")?;
-    Ok(NamedRule {
-        name: text.to_string(alloc)?,
-        rule: rule_of(alloc, text)?,
-    })
+    let given = optional_number(matches, name, least, most)?;
+    if !at_most_one(&[barred, given.is_some()]) {
+        return Err(WordsErr::Usage);
+    }
+    Ok(given.unwrap_or(default))
 }

@@ -102,6 +102,134 @@ const COARSE: [(&str, &str); 10] = [
     ),
 ];
 
+/// Regrets and their budget.
+const REGRET: [(&str, &str); 9] = [
+    (
+        "compare --manifest m --rules fixed:1 --utilities 0 t",
+        "budget: 0, as_certificate: false, certificate: None",
+    ),
+    (
+        "compare --manifest m --rules fixed:1 --utilities 0 --regret t",
+        "budget: 200000, as_certificate",
+    ),
+    (
+        "compare --manifest m --rules fixed:1 --utilities 0 --regret --budget 7 t",
+        "budget: 7, as_certificate",
+    ),
+    (
+        "compare t --manifest m --rules fixed:1 --utilities 0 --regret",
+        "gap: false, players: false, regret: true",
+    ),
+    (
+        "compare --manifest m --rules fixed:1 --utilities 0 --budget 7 t",
+        "Usage",
+    ),
+    (
+        "compare --manifest m --rules fixed:1 --utilities 0 --budget 0 --regret t",
+        "Usage",
+    ),
+    (
+        "compare --manifest m --rules fixed:1 --utilities 0 --regret --abandon t",
+        "Usage",
+    ),
+    (
+        "compare --manifest m --rules fixed:1 --utilities 0 --seeks s --regret t",
+        "Usage",
+    ),
+    (
+        "simulate --manifest m --trace t --rule fixed:1 --utilities 0 --regret",
+        "Usage",
+    ),
+];
+
+/// Players on one link.
+const PLAYERS: [(&str, &str); 9] = [
+    (
+        "simulate --manifest m --trace t --utilities 0 --players mpc:1/mpc:1",
+        "rules: [NamedRule { name: \"mpc:1\", rule: Mpc { horizon: 1 } }, NamedRule { name: \"mpc:1\",",
+    ),
+    (
+        "simulate --manifest m --trace t --utilities 0 --players=bola:5",
+        "players: true",
+    ),
+    (
+        "simulate --manifest m --trace t --utilities 0 --players mpc:1/mpc:1/mpc:1/mpc:1/mpc:1/mpc:1/mpc:1/mpc:2",
+        "Mpc { horizon: 2 } }], buffer_ms",
+    ),
+    (
+        "simulate --manifest m --trace t --utilities 0 --players mpc:1/mpc:1/mpc:1/mpc:1/mpc:1/mpc:1/mpc:1/mpc:1/mpc:1",
+        "Usage",
+    ),
+    (
+        "simulate --manifest m --trace t --utilities 0 --players mpc:1/",
+        "Usage",
+    ),
+    (
+        "simulate --manifest m --trace t --utilities 0 --players mpc:1 --rule mpc:1",
+        "Usage",
+    ),
+    (
+        "simulate --manifest m --trace t --utilities 0 --players mpc:1 --abandon",
+        "Usage",
+    ),
+    (
+        "simulate --manifest m --trace t --utilities 0 --players mpc:1 --seeks s",
+        "Usage",
+    ),
+    (
+        "simulate --manifest m --trace t --utilities 0 --players mpc:1 --live 5",
+        "Usage",
+    ),
+];
+
+/// Bounds by prices.
+const NEAR: [(&str, &str); 11] = [
+    (
+        "plan --manifest m --trace t --utilities 0 --near --live 5",
+        "budget: 200000, as_certificate",
+    ),
+    (
+        "plan --manifest m --trace t --utilities 0 --as-certificate --near",
+        "regret: false, near: true",
+    ),
+    (
+        "check --manifest m --trace t --utilities 0 --certificate c --near --live 5",
+        "regret: false, near: true",
+    ),
+    (
+        "compare --manifest m --rules fixed:1 --utilities 0 --regret --near t",
+        "budget: 200000, as_certificate",
+    ),
+    (
+        "compare t --manifest m --rules fixed:1 --utilities 0 --regret --near",
+        "regret: true, near: true",
+    ),
+    (
+        "plan --manifest m --trace t --utilities 0 --near --budget 200000",
+        "Usage",
+    ),
+    (
+        "plan --manifest m --trace t --utilities 0 --near --coarse 1,1",
+        "Usage",
+    ),
+    (
+        "check --manifest m --trace t --utilities 0 --certificate c --near --gap",
+        "Usage",
+    ),
+    (
+        "compare --manifest m --rules fixed:1 --utilities 0 --near t",
+        "Usage",
+    ),
+    (
+        "compare --manifest m --rules fixed:1 --utilities 0 --regret --near --budget 7 t",
+        "Usage",
+    ),
+    (
+        "simulate --manifest m --trace t --utilities 0 --players mpc:1 --near",
+        "Usage",
+    ),
+];
+
 /// What the words of a line ask for, or why not.
 fn told(alloc: Global, line: &str) -> Result<String, Fail> {
     let words = words_of(alloc, line)?;
@@ -123,5 +251,8 @@ fn shows(rt: &impl Abort, alloc: Global, lines: &[(&str, &str)]) -> Result<(), F
 fn options(rt: HostRuntime) -> Result<(), Fail> {
     shows(&rt, rt.alloc(), &UTILITIES)?;
     shows(&rt, rt.alloc(), &LIVE)?;
-    shows(&rt, rt.alloc(), &COARSE)
+    shows(&rt, rt.alloc(), &COARSE)?;
+    shows(&rt, rt.alloc(), &REGRET)?;
+    shows(&rt, rt.alloc(), &PLAYERS)?;
+    shows(&rt, rt.alloc(), &NEAR)
 }
