@@ -18,7 +18,8 @@ use Rattle.lab_inputs.specs.declared.stop.Halt.TheVariants as halt
 use Rattle.lab_inputs.specs.declared.stop.Setting.{Setting}
 use Rattle.lab_inputs.specs.declared.stop.Stop.{Stop}
 use Rattle.lab_inputs.specs.declared.stop.Stop.TheVariants as stop
-use Rattle.lab_inputs.specs.Files.{◌>>=◌, Files}
+use Rattle.lab_model.specs.Steps.{◌>>=◌}
+use Rattle.lab_inputs.specs.Files.{Files}
 use Rattle.lab_inputs.specs.Inputs.{InputValues, inputs_of}
 use Rattle.lab_inputs.specs.Roles.{NamedFile, film_files, files_by, files_of, optional_file, trace_files}
 use Rattle.lab_inputs.specs.Settings.{Fits, misfit, settled, unless_misfit}

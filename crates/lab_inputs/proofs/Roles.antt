@@ -8,6 +8,8 @@ use Rattle.lab_io.specs.Sink.{Text}
 use Rattle.lab_model.specs.declared.trace.Period.{Period}
 use Rattle.lab_model.specs.Cycle.{IsTrace}
 use Rattle.lab_model.specs.Film.{IsFilm, segments_of}
+use Rattle.lab_model.specs.Steps.{map_ok}
+use Rattle.lab_model.proofs.Steps.{map_ok-ok}
 use Rattle.lab_words.specs.declared.Verb.{Verb}
 use Rattle.lab_words.specs.declared.Verb.TheVariants as verb
 use Rattle.lab_words.specs.Command.{CommandWords}
@@ -20,8 +22,8 @@ use Rattle.trace_reader.proofs.Accepted.{trace_csv-limits, trace_json-limits}
 use Rattle.lab_inputs.specs.declared.role.Role.{Role}
 use Rattle.lab_inputs.specs.declared.role.Role.TheVariants as role
 use Rattle.lab_inputs.specs.Contents.{ContentValues, is_csv, trace_of, with_certificate, with_film, with_network, with_seeks}
-use Rattle.lab_inputs.specs.Roles.{NamedFile, later_files, optional_file, result_map, row_of, trace_files, trace_role, traces_from}
-use Rattle.lab_inputs.proofs.Steps.{map_ok, ok_same}
+use Rattle.lab_inputs.specs.Roles.{NamedFile, later_files, optional_file, row_of, trace_files, trace_role, traces_from}
+use Rattle.lab_inputs.proofs.Steps.{ok_same}
 
 -- the film and the networks keep their limits
 pub record AreWithin (v : ContentValues) : Type 0 where
@@ -32,22 +34,22 @@ by_format : (csv : Bool) (bytes : Text) (ps : List Period) → (if csv then trac
 by_format true bytes ps h = trace_csv-limits bytes ps h
 by_format false bytes ps h = trace_json-limits bytes ps h
 
-network_within : (name bytes : Text) (v w : ContentValues) → result_map (with_network name v) (trace_of name bytes) ≡ Ok w → AreWithin v → AreWithin w
+network_within : (name bytes : Text) (v w : ContentValues) → map_ok (with_network name v) (trace_of name bytes) ≡ Ok w → AreWithin v → AreWithin w
 network_within name bytes v w h k =
-    let x = map_ok (with_network name v) (trace_of name bytes) w h in
-    let limits = by_format (is_csv name) bytes x.0 x.2 in
-    subst AreWithin (sym x.1) (record { film = k.film; networks = All-push (λ (n : Text × List Period). IsTrace n.1) v.networks (name, x.0) k.networks limits })
+    let x = map_ok-ok (with_network name v) (trace_of name bytes) w h in
+    let limits = by_format (is_csv name) bytes x.0 x.1 in
+    subst AreWithin x.2 (record { film = k.film; networks = All-push (λ (n : Text × List Period). IsTrace n.1) v.networks (name, x.0) k.networks limits })
 
 -- what one file more adds keeps the limits
 pub adds_within : (r : Role) (name bytes : Text) (v w : ContentValues) → (row_of r).adds name v bytes ≡ Ok w → AreWithin v → AreWithin w
 adds_within role.Manifest name bytes v w h k =
-    let x = map_ok (with_film v) (manifest_of bytes) w h in
-    subst AreWithin (sym x.1) (record { film = manifest-limits bytes x.0 x.2; networks = k.networks })
+    let x = map_ok-ok (with_film v) (manifest_of bytes) w h in
+    subst AreWithin x.2 (record { film = manifest-limits bytes x.0 x.1; networks = k.networks })
 adds_within role.Trace name bytes v w h k = network_within name bytes v w h k
 adds_within (role.TraceAt place) name bytes v w h k = network_within name bytes v w h k
 adds_within role.Seeks name bytes v w h k =
-    let x = map_ok (with_seeks v) (seeks_of bytes (segments_of v.film)) w h in
-    subst AreWithin (sym x.1) (record { film = k.film; networks = k.networks })
+    let x = map_ok-ok (with_seeks v) (seeks_of bytes (segments_of v.film)) w h in
+    subst AreWithin x.2 (record { film = k.film; networks = k.networks })
 adds_within role.Certificate name bytes v w h k =
     subst AreWithin (ok_same _ (with_certificate v bytes) w refl h) (record { film = k.film; networks = k.networks })
 
@@ -71,14 +73,14 @@ count_kept v w e = let k = ap length e in omega (arith, k)
 -- one file more adds as many networks as its role says
 pub adds_count : (r : Role) (name bytes : Text) (v w : ContentValues) → (row_of r).adds name v bytes ≡ Ok w → length w.networks ≡ length v.networks + networks_in r
 unfolding networks_in
-adds_count role.Manifest name bytes v w h = let x = map_ok (with_film v) (manifest_of bytes) w h in count_kept v w (ap (λ (u : ContentValues). u.networks) x.1)
+adds_count role.Manifest name bytes v w h = let x = map_ok-ok (with_film v) (manifest_of bytes) w h in count_kept v w (sym (ap (λ (u : ContentValues). u.networks) x.2))
 adds_count role.Trace name bytes v w h =
-    let x = map_ok (with_network name v) (trace_of name bytes) w h in
-    ap (λ (u : ContentValues). length u.networks) x.1 ∙ length-append v.networks ((name, x.0) ∷ [])
+    let x = map_ok-ok (with_network name v) (trace_of name bytes) w h in
+    sym (ap (λ (u : ContentValues). length u.networks) x.2) ∙ length-append v.networks ((name, x.0) ∷ [])
 adds_count (role.TraceAt place) name bytes v w h =
-    let x = map_ok (with_network name v) (trace_of name bytes) w h in
-    ap (λ (u : ContentValues). length u.networks) x.1 ∙ length-append v.networks ((name, x.0) ∷ [])
-adds_count role.Seeks name bytes v w h = let x = map_ok (with_seeks v) (seeks_of bytes (segments_of v.film)) w h in count_kept v w (ap (λ (u : ContentValues). u.networks) x.1)
+    let x = map_ok-ok (with_network name v) (trace_of name bytes) w h in
+    sym (ap (λ (u : ContentValues). length u.networks) x.2) ∙ length-append v.networks ((name, x.0) ∷ [])
+adds_count role.Seeks name bytes v w h = let x = map_ok-ok (with_seeks v) (seeks_of bytes (segments_of v.film)) w h in count_kept v w (sym (ap (λ (u : ContentValues). u.networks) x.2))
 adds_count role.Certificate name bytes v w h = count_kept v w (sym (ap (λ (u : ContentValues). u.networks) (ok_same _ (with_certificate v bytes) w refl h)))
 
 one_network : (v : Verb) (place : ℕ) → networks_in (trace_role v place) ≡ 1

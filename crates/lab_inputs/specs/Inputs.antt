@@ -6,12 +6,13 @@ use Rattle.lab_model.specs.declared.setup.Setup.{Setup}
 use Rattle.lab_model.specs.declared.trace.Period.{Period}
 use Rattle.lab_model.specs.Film.{Film}
 use Rattle.lab_model.specs.Rules.{RuleKind}
+use Rattle.lab_model.specs.Steps.{map_ok}
 use Rattle.lab_model.specs.Weighing.{weighing}
 use Rattle.lab_words.specs.Command.{CommandWords}
 use Rattle.lab_inputs.specs.declared.stop.Stop.{Stop}
 use Rattle.lab_inputs.specs.Contents.{ContentValues}
 use Rattle.lab_inputs.specs.Files.{Files, contents_from}
-use Rattle.lab_inputs.specs.Roles.{later_files, result_map}
+use Rattle.lab_inputs.specs.Roles.{later_files}
 
 -- the film, the setup, the networks in order, each behind its name, the seeks, the bytes of the certificate, and the rules in order,
 -- each behind its word
@@ -37,4 +38,4 @@ contents_of c = contents_from c.manifest (later_files c)
 
 -- what a command is about, by its files
 unfoldable pub inputs_of : CommandWords → Files → Result InputValues Stop
-inputs_of c files = result_map (inputs_on c) (contents_of c files)
+inputs_of c files = map_ok (inputs_on c) (contents_of c files)

@@ -5,6 +5,7 @@ use Rattle.std.specs.Fmt.{decimal}
 use Rattle.lab_io.specs.Sink.{Text}
 use Rattle.lab_model.specs.declared.fault.Refusal.{Refusal}
 use Rattle.lab_model.specs.Film.{segments_of}
+use Rattle.lab_model.specs.Steps.{map_ok}
 use Rattle.lab_words.specs.declared.Verb.{Verb}
 use Rattle.lab_words.specs.declared.Verb.TheVariants as verb
 use Rattle.lab_words.specs.Command.{CommandWords}
@@ -15,11 +16,6 @@ use Rattle.lab_inputs.specs.declared.role.Role.TheVariants as role
 use Rattle.lab_inputs.specs.Contents.{ContentValues, trace_of, with_certificate, with_film, with_network, with_seeks}
 
 -- ---- the table
-
--- what a value adds, unless its reader refuses it
-abbrev pub result_map : {A B E : Type 0} → (A → B) → Result A E → Result B E
-result_map f (Ok x) = Ok (f x)
-result_map f (Err e) = Err e
 
 -- the row of a role: the most bytes of its file, its words, and what the bytes of a file of this name add to what those before it hold
 pub record RoleRow : Type 0 where
@@ -32,22 +28,22 @@ abbrev pub row_of : Role → RoleRow
 row_of role.Manifest = record {
   limit = 67108864;
   words = codes "manifest";
-  adds = λ name v bytes. result_map (with_film v) (manifest_of bytes);
+  adds = λ name v bytes. map_ok (with_film v) (manifest_of bytes);
 }
 row_of role.Trace = record {
   limit = 67108864;
   words = codes "trace";
-  adds = λ name v bytes. result_map (with_network name v) (trace_of name bytes);
+  adds = λ name v bytes. map_ok (with_network name v) (trace_of name bytes);
 }
 row_of (role.TraceAt place) = record {
   limit = 67108864;
   words = codes "trace " ++ decimal place;
-  adds = λ name v bytes. result_map (with_network name v) (trace_of name bytes);
+  adds = λ name v bytes. map_ok (with_network name v) (trace_of name bytes);
 }
 row_of role.Seeks = record {
   limit = 67108864;
   words = codes "seeks";
-  adds = λ name v bytes. result_map (with_seeks v) (seeks_of bytes (segments_of v.film));
+  adds = λ name v bytes. map_ok (with_seeks v) (seeks_of bytes (segments_of v.film));
 }
 row_of role.Certificate = record {
   limit = 536870912;

@@ -4,13 +4,14 @@ ghost use Rattle.std.specs.Prelude.{◌≡◌};
 ghost use Rattle.lab_model.specs.Film.{segments_of};
 ghost use Rattle.lab_model.specs.Reading.{Gives};
 ghost use Rattle.lab_model.specs.Seeks.{SeeksFit};
+ghost use Rattle.lab_model.specs.Steps.{map_ok};
 ghost use Rattle.lab_words.specs.Command.{view};
 ghost use Rattle.manifest_reader.specs.Manifest.{manifest_of};
 ghost use Rattle.seek_script.specs.Script.{seeks_of};
 ghost use Rattle.lab_inputs.specs.Contents.{film_alone, is_csv, trace_of, with_certificate, with_film, with_network, with_seeks};
 ghost use Rattle.lab_inputs.specs.Files.{film_in, with_file};
 ghost use Rattle.lab_inputs.specs.Inputs.{contents_of};
-ghost use Rattle.lab_inputs.specs.Roles.{film_files, result_map, row_of};
+ghost use Rattle.lab_inputs.specs.Roles.{film_files, row_of};
 ghost use Rattle.lab_inputs.specs.Stages.{Comes, Reads, network_of};
 
 use crate::fetch::{FileErr, fetch_file};
@@ -84,7 +85,7 @@ fn read_trace(alloc: Global, name: &str, bytes: &[u8]) -> Result<Trace, InputFau
 /// The network that the bytes of a file of this name are.
 fn read_network(alloc: Global, name: &str, bytes: &[u8]) -> Result<Network, InputFault>
     ensures { Gives network_of result
-        (result_map (λ periods. (name.now, periods)) (trace_of name.now bytes.now)) }
+        (map_ok (λ periods. (name.now, periods)) (trace_of name.now bytes.now)) }
 {
     let trace = read_trace(alloc, name, bytes)?;
     let name = String::from_str(alloc, name)?;
@@ -107,7 +108,7 @@ impl Contents {
     /// Takes another film, and no seeks in it.
     fn take_film(&mut self, alloc: Global, bytes: &[u8]) -> Result<(), InputFault>
         ensures { Gives (λ done. self.new) result
-            (result_map (with_film self.old) (manifest_of bytes.now)) }
+            (map_ok (with_film self.old) (manifest_of bytes.now)) }
     {
         self.manifest = read_manifest(alloc, bytes)?;
         self.seeks = Vec::new(alloc);
@@ -117,7 +118,7 @@ impl Contents {
     /// Takes one network more.
     fn take_network(&mut self, alloc: Global, name: &str, bytes: &[u8]) -> Result<(), InputFault>
         ensures { Gives (λ done. self.new) result
-            (result_map (with_network name.now self.old) (trace_of name.now bytes.now)) }
+            (map_ok (with_network name.now self.old) (trace_of name.now bytes.now)) }
     {
         let network = read_network(alloc, name, bytes)?;
         self.networks.push(network)?;
@@ -127,7 +128,7 @@ impl Contents {
     /// Takes a seek script.
     fn take_seeks(&mut self, alloc: Global, bytes: &[u8]) -> Result<(), InputFault>
         ensures { Gives (λ done. self.new) result
-            (result_map (with_seeks self.old)
+            (map_ok (with_seeks self.old)
             (seeks_of bytes.now (segments_of self.old.film))) }
     {
         self.seeks = read_seeks(alloc, bytes, self.manifest.segments())?;
