@@ -1,5 +1,5 @@
 -- The command `compare`: its words and what they ask for. Equal rules and equal traces count once, at their first place.
-use Rattle.std.specs.Prelude.{ℕ, ◌==◌, ◌&&◌, ◌||◌, Bool, not, is_some, List, [], ◌∷◌, length, nat_le, Option, Some, None, option_map, option_and_then, codes, if◌then◌else◌}
+use Rattle.std.specs.Prelude.{ℕ, ◌==◌, ◌||◌, Bool, not, is_some, List, [], ◌∷◌, length, nat_le, Option, Some, None, option_map, option_and_then, codes, if◌then◌else◌}
 use Rattle.std.specs.List.{slice_split}
 use Rattle.std.specs.Str.{bytes_eq}
 use Rattle.clap.specs.Simple.{App}
@@ -7,9 +7,9 @@ use Rattle.clap.specs.Walk.{Row}
 use Rattle.indexmap.specs.IndexSet.{insert_all}
 use Rattle.lab_model.specs.Rules.{RuleKind}
 use Rattle.lab_words.specs.Command.{CommandWords, blank}
-use Rattle.lab_words.specs.Rules.{named_rule, named_rules}
+use Rattle.lab_words.specs.Rules.{rule_of}
 use Rattle.lab_words.specs.Settings.{settings_in, settings_words, with_settings}
-use Rattle.lab_words.specs.Spelling.{Text, at_most}
+use Rattle.lab_words.specs.Spelling.{Text}
 use Rattle.lab_words.specs.Table.{table_app}
 use Rattle.lab_model.specs.OptionSteps.{◌>>=◌}
 use Rattle.lab_words.specs.Values.{at_most_one, if_agreed, is_given, number_unless, optional, required, several}
@@ -25,7 +25,6 @@ compare_words = (codes "manifest", kind.Required)
     ∷ (codes "seeks", kind.Optional)
     ∷ (codes "regret", kind.Flag)
     ∷ (codes "budget", kind.Optional)
-    ∷ (codes "near", kind.Flag)
     ∷ (codes "trace", kind.Several)
     ∷ []
 
@@ -37,9 +36,22 @@ compare_app = table_app (codes "compare") compare_words settings_words
 abbrev pub distinct : List Text → List Text
 distinct texts = insert_all bytes_eq [] texts
 
+-- the texts, unless there are more of them
+abbrev pub at_most : ℕ → List Text → Option (List Text)
+at_most most texts = if nat_le (length texts) most then Some texts else None
+
 -- at most so many texts without repeats, each at its first place
 unfoldable pub few : ℕ → List Text → Option (List Text)
 few most texts = at_most most (distinct texts)
+
+-- the rule that a text spells, behind the text
+abbrev pub named_rule : Text → Option (Text × RuleKind)
+named_rule text = option_map (λ rule. (text, rule)) (rule_of text)
+
+-- the rule of each text, where each spells one
+abbrev pub named_rules : List Text → Option (List (Text × RuleKind))
+named_rules [] = Some []
+named_rules (text ∷ texts) = option_and_then (λ rule. option_map (λ rules. rule ∷ rules) (named_rules texts)) (named_rule text)
 
 -- 1 to 32 rules, joined by `/`
 unfoldable pub rules_in : List Row → Option (List (Text × RuleKind))
@@ -52,13 +64,13 @@ rules_in rows = do
 unfoldable pub traces_in : List Row → Option (List Text)
 traces_in rows = option_and_then (few 64) (several (codes "trace") rows)
 
--- the budget, which is for regrets alone, and for the best lists, not for bounds by prices
-abbrev pub budget_in : Bool → Bool → List Row → Option ℕ
-budget_in regret near rows = number_unless (not regret || near) (if regret then 200000 else 0) 1 1000000 (codes "budget") rows
+-- the budget, which is for regrets alone
+abbrev pub budget_in : Bool → List Row → Option ℕ
+budget_in regret rows = number_unless (not regret) (if regret then 200000 else 0) 1 1000000 (codes "budget") rows
 
--- not both asked for: regrets, and a viewer who gives downloads up or seeks; nor bounds by prices, and no regrets
+-- not both asked for: regrets, and a viewer who gives downloads up or seeks
 abbrev pub compare_agrees : CommandWords → Bool
-compare_agrees c = at_most_one (c.regret ∷ (c.abandon || is_some c.seeks) ∷ []) && at_most_one (c.near ∷ not c.regret ∷ [])
+compare_agrees c = at_most_one (c.regret ∷ (c.abandon || is_some c.seeks) ∷ [])
 
 -- what `compare` is asked for, by the values of its options
 unfoldable pub compare_in : List Row → Option CommandWords
@@ -67,7 +79,7 @@ compare_in rows = do
   rules ← rules_in rows
   settings ← settings_in rows
   seeks ← optional (codes "seeks") rows
-  budget ← budget_in (is_given (codes "regret") rows) (is_given (codes "near") rows) rows
+  budget ← budget_in (is_given (codes "regret") rows) rows
   traces ← traces_in rows
   if_agreed compare_agrees (record (with_settings settings (blank verb.Compare)) {
     manifest = manifest;
@@ -77,5 +89,4 @@ compare_in rows = do
     seeks = seeks;
     budget = budget;
     regret = is_given (codes "regret") rows;
-    near = is_given (codes "near") rows;
   })

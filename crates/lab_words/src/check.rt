@@ -17,13 +17,12 @@ use std::alloc::Global;
 
 /// The words of `check` alone.
 #[rattlefmt::skip]
-static CHECK: [Word; 6] = [
+static CHECK: [Word; 5] = [
     Word { name: "manifest", kind: Kind::Required },
     Word { name: "trace", kind: Kind::Required },
     Word { name: "certificate", kind: Kind::Required },
     Word { name: "live", kind: Kind::Optional },
     Word { name: "gap", kind: Kind::Flag },
-    Word { name: "near", kind: Kind::Flag },
 ];
 
 /// The matches of `check` on the words behind it.
@@ -45,8 +44,7 @@ fn check_in(alloc: Global, matches: &ArgMatches<'_>) -> Result<Command, WordsErr
     let certificate = file_name(alloc, matches, "certificate")?;
     let live = optional_number(matches, "live", 0, MOST_LIVE)?;
     let gap = is_given(matches, "gap");
-    let near = is_given(matches, "near");
-    if !at_most_one(&[live.is_some() || near, gap]) {
+    if !at_most_one(&[live.is_some(), gap]) {
         return Err(WordsErr::Usage);
     }
     Ok(Command {
@@ -55,7 +53,6 @@ fn check_in(alloc: Global, matches: &ArgMatches<'_>) -> Result<Command, WordsErr
         certificate: Some(certificate),
         live,
         gap,
-        near,
         ..settings.command(alloc, Verb::Check)
     })
 }

@@ -1,14 +1,15 @@
 //! The words of `compare`.
 
-ghost use Rattle.std.specs.Prelude.{◌≡◌, IfOk, map, string_bytes};
+ghost use Rattle.std.specs.Prelude.{◌≡◌, ◌==◌, IfOk, map, string_bytes};
+ghost use Rattle.std.specs.List.{slice_split};
 ghost use Rattle.clap.specs.Words.{found_of, rows_of};
 ghost use Rattle.lab_words.specs.Command.{named, view};
-ghost use Rattle.lab_words.specs.Compare.{budget_in, compare_app, compare_in, distinct, few, rules_in, traces_in};
+ghost use Rattle.lab_words.specs.Compare.{budget_in, compare_app, compare_in, distinct, few, named_rule, named_rules, rules_in, traces_in};
 ghost use Rattle.lab_words.specs.Table.{accepted};
 ghost use Rattle.lab_words.specs.Values.{Gives};
 ghost use Rattle.lab_words.specs.Words.{asked_of};
 
-use crate::rules::{named_rules, pieces_of};
+use crate::rules::rule_of;
 use crate::settings::{SETTINGS, settings_in};
 use crate::table::{Kind, Word, table_matches};
 use crate::values::{
@@ -21,14 +22,13 @@ use std::alloc::{AllocError, AllocFailed, Global};
 
 /// The words of `compare` alone.
 #[rattlefmt::skip]
-static COMPARE: [Word; 8] = [
+static COMPARE: [Word; 7] = [
     Word { name: "manifest", kind: Kind::Required },
     Word { name: "rules", kind: Kind::Required },
     Word { name: "abandon", kind: Kind::Flag },
     Word { name: "seeks", kind: Kind::Optional },
     Word { name: "regret", kind: Kind::Flag },
     Word { name: "budget", kind: Kind::Optional },
-    Word { name: "near", kind: Kind::Flag },
     Word { name: "trace", kind: Kind::Several },
 ];
 
@@ -71,6 +71,36 @@ fn few<'a>(alloc: Global, texts: &[&'a str], most: usize) -> Result<IndexSet<&'a
     Ok(set)
 }
 
+/// What stands between the slashes of a text.
+fn pieces_of<'a>(alloc: Global, text: &'a str) -> Result<Vec<&'a str>, AllocError>
+    ensures { IfOk result (λ pieces. map (λ piece. piece.now) pieces.items
+        ≡ slice_split (λ b. b == 47) text.entry.now) }
+{
+    text.split('/').collect(alloc)
+}
+
+/// The rule that a text spells, with the text as its name.
+fn named_rule(alloc: Global, text: &str) -> Result<NamedRule, WordsErr>
+    ensures { Gives named result (named_rule text.now) }
+{
+    Ok(NamedRule {
+        rule: rule_of(alloc, text)?,
+        name: text.to_string(alloc)?,
+    })
+}
+
+/// The rule of each text.
+fn named_rules(alloc: Global, texts: &[&str]) -> Result<Vec<NamedRule>, WordsErr>
+    ensures { Gives (λ rules. map named rules.items) result
+        (named_rules (map (λ text. text.now) texts.now)) }
+{
+    let mut rules = Vec::new(alloc);
+    for text in texts {
+        rules.push(named_rule(alloc, text)?)?;
+    }
+    Ok(rules)
+}
+
 /// The rules, joined by `/`.
 #[tactic(auto, unfolding(crate::specs::Compare::rules_in))]
 fn rules_in(alloc: Global, matches: &ArgMatches<'_>) -> Result<Vec<NamedRule>, WordsErr>
@@ -104,13 +134,12 @@ fn traces_in(alloc: Global, matches: &ArgMatches<'_>) -> Result<Vec<String>, Wor
     Ok(owned(alloc, names.as_slice())?)
 }
 
-/// The budget, which is for regrets alone, and for the best lists, not for bounds by prices.
-fn budget_in(matches: &ArgMatches<'_>, regret: bool, near: bool) -> Result<u32, WordsErr>
-    ensures { Gives (λ number. number) result
-        (budget_in regret near (rows_of (found_of matches.now))) }
+/// The budget, which is for regrets alone.
+fn budget_in(matches: &ArgMatches<'_>, regret: bool) -> Result<u32, WordsErr>
+    ensures { Gives (λ number. number) result (budget_in regret (rows_of (found_of matches.now))) }
 {
     let default = if regret { 200_000 } else { 0 };
-    number_unless(matches, "budget", !regret || near, default, 1, 1_000_000)
+    number_unless(matches, "budget", !regret, default, 1, 1_000_000)
 }
 
 /// What `compare` is asked for, by the values of its options.
@@ -123,11 +152,10 @@ fn compare_in(alloc: Global, matches: &ArgMatches<'_>) -> Result<Command, WordsE
     let settings = settings_in(alloc, matches)?;
     let seeks = optional_file_name(alloc, matches, "seeks")?;
     let regret = is_given(matches, "regret");
-    let near = is_given(matches, "near");
-    let budget = budget_in(matches, regret, near)?;
+    let budget = budget_in(matches, regret)?;
     let traces = traces_in(alloc, matches)?;
     let abandon = is_given(matches, "abandon");
-    if !at_most_one(&[regret, abandon || seeks.is_some()]) || !at_most_one(&[near, !regret]) {
+    if !at_most_one(&[regret, abandon || seeks.is_some()]) {
         return Err(WordsErr::Usage);
     }
     Ok(Command {
@@ -138,7 +166,6 @@ fn compare_in(alloc: Global, matches: &ArgMatches<'_>) -> Result<Command, WordsE
         seeks,
         budget,
         regret,
-        near,
         ..settings.command(alloc, Verb::Compare)
     })
 }

@@ -11,21 +11,20 @@ ghost use Rattle.lab_words.specs.Words.{asked_of};
 use crate::numbers::grid_of;
 use crate::settings::{MOST_LIVE, SETTINGS, settings_in};
 use crate::table::{Kind, Word, table_matches};
-use crate::values::{at_most_one, file_name, is_given, number_unless, optional, optional_number};
+use crate::values::{at_most_one, file_name, is_given, number_in, optional, optional_number};
 use crate::{Command, Verb, WordsErr};
 use clap::ArgMatches;
 use std::alloc::Global;
 
 /// The words of `plan` alone.
 #[rattlefmt::skip]
-static PLAN: [Word; 7] = [
+static PLAN: [Word; 6] = [
     Word { name: "manifest", kind: Kind::Required },
     Word { name: "trace", kind: Kind::Required },
     Word { name: "budget", kind: Kind::Optional },
     Word { name: "as-certificate", kind: Kind::Flag },
     Word { name: "live", kind: Kind::Optional },
     Word { name: "coarse", kind: Kind::Optional },
-    Word { name: "near", kind: Kind::Flag },
 ];
 
 /// The matches of `plan` on the words behind it.
@@ -55,11 +54,10 @@ fn plan_in(alloc: Global, matches: &ArgMatches<'_>) -> Result<Command, WordsErr>
     let manifest = file_name(alloc, matches, "manifest")?;
     let trace = file_name(alloc, matches, "trace")?;
     let settings = settings_in(alloc, matches)?;
-    let near = is_given(matches, "near");
-    let budget = number_unless(matches, "budget", near, 200_000, 1, 1_000_000)?;
+    let budget = number_in(matches, "budget", 200_000, 1, 1_000_000)?;
     let live = optional_number(matches, "live", 0, MOST_LIVE)?;
     let (coarse_time, coarse_value) = grid_in(matches)?;
-    if !at_most_one(&[live.is_some() || near, coarse_time > 0]) {
+    if !at_most_one(&[live.is_some(), coarse_time > 0]) {
         return Err(WordsErr::Usage);
     }
     Ok(Command {
@@ -70,7 +68,6 @@ fn plan_in(alloc: Global, matches: &ArgMatches<'_>) -> Result<Command, WordsErr>
         live,
         coarse_time,
         coarse_value,
-        near,
         ..settings.command(alloc, Verb::Plan)
     })
 }

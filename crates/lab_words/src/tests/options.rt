@@ -118,7 +118,7 @@ const REGRET: [(&str, &str); 9] = [
     ),
     (
         "compare t --manifest m --rules fixed:1 --utilities 0 --regret",
-        "gap: false, players: false, regret: true",
+        "gap: false, regret: true",
     ),
     (
         "compare --manifest m --rules fixed:1 --utilities 0 --budget 7 t",
@@ -138,94 +138,6 @@ const REGRET: [(&str, &str); 9] = [
     ),
     (
         "simulate --manifest m --trace t --rule fixed:1 --utilities 0 --regret",
-        "Usage",
-    ),
-];
-
-/// Players on one link.
-const PLAYERS: [(&str, &str); 9] = [
-    (
-        "simulate --manifest m --trace t --utilities 0 --players mpc:1/mpc:1",
-        "rules: [NamedRule { name: \"mpc:1\", rule: Mpc { horizon: 1 } }, NamedRule { name: \"mpc:1\",",
-    ),
-    (
-        "simulate --manifest m --trace t --utilities 0 --players=bola:5",
-        "players: true",
-    ),
-    (
-        "simulate --manifest m --trace t --utilities 0 --players mpc:1/mpc:1/mpc:1/mpc:1/mpc:1/mpc:1/mpc:1/mpc:2",
-        "Mpc { horizon: 2 } }], buffer_ms",
-    ),
-    (
-        "simulate --manifest m --trace t --utilities 0 --players mpc:1/mpc:1/mpc:1/mpc:1/mpc:1/mpc:1/mpc:1/mpc:1/mpc:1",
-        "Usage",
-    ),
-    (
-        "simulate --manifest m --trace t --utilities 0 --players mpc:1/",
-        "Usage",
-    ),
-    (
-        "simulate --manifest m --trace t --utilities 0 --players mpc:1 --rule mpc:1",
-        "Usage",
-    ),
-    (
-        "simulate --manifest m --trace t --utilities 0 --players mpc:1 --abandon",
-        "Usage",
-    ),
-    (
-        "simulate --manifest m --trace t --utilities 0 --players mpc:1 --seeks s",
-        "Usage",
-    ),
-    (
-        "simulate --manifest m --trace t --utilities 0 --players mpc:1 --live 5",
-        "Usage",
-    ),
-];
-
-/// Bounds by prices.
-const NEAR: [(&str, &str); 11] = [
-    (
-        "plan --manifest m --trace t --utilities 0 --near --live 5",
-        "budget: 200000, as_certificate",
-    ),
-    (
-        "plan --manifest m --trace t --utilities 0 --as-certificate --near",
-        "regret: false, near: true",
-    ),
-    (
-        "check --manifest m --trace t --utilities 0 --certificate c --near --live 5",
-        "regret: false, near: true",
-    ),
-    (
-        "compare --manifest m --rules fixed:1 --utilities 0 --regret --near t",
-        "budget: 200000, as_certificate",
-    ),
-    (
-        "compare t --manifest m --rules fixed:1 --utilities 0 --regret --near",
-        "regret: true, near: true",
-    ),
-    (
-        "plan --manifest m --trace t --utilities 0 --near --budget 200000",
-        "Usage",
-    ),
-    (
-        "plan --manifest m --trace t --utilities 0 --near --coarse 1,1",
-        "Usage",
-    ),
-    (
-        "check --manifest m --trace t --utilities 0 --certificate c --near --gap",
-        "Usage",
-    ),
-    (
-        "compare --manifest m --rules fixed:1 --utilities 0 --near t",
-        "Usage",
-    ),
-    (
-        "compare --manifest m --rules fixed:1 --utilities 0 --regret --near --budget 7 t",
-        "Usage",
-    ),
-    (
-        "simulate --manifest m --trace t --utilities 0 --players mpc:1 --near",
         "Usage",
     ),
 ];
@@ -252,7 +164,5 @@ fn options(rt: HostRuntime) -> Result<(), Fail> {
     shows(&rt, rt.alloc(), &UTILITIES)?;
     shows(&rt, rt.alloc(), &LIVE)?;
     shows(&rt, rt.alloc(), &COARSE)?;
-    shows(&rt, rt.alloc(), &REGRET)?;
-    shows(&rt, rt.alloc(), &PLAYERS)?;
-    shows(&rt, rt.alloc(), &NEAR)
+    shows(&rt, rt.alloc(), &REGRET)
 }
