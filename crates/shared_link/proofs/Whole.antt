@@ -25,7 +25,7 @@ is_joint kind f ps set rs film trace setup keeps players rules = record {
   trace = trace;
   setup = setup;
   keeps = keeps;
-  players = subst (IsWithin 1 8) (sym (length-map kind rs)) players;
+  players = subst (IsWithin 1 8) (sym (length-map rs kind)) players;
   rules = All-map (λ r. KindFits r f) kind rs rules;
 }
 
