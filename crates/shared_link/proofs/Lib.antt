@@ -9,3 +9,4 @@ pub mod Stretches
 pub mod Turns
 pub mod Stays
 pub mod Whole
+pub mod Rounds

@@ -49,7 +49,7 @@ module _ (c : Case) (is : IsCase c) (lane : ℕ → Period) (t : ℕ) (d : Downl
       let done = done_on c.network d.asked (asked_size c d) in
       let n' = done - t in
       let not_past = runs.done in
-      ⊎_elim (λ (open : t + n < done). open)
+      ⊎_elim (λ (alive : t + n < done). alive)
       (λ (late : done ≤ t + n).
       let there : t + n' ≡ done = omega (arith, not_past) in
       let none = (done_found c.network is.network is.short d.asked (asked_size c d) (asked_within c is t d runs).1).1 in
@@ -92,8 +92,8 @@ module _ (j : JointCase) (is : IsJoint j) (t : ℕ) where
         ⊎_elim
         (λ (spent : spends (period_at j.periods t) d.job ≡ true).
         let past = lands spent in
-        let open = not_done c case (lane_at j.periods (takers_at j t)) t d runs n same (omega (arith, past, few)) in
-        omega (arith, open))
+        let alive = not_done c case (lane_at j.periods (takers_at j t)) t d runs n same (omega (arith, past, few)) in
+        omega (arith, alive))
         (λ (delay : spends (period_at j.periods t) d.job ≡ false).
         let past = begins delay in
         let first = begins_same d.asked (asked_size c d) in

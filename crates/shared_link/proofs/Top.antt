@@ -146,7 +146,7 @@ module _ (o : Course) (kinds : List RuleKind) (is : IsJoint (joint_on o kinds)) 
     top_first bs rs same first told =
         let j = joint_on o kinds in
         let count = first.many in
-        let many : length rs ≡ length kinds = sym (ap length same ∙ length-map kind rs) in
+        let many : length rs ≡ length kinds = sym (ap length same ∙ length-map rs kind) in
         record {
           sit = record {
             count = count ∙ many;

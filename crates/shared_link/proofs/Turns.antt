@@ -89,13 +89,13 @@ module _ (o : Course) (kinds : List RuleKind) (is : IsJoint (joint_on o kinds)) 
       let case = own_is_case j is i low in
       let q = instant c (player_after c n) in
       let now = own_now o kinds is plain i n low b stands on in
-      let open = (own_sound o kinds is plain i n low b stands on).1 in
+      let alive = (own_sound o kinds is plain i n low b stands on).1 in
       let at : b.t ≡ n = body_instant c n (n + 1) q b now in
       let sound = body_sound c n (n + 1) q b now in
       let runs : IfSome (option_map download_of b.download) (Runs c n) = subst (λ s. IfSome (option_map download_of b.download) (Runs c s)) at sound.running in
       (at, record {
         idles = subst (λ a. CanIdle o.scene.now.film o.scene.now.setup a b) (sym plain.ahead) (idle_ready c case n (n + 1) q b now (own_still o kinds is plain i n low b stands on));
-        left = left_of b.download (subst IsOpen (sym now.same) open) (take_ready c case n (n + 1) q b now);
+        left = left_of b.download (subst IsOpen (sym now.same) alive) (take_ready c case n (n + 1) q b now);
         begins = subst (λ s. IfSome b.download (λ r. spends (period_at o.scene.now.periods n) r.job ≡ false → s < r.begins)) (sym at) (begins_of i n low b.download runs knows);
       })
 

@@ -10,6 +10,8 @@ use Rattle.lab_model.specs.Film.{Film, IsFilm, IsWithin}
 use Rattle.lab_model.specs.Fit.{SetupFits}
 use Rattle.lab_model.specs.Rules.{KindFits, RuleKind}
 use Rattle.player_core.specs.declared.session.Session.{Session}
+use Rattle.player_core.specs.Available.{all_ahead}
+use Rattle.player_core.specs.Scene.{IsTask, Task, task_of}
 use Rattle.player_core.specs.Session.{session_of, shown}
 use Rattle.player_core.proofs.Chain.{session_count, session_ends, session_rungs, session_times}
 use Rattle.shared_link.specs.Joint.{IsJoint, JointCase, case_at, joint_of, joint_session, players_of}
@@ -25,9 +27,19 @@ is_joint kind f ps set rs film trace setup keeps players rules = record {
   trace = trace;
   setup = setup;
   keeps = keeps;
-  players = subst (IsWithin 1 8) (sym (length-map kind rs)) players;
+  players = subst (IsWithin 1 8) (sym (length-map rs kind)) players;
   rules = All-map (λ r. KindFits r f) kind rs rules;
 }
+
+-- the same where it is told by the scene that is made of it
+module _ {R : Type 0} (kind : R → RuleKind) (f : Film) (ps qs : List Period) (set : Setup) (rs : List R) (scene : Task) (value : scene ≡ task_of f qs set all_ahead) (trace : qs ≡ ps) where
+  pub scene_same : joint_of scene.film scene.periods scene.setup (map kind rs) ≡ joint_of f ps set (map kind rs)
+  scene_same = ap (λ (g : Task). joint_of g.film g.periods g.setup (map kind rs)) value ∙ ap (λ p. joint_of f p set (map kind rs)) trace
+
+  pub scene_joint : IsTask scene → SetupFits set f → set.abandon ≡ false → IsWithin 1 8 (length rs) → All (λ r. KindFits (kind r) f) rs → IsJoint (joint_of f ps set (map kind rs))
+  scene_joint task setup keeps players rules =
+      let there = subst IsTask value task in
+      is_joint kind f ps set rs there.film (subst IsTrace trace there.trace) setup keeps players rules
 
 module _ (j : JointCase) (is : IsJoint j) (ss : List Session) (are : AreSessions j ss) where
   -- each keeps what every session does
