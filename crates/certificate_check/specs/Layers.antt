@@ -4,7 +4,7 @@ use Rattle.lab_model.specs.Film.{rungs_of, segments_of}
 use Rattle.labels.specs.declared.plans.Chain.{Chain}
 use Rattle.labels.specs.Labels.{AreRungs}
 use Rattle.player_core.specs.Scene.{Task}
-use Rattle.labels.specs.Parts.{CertificateParts}
+use Rattle.labels.specs.Parts.{CertificateParts, ChainParts}
 use Rattle.labels.specs.Valid.{chain_in}
 use Rattle.labels.specs.Form.{IsChain}
 use Rattle.certificate_check.specs.Clauses.{count_of, chains_by_rung}
@@ -31,3 +31,12 @@ pub record MayEnd (g : Task) (i : ℕ) (last : List Chain) (plan : List ℕ) : T
   pub segment : i + 1 ≡ segments_of g.film
   pub rungs : length last ≡ rungs_of g.film
   pub list : AreRungs g (segments_of g.film) plan
+
+-- a chain of this segment on this rung, whose names mean chains of the next one: the film has them all, and the chain has the form of one
+pub record CanName (g : Task) (i q : ℕ) (chain : ChainParts) (next : List Chain) : Type 0 where
+  pub segment : i + 1 < segments_of g.film
+  pub rung : q < rungs_of g.film
+  pub rungs : length next ≡ rungs_of g.film
+  pub few : length next ≤ 16
+  pub count : count_of chain ≤ 1000000
+  pub form : IsChain (length next) chain

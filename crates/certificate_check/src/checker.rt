@@ -9,10 +9,9 @@ ghost use Rattle.labels.specs.Near.{CanFollow};
 ghost use Rattle.labels.specs.Parts.{chain_parts};
 ghost use Rattle.labels.specs.Read.{list_value};
 ghost use Rattle.labels.specs.declared.verdict.Verdict.TheVariants.{Yes};
-ghost use Rattle.labels.specs.Form.{IsChain};
 ghost use Rattle.certificate_check.specs.Scheme.{both, first_no, verdict_by};
 ghost use Rattle.certificate_check.specs.Clauses.{counts_verdict, end_verdict, ends_verdict, chains_by_rung, name_verdict, names_verdict, plan_verdict, range_verdict, ranges_verdict, score_verdict, starts_held, starts_verdict};
-ghost use Rattle.certificate_check.specs.Layers.{AreBoth, IsLayer, MayEnd};
+ghost use Rattle.certificate_check.specs.Layers.{AreBoth, CanName, IsLayer, MayEnd};
 
 use crate::ranges::{
     Outcome, both, count_of, label_of, name_of, plan_verdict, ranges_verdict, starts_verdict, test,
@@ -136,13 +135,8 @@ impl<'a> Checker<'a> {
         next: &[Chain],
         place: usize,
     ) -> Outcome
-        requires segment { segment + 1 < segments_of self.now.film }
-        requires rung { rung < rungs_of self.now.film }
-        requires next { length next.now ≡ rungs_of self.now.film }
-        requires few { length next.now ≤ 16 }
+        requires can { CanName self.now segment rung (chain_parts chain.now) next.now }
         requires place { place < length chain.now.labels.items }
-        requires count { length chain.now.labels.items ≤ 1000000 }
-        requires form { IsChain (length next.now) (chain_parts chain.now) }
         requires range { range_verdict (length next.now) segment rung (chain_parts chain.now)
             (chains_by_rung next.now) place ≡ Yes }
         ensures { verdict_by result ≡ name_verdict self.now (length next.now) segment rung
@@ -160,12 +154,7 @@ impl<'a> Checker<'a> {
 
     /// V4 of the labels of a chain.
     fn names_of_chain(&self, segment: u16, rung: u8, chain: &Chain, next: &[Chain]) -> Outcome
-        requires segment { segment + 1 < segments_of self.now.film }
-        requires rung { rung < rungs_of self.now.film }
-        requires next { length next.now ≡ rungs_of self.now.film }
-        requires few { length next.now ≤ 16 }
-        requires count { length chain.now.labels.items ≤ 1000000 }
-        requires form { IsChain (length next.now) (chain_parts chain.now) }
+        requires can { CanName self.now segment rung (chain_parts chain.now) next.now }
         requires ranges { first_no (range_verdict (length next.now) segment rung
             (chain_parts chain.now) (chains_by_rung next.now)) (length chain.now.labels.items) ≡ Yes }
         ensures { verdict_by result ≡ first_no (name_verdict self.now (length next.now) segment rung

@@ -1,5 +1,5 @@
 -- Fields: what is read is spelled so, and what is spelled so is read, whatever follows.
-use Rattle.std.proofs.Common.{◌≡◌, ◌∙◌, ◌+◌, ◌-◌, ◌^◌, ◌<◌, ◌≤◌, ◌&&◌, ◌==◌, ◌++◌, ℕ, zero, suc, List, [], ◌∷◌, Bool, true, false, not, Option, Some, None, Result, Ok, Err, cond, drop, get_or, length, length-append, map, nat_le, nat_lt, take, position, refl, sym, ap, subst, ℤ, pos, negsuc, ◌-ℤ◌, add-one, drop-cons, append_assoc, arith, lit≤}
+use Rattle.std.proofs.Common.{◌≡◌, ◌∙◌, ◌+◌, ◌-◌, ◌^◌, ◌<◌, ◌≤◌, ◌&&◌, ◌==◌, ◌++◌, ℕ, zero, suc, List, [], ◌∷◌, Bool, true, false, not, Option, Some, None, Ok, cond, drop, get_or, length, length-append, map, nat_le, nat_lt, take, position, refl, sym, ap, subst, ℤ, pos, negsuc, ◌-ℤ◌, add-one, drop-cons, append_assoc, arith, lit≤}
 use Rattle.std.specs.List.{All, position_or_len}
 use Rattle.std.specs.Fmt.{decimal, signed_decimal}
 use Rattle.std.specs.Str.{all_ascii_digits, bytes_eq}
@@ -15,7 +15,6 @@ use Rattle.std.proofs.Math.Nat.{pow-le-pow_right}
 use Rattle.std.proofs.Math.Seq.{get_or-append_seam}
 use Rattle.lab_model.proofs.Steps.{then_ok}
 use Rattle.lab_model.specs.Steps.{◌>>=◌}
-use Rattle.lab_model.specs.declared.fault.Refusal.{Refusal}
 use Rattle.lab_io.specs.Sink.{Text}
 use Rattle.lab_io.specs.Number.{numeral}
 use Rattle.lab_io.specs.Piece.{later_fields}

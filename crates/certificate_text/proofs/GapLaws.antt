@@ -1,14 +1,13 @@
 -- Gap certificates: what is read is of the form and spelled so, and what is of the form is read from its spelling.
-use Rattle.std.proofs.Common.{◌≡◌, ◌∙◌, ◌++◌, ◌^◌, ◌<◌, ℤ, List, [], ◌∷◌, Result, Ok, Err, refl, sym, ap, subst, append_assoc, append-nil, lit<, lit≤}
+use Rattle.std.proofs.Common.{◌≡◌, ◌∙◌, ◌++◌, ◌^◌, ◌<◌, ℤ, [], Result, Ok, Err, refl, sym, ap, subst, append_assoc, append-nil, lit<, lit≤}
 use Rattle.std.specs.Prelude.{IfOk}
 use Rattle.lab_model.proofs.Steps.{then_ok}
 use Rattle.lab_model.specs.Steps.{◌>>=◌}
 use Rattle.lab_model.specs.declared.fault.InputFault.{InputFault}
-use Rattle.lab_model.specs.declared.fault.Refusal.{Refusal}
 use Rattle.lab_model.specs.Reading.{Gives}
 use Rattle.lab_io.specs.Sink.{Text}
 use Rattle.lab_io.specs.Piece.{fields_line}
-use Rattle.labels.specs.Form.{HasSignedDigits, IsCertificate, score_digits}
+use Rattle.labels.specs.Form.{HasSignedDigits, score_digits}
 use Rattle.labels.specs.Parts.{CertificateParts}
 use Rattle.certificate_text.specs.declared.certificate.GapCertificate.{GapCertificate}
 use Rattle.certificate_text.specs.Line.{fields_of, values_at}

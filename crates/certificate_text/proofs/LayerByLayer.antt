@@ -15,7 +15,7 @@ use Rattle.certificate_text.specs.declared.certificate.Layer.{Layer}
 use Rattle.certificate_text.specs.Fields.{Read}
 use Rattle.certificate_text.specs.Form.{GapParts}
 use Rattle.certificate_text.specs.Reading.{Walks, bound_at, certificate_behind, certificate_of, chains_at, end_at, gap_heading, gap_of, head_at}
-use Rattle.certificate_text.specs.Walk.{BeginsBadly, BeginsGap, BeginsLayers, GivesLayer, IsBegun, MeetsBadLine, Steps, Walk, WillGive, WillRefuse, begun, begun_gap, certificate_by, first_walk, layer_in, layer_of, layer_parts, prepended, rest_of, without_chains}
+use Rattle.certificate_text.specs.Walk.{BeginsBadly, BeginsGap, BeginsLayers, GivesLayer, IsBegun, MeetsBadLine, Steps, Walk, WillGive, WillRefuse, begun, begun_gap, certificate_by, first_walk, layer_in, layer_of, prepended, rest_of, without_chains}
 use Rattle.certificate_text.proofs.CertificateLaws.{chains_take}
 use Rattle.certificate_text.proofs.HeadLaws.{head_takes}
 use Rattle.certificate_text.proofs.Loops.{ok_is}

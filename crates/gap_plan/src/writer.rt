@@ -1,6 +1,5 @@
 //! Gap certificates that are written.
 
-ghost use Rattle.std.specs.Prelude.{◌≡◌};
 ghost use Rattle.lab_io.specs.Sink.{Puts};
 ghost use Rattle.certificate_text.specs.Form.{IsGapCertificate};
 ghost use Rattle.certificate_text.specs.Spelling.{gap_spelling};

@@ -1,6 +1,6 @@
 //! The best list of a live session.
 
-ghost use Rattle.std.specs.Prelude.{◌≡◌, ◌≤◌};
+ghost use Rattle.std.specs.Prelude.{◌≤◌};
 ghost use Rattle.lab_model.specs.Fit.{SetupFits};
 ghost use Rattle.player_core.specs.Scene.{task_of};
 ghost use Rattle.frontier_planner.specs.Planned.{PlanAnswer};

@@ -1,4 +1,4 @@
-use Rattle.std.proofs.Common.{◌∙◌, sym, ap, ap₂, ltb}
+use Rattle.std.proofs.Common.{◌∙◌, ap, ap₂, ltb}
 use Rattle.certificate_check.specs.Scheme.{tested}
 use Rattle.certificate_check.specs.Clauses.{count_of}
 use Rattle.certificate_check.proofs.Layers.{layer_read}

@@ -1,4 +1,4 @@
-use Rattle.std.proofs.Common.{◌∙◌, sym, arith}
+use Rattle.std.proofs.Common.{arith}
 use Rattle.certificate_check.proofs.Scheme.{first_end, first_fails, first_more, first_none}
 use Rattle.certificate_check.proofs.ranges.plan_verdict.Goals as goal
 

@@ -1,4 +1,4 @@
-use Rattle.std.proofs.Common.{◌∙◌, sym, ap}
+use Rattle.std.proofs.Common.{◌∙◌, ap}
 use Rattle.certificate_check.specs.Scheme.{first_no}
 use Rattle.certificate_check.proofs.Scheme.{first_fails, first_more, first_none}
 use Rattle.certificate_check.proofs.ranges.range_of_chain.Goals as goal

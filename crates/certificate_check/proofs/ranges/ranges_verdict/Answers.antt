@@ -1,4 +1,4 @@
-use Rattle.std.proofs.Common.{◌∙◌, sym, ap, length}
+use Rattle.std.proofs.Common.{◌∙◌, ap, length}
 use Rattle.certificate_check.specs.Scheme.{first_no}
 use Rattle.certificate_check.specs.Clauses.{count_of, chains_by_rung, range_verdict}
 use Rattle.certificate_check.proofs.Layers.{chain_read, few_read, layer_read}

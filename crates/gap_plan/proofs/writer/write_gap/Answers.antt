@@ -1,8 +1,7 @@
-use Rattle.std.proofs.Common.{◌≡◌, ℤ, ap, rules}
+use Rattle.std.proofs.Common.{ℤ, ap, rules}
 use mir.Val.{SFits}
 use Rattle.std.specs.Int.{w128}
 use Rattle.std.proofs.lemmas.Int.{to_z-of_z}
-use Rattle.lab_io.specs.Sink.{Puts}
 use Rattle.lab_io.proofs.Puts.{puts_as, puts_failed, puts_more}
 use Rattle.labels.specs.Parts.{plan_parts}
 use Rattle.certificate_text.specs.Spelling.{gap_lines, lines_text, spelling}

@@ -23,7 +23,7 @@ label_of-named-requires c =
 pub successor-successor-requires-clause-old : goal.successor-successor-requires-clause-old
 successor-successor-requires-clause-old c =
     subst CanFollow (sym c.label_of-label.ensures)
-    (follows (length c.args.next.now) c.args.segment c.args.rung (chain_parts c.args.chain.now) (chains_by_rung c.args.next.now) c.args.place c.requires.form c.requires.place c.requires.range)
+    (follows (length c.args.next.now) c.args.segment c.args.rung (chain_parts c.args.chain.now) (chains_by_rung c.args.next.now) c.args.place c.requires.can.form c.requires.place c.requires.range)
 
 pub loop-next_rung-preserved : goal.loop-next_rung-preserved
 loop-next_rung-preserved c =

@@ -1,4 +1,4 @@
-use Rattle.std.proofs.Common.{◌∙◌, sym, ap, ◌<◌, length, subst}
+use Rattle.std.proofs.Common.{◌∙◌, ap, ◌<◌, length, subst}
 use Rattle.labels.specs.Parts.{chain_parts}
 use Rattle.certificate_check.specs.Scheme.{first_no}
 use Rattle.certificate_check.specs.Clauses.{count_of, chains_by_rung, range_verdict}

@@ -1,4 +1,4 @@
-use Rattle.std.proofs.Common.{◌∙◌, sym, ap, ◌≡◌, length, subst}
+use Rattle.std.proofs.Common.{◌∙◌, sym, ap, ◌≡◌, length, subst, arith}
 use Rattle.labels.specs.declared.verdict.Verdict.TheVariants.{Yes}
 use Rattle.certificate_check.specs.Scheme.{first_no}
 use Rattle.certificate_check.specs.Clauses.{count_of, chains_by_rung, name_verdict, range_verdict}
@@ -9,13 +9,19 @@ use Rattle.certificate_check.proofs.checker.Checker.names_verdict.Goals as goal
 pub loop-rung-init : goal.loop-rung-init
 loop-rung-init c = first_none _
 
-pub names_of_chain-requires-clause-count : goal.names_of_chain-requires-clause-count
-names_of_chain-requires-clause-count c =
-    few_read _ c.args.here.now c.loop-rung.rung c.index-here-rung.result c.requires.form c.loop-rung-test.true c.index-here-rung.is
-
-pub names_of_chain-requires-clause-form : goal.names_of_chain-requires-clause-form
-names_of_chain-requires-clause-form c =
-    chain_read _ c.args.here.now c.loop-rung.rung c.index-here-rung.result c.requires.form c.loop-rung-test.true c.index-here-rung.is
+pub names_of_chain-requires-clause-can : goal.names_of_chain-requires-clause-can
+names_of_chain-requires-clause-can c =
+    let fits = c.requires.fits in
+    let low = c.loop-rung-test.true in
+    let long = fits.rungs in
+    record {
+      segment = fits.segment;
+      rung = omega (arith, low, long);
+      rungs = fits.next_rungs;
+      few = c.requires.few;
+      count = few_read _ c.args.here.now c.loop-rung.rung c.index-here-rung.result c.requires.form low c.index-here-rung.is;
+      form = chain_read _ c.args.here.now c.loop-rung.rung c.index-here-rung.result c.requires.form low c.index-here-rung.is;
+    }
 
 pub names_of_chain-requires-clause-ranges : goal.names_of_chain-requires-clause-ranges
 names_of_chain-requires-clause-ranges c =

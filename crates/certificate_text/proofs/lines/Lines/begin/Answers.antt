@@ -1,4 +1,3 @@
-use Rattle.std.proofs.Common.{◌≡◌}
 use Rattle.certificate_text.proofs.LayerByLayer.{begins_badly, begins_layers}
 use Rattle.certificate_text.proofs.WalkLaws.{begun_is}
 use Rattle.certificate_text.proofs.lines.Lines.begin.Goals as goal

@@ -1,4 +1,3 @@
-use Rattle.std.proofs.Common.{◌≡◌}
 use Rattle.certificate_text.proofs.LayerByLayer.{begins_gap, gap_begins_badly}
 use Rattle.certificate_text.proofs.WalkLaws.{gap_begun_is}
 use Rattle.certificate_text.proofs.lines.Lines.begin_gap.Goals as goal
