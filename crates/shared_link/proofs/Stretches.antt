@@ -56,7 +56,7 @@ module _ (c : Case) (is : IsCase c) (lane : ℕ → Period) (t : ℕ) (d : Downl
       let whole = later_job n' in
       let lane_job = same_jobs c.network lane t n' d.job (λ k low. same k (omega (arith, low, late, not_past))) in
       let left : (job_on lane t n' d.job).left ≡ 0 =
-          ap (λ (j : Job). j.left) (sym lane_job ∙ sym whole ∙ ap (λ m. job_on c.network d.asked (m - d.asked) (start_job (asked_size c d))) there) ∙ none in
+      ap (λ (j : Job). j.left) (sym lane_job ∙ sym whole ∙ ap (λ m. job_on c.network d.asked (m - d.asked) (start_job (asked_size c d))) there) ∙ none in
       absurd (lands_not_before lane t d.job n' (omega (arith, there, late, early)) left))
       (cases_lt (t + n) done)
 
@@ -154,7 +154,7 @@ module _ (j : JointCase) (is : IsJoint j) (t : ℕ) where
         let runs : IfSome q.download (Runs c t) = subst (λ s. IfSome q.download (Runs c s)) at (instant_sound c case t (player_after c t) start.1 start.0 goes).0.running in
         let loads : r.download ≡ option_map (takes c q.t) q.download = (passes_passed c (takes_any c q) q.mode).download in
         let download : (player_after c (t + n)).download ≡ option_map (taken_ms c r.t (n - 1)) (option_map (takes c q.t) q.download) =
-            ap (λ (p : Player). p.download) there ∙ ap (option_map (taken_ms c r.t (n - 1))) loads in
+        ap (λ (p : Player). p.download) there ∙ ap (option_map (taken_ms c r.t (n - 1))) loads in
         let later : IfSome (player_after c (t + n)).download (Runs c (t + n)) = subst (λ s. IfSome (player_after c (t + n)).download (Runs c s)) sound.1 sound.0.running in
         ap (takes_bits (period_at j.periods (t + n))) idle
         ∙ ap (λ o. option_map_or (λ (d : Download). spends (period_at j.periods (t + n)) d.job) o false) download
@@ -197,9 +197,9 @@ module _ (j : JointCase) (is : IsJoint j) (t : ℕ) where
     calm_share (suc n) few k low =
         let before = calm_share n (omega (arith, few)) in
         let here : share_at j (t + n) ≡ lane_at j.periods (takers_at j t) (t + n) =
-            ap (λ takers. parted takers (period_at j.periods (t + n)))
-            (takers_same (period_at j.periods (t + n)) (period_at j.periods t) (instants j (players_after j (t + n))) (instants j (players_after j t)) (players_of j)
-            (λ i inside. stays_one n i (omega (arith, few)) inside before)) in
+        ap (λ takers. parted takers (period_at j.periods (t + n)))
+        (takers_same (period_at j.periods (t + n)) (period_at j.periods t) (instants j (players_after j (t + n))) (instants j (players_after j t)) (players_of j)
+        (λ i inside. stays_one n i (omega (arith, few)) inside before)) in
         below_more (λ m. share_at j (t + m) ≡ lane_at j.periods (takers_at j t) (t + m)) n before here k (omega (arith, low))
 
     -- nothing happens to a player that goes on in the whole stretch
@@ -220,8 +220,8 @@ module _ (j : JointCase) (is : IsJoint j) (t : ℕ) where
         let size = asked_size c d in
         let first = first_same (share_at j) (lane_at j.periods (takers_at j t)) case.network case.short (λ s. refl) d.asked size in
         let jobs = same_jobs (share_at j) (lane_at j.periods (takers_at j t)) (t + 1) m d.job
-            (λ k less. let at : (t + 1) + k ≡ t + (1 + k) = omega arith in
-            ap (share_at j) at ∙ calm_share ms (omega arith) (1 + k) (omega (arith, less, few)) ∙ ap (λ s. lane_at j.periods (takers_at j t) s) (sym at)) in
+        (λ k less. let at : (t + 1) + k ≡ t + (1 + k) = omega arith in
+        ap (share_at j) at ∙ calm_share ms (omega arith) (1 + k) (omega (arith, less, few)) ∙ ap (λ s. lane_at j.periods (takers_at j t) s) (sym at)) in
         ap₂ (λ (job : Job) (f : ℕ). Some (record d { job = job; first = cond (ltb f ((t + 1) + m)) (Some f) None })) jobs first
 
     -- the law: at its end a player that goes on is what its milliseconds make of it at once on the lane
@@ -240,7 +240,7 @@ module _ (j : JointCase) (is : IsJoint j) (t : ℕ) where
         let law = (stretch c case t ms (going_before c case t goes) goes (calm_whole i low goes some)).1 in
         let lane = λ (s : ℕ). lane_at j.periods (takers_at j t) s in
         let downloads : option_map (taken_ms c r.t m) r.download ≡ option_map (taken_ms (record (case_at j i) { network = lane }) r.t m) r.download =
-            subst (λ s. option_map (taken_ms c s m) r.download ≡ option_map (taken_ms (record (case_at j i) { network = lane }) s m) r.download) (sym next) (taken_same i m r.download low (omega (arith, some))) in
+        subst (λ s. option_map (taken_ms c s m) r.download ≡ option_map (taken_ms (record (case_at j i) { network = lane }) s m) r.download) (sym next) (taken_same i m r.download low (omega (arith, some))) in
         own j is i low (t + ms) ∙ law ∙ ap (λ (o : Option Download). let p = moves_in m (record r { download = o }) r.mode in record p { t = p.t + m }) downloads
 
     -- and one that has ended stays as it is

@@ -62,8 +62,8 @@ module _ (c : Case) (is : IsCase c) (n : ℕ) (d : Download) (runs : Runs c n d)
       let begin : d.asked + (first - d.asked) ≡ first = omega (arith, from) in
       let parts : (first - d.asked) + (n - first) ≡ n - d.asked = omega (arith, from, late) in
       let whole : job_on net first (n - first) (job_on net d.asked (first - d.asked) (start_job bits)) ≡ d.job =
-          ap (λ m. job_on net m (n - first) (job_on net d.asked (first - d.asked) (start_job bits))) (sym begin)
-          ∙ sym (job_apart net d.asked (first - d.asked) (n - first) (start_job bits)) ∙ ap (λ m. job_on net d.asked m (start_job bits)) parts ∙ sym runs.job in
+      ap (λ m. job_on net m (n - first) (job_on net d.asked (first - d.asked) (start_job bits))) (sym begin)
+      ∙ sym (job_apart net d.asked (first - d.asked) (n - first) (start_job bits)) ∙ ap (λ m. job_on net d.asked m (start_job bits)) parts ∙ sym runs.job in
       absurd (true≢false (sym (ap (λ m. spends (net m) (job_on net first (n - first) (job_on net d.asked (first - d.asked) (start_job bits)))) (sym there) ∙ after) ∙ ap (λ k. spends (net n) k) whole ∙ delay)))
       (cases_lt n first)
 
@@ -92,12 +92,14 @@ module _ (o : Course) (kinds : List RuleKind) (is : IsJoint (joint_on o kinds)) 
       let alive = (own_sound o kinds is plain i n low b stands on).1 in
       let at : b.t ≡ n = body_instant c n (n + 1) q b now in
       let sound = body_sound c n (n + 1) q b now in
-      let runs : IfSome (option_map download_of b.download) (Runs c n) = subst (λ s. IfSome (option_map download_of b.download) (Runs c s)) at sound.running in
-      (at, record {
-        idles = subst (λ a. CanIdle o.scene.now.film o.scene.now.setup a b) (sym plain.ahead) (idle_ready c case n (n + 1) q b now (own_still o kinds is plain i n low b stands on));
-        left = left_of b.download (subst IsOpen (sym now.same) alive) (take_ready c case n (n + 1) q b now);
-        begins = subst (λ s. IfSome b.download (λ r. spends (period_at o.scene.now.periods n) r.job ≡ false → s < r.begins)) (sym at) (begins_of i n low b.download runs knows);
-      })
+      let runs : IfSome (option_map download_of b.download) (Runs c n) = subst (λ s. IfSome (option_map download_of b.download) (Runs c s)) at sound.running in (
+        at,
+        record {
+          idles = subst (λ a. CanIdle o.scene.now.film o.scene.now.setup a b) (sym plain.ahead) (idle_ready c case n (n + 1) q b now (own_still o kinds is plain i n low b stands on));
+          left = left_of b.download (subst IsOpen (sym now.same) alive) (take_ready c case n (n + 1) q b now);
+          begins = subst (λ s. IfSome b.download (λ r. spends (period_at o.scene.now.periods n) r.job ≡ false → s < r.begins)) (sym at) (begins_of i n low b.download runs knows);
+        },
+      )
 
   -- ---- the stretch is calm
 

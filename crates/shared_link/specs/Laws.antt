@@ -1,12 +1,10 @@
 -- What is true of every joint session.
-use Rattle.std.specs.Prelude.{◌≡◌, ℕ, ◌<◌}
+use Rattle.std.specs.Prelude.{◌≡◌, ℕ, ◌<◌, true}
+use Rattle.lab_model.specs.declared.trace.Period.{Period}
 use Rattle.player_core.specs.Limits.{latest_ms}
-use Rattle.player_core.specs.Parts.{is_ended}
-use Rattle.player_core.specs.Session.{player_after, session_of}
+use Rattle.player_core.specs.Session.{session_of}
 use Rattle.player_core.specs.State.{Case}
 use Rattle.shared_link.specs.Joint.{IsJoint, JointCase, all_end_at, case_at, instants, joint_end, joint_session, players_after, players_of, share_of}
-use Rattle.std.specs.Prelude.{true}
-use Rattle.lab_model.specs.declared.trace.Period.{Period}
 
 -- the share of the link at an instant of the joint session
 abbrev pub share_at : JointCase → ℕ → Period

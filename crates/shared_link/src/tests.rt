@@ -3,9 +3,7 @@
 use crate::plain::play_plainly;
 use crate::{Joint, MOST_PLAYERS, play_shared};
 use lab_model::{Manifest, Period, Rule, Setup, Trace, Weights};
-use network_clock::Clock;
-use player_core::parts::Course;
-use player_core::{Event, Listed, Scene};
+use player_core::{Event, Listed};
 use std::alloc::Global;
 use std::process::Abort;
 use std::test::Fail;
@@ -33,7 +31,9 @@ const CASES: [Case; 6] = [
     Case {
         seg_ms: 1000,
         bitrates: &[1000, 2000],
-        sizes: &[1_000_000, 2_000_000, 1_000_000, 2_000_000, 1_000_000, 2_000_000],
+        sizes: &[
+            1_000_000, 2_000_000, 1_000_000, 2_000_000, 1_000_000, 2_000_000,
+        ],
         periods: &[(60_000, 2_000_000, 0)],
         buffer_ms: 10_000,
         rungs: &[&[1, 1, 1], &[1, 1, 1]],
@@ -46,7 +46,9 @@ const CASES: [Case; 6] = [
     Case {
         seg_ms: 1000,
         bitrates: &[1000, 2000],
-        sizes: &[1_000_000, 2_000_000, 1_000_000, 2_000_000, 1_000_000, 2_000_000],
+        sizes: &[
+            1_000_000, 2_000_000, 1_000_000, 2_000_000, 1_000_000, 2_000_000,
+        ],
         periods: &[(60_000, 2_000_000, 0)],
         buffer_ms: 10_000,
         rungs: &[&[0, 0, 0], &[1, 1, 1]],
@@ -59,7 +61,9 @@ const CASES: [Case; 6] = [
     Case {
         seg_ms: 1000,
         bitrates: &[1000, 2000],
-        sizes: &[1_000_000, 2_000_000, 1_000_000, 2_000_000, 1_000_000, 2_000_000],
+        sizes: &[
+            1_000_000, 2_000_000, 1_000_000, 2_000_000, 1_000_000, 2_000_000,
+        ],
         periods: &[(900, 2_000_000, 70), (350, 0, 10), (800, 3_000_000, 0)],
         buffer_ms: 2000,
         rungs: &[&[1, 0, 1]],
@@ -72,7 +76,12 @@ const CASES: [Case; 6] = [
         seg_ms: 800,
         bitrates: &[1000, 2000],
         sizes: &[300_001, 900_007, 400_003, 1_000_009, 350_011, 800_013],
-        periods: &[(700, 4_500_001, 40), (300, 0, 150), (500, 9_000_000, 0), (400, 2_500_003, 60)],
+        periods: &[
+            (700, 4_500_001, 40),
+            (300, 0, 150),
+            (500, 9_000_000, 0),
+            (400, 2_500_003, 60),
+        ],
         buffer_ms: 1200,
         rungs: &[&[0, 1, 0], &[1, 1, 0], &[0, 0, 0]],
         short: true,
@@ -87,9 +96,23 @@ const CASES: [Case; 6] = [
         seg_ms: 500,
         bitrates: &[1000, 2000],
         sizes: &[30_001, 90_007, 40_003, 100_009, 35_011, 80_013],
-        periods: &[(260, 1_500_001, 40), (150, 0, 150), (100, 4_000_000, 0), (180, 2_500_003, 60)],
+        periods: &[
+            (260, 1_500_001, 40),
+            (150, 0, 150),
+            (100, 4_000_000, 0),
+            (180, 2_500_003, 60),
+        ],
         buffer_ms: 900,
-        rungs: &[&[0, 1, 0], &[0, 1, 0], &[1, 0, 0], &[1, 1, 1], &[0, 0, 0], &[0, 0, 0], &[1, 0, 1], &[0, 0, 1]],
+        rungs: &[
+            &[0, 1, 0],
+            &[0, 1, 0],
+            &[1, 0, 0],
+            &[1, 1, 1],
+            &[0, 0, 0],
+            &[0, 0, 0],
+            &[1, 0, 1],
+            &[0, 0, 1],
+        ],
         short: true,
         text: "0r0 201a40:186341 201p0 301r1 515a410:952466 701p1 801r0 1105a841:132617 1201p2 \
             1701e 201 0 0|0r0 201a40:186341 201p0 301r1 515a410:952466 701p1 801r0 \
@@ -107,9 +130,23 @@ const CASES: [Case; 6] = [
         seg_ms: 60_000,
         bitrates: &[1000, 2000],
         sizes: &[100_000_000, 150_000_000, 100_000_000, 150_000_000],
-        periods: &[(9_999_999, 0, 9000), (9_999_998, 2100, 10_000), (9_999_999, 999, 5000), (9_999_999, 1003, 0)],
+        periods: &[
+            (9_999_999, 0, 9000),
+            (9_999_998, 2100, 10_000),
+            (9_999_999, 999, 5000),
+            (9_999_999, 1003, 0),
+        ],
         buffer_ms: 60_000,
-        rungs: &[&[0, 1], &[0, 1], &[0, 1], &[1, 1], &[1, 1], &[0, 0], &[0, 0], &[0, 0]],
+        rungs: &[
+            &[0, 1],
+            &[0, 1],
+            &[0, 1],
+            &[1, 1],
+            &[1, 1],
+            &[0, 0],
+            &[0, 0],
+            &[0, 0],
+        ],
         short: false,
         text: "0r0 782338735a9000:127 782338735p0 782398735r1 782398735s 1814764702a782403735:145 \
             1814764702p1 1814824702e 782338735 1032365967 1|0r0 782338735a9000:127 782338735p0 \
@@ -165,36 +202,29 @@ fn rules(alloc: Global, case: &Case) -> Result<Vec<Listed>, Fail> {
     Ok(rules)
 }
 
-/// The joint session of a case, from event to event.
-fn joint(rt: &impl Abort, alloc: Global, case: &Case) -> Result<Joint, Fail> {
+/// The joint session of a case, from event to event or millisecond by millisecond.
+fn joint(rt: &impl Abort, alloc: Global, case: &Case, plainly: bool) -> Result<Joint, Fail> {
     let m = film(alloc, case)?;
     let trace = trace(alloc, case)?;
     let set = setup(alloc, case)?;
     let rules = rules(alloc, case)?;
-    assert!(rt; set.fits(&m) && !rules.is_empty() && rules.len() <= MOST_PLAYERS);
+    assert!(rt; set.fits(&m) && !set.abandon);
+    assert!(rt; !rules.is_empty() && rules.len() <= MOST_PLAYERS);
     assert!(rt; rules.iter().all(|rule| rule.fits(&m)));
-    Ok(play_shared(alloc, &m, &trace, &set, rules)?)
-}
-
-/// The same millisecond by millisecond.
-fn plain_joint(rt: &impl Abort, alloc: Global, case: &Case) -> Result<Joint, Fail> {
-    let m = film(alloc, case)?;
-    let clock = Clock::new(alloc, &trace(alloc, case)?)?;
-    let set = setup(alloc, case)?;
-    let rules = rules(alloc, case)?;
-    assert!(rt; set.fits(&m) && !rules.is_empty() && rules.len() <= MOST_PLAYERS);
-    assert!(rt; rules.iter().all(|rule| rule.fits(&m)));
-    let scene = Scene::on_demand(&m, &clock, &set);
-    let course = Course {
-        scene: &scene,
-        seeks: &[],
-    };
-    Ok(play_plainly(alloc, &course, rules)?)
+    Ok(if plainly {
+        play_plainly(alloc, &m, &trace, &set, rules)?
+    } else {
+        play_shared(alloc, &m, &trace, &set, rules)?
+    })
 }
 
 fn text_of(alloc: Global, event: Event) -> Result<String, Fail> {
     Ok(match event {
-        Event::Request { at, segment: _, rung } => format!(in alloc; "{at}r{rung} ")?,
+        Event::Request {
+            at,
+            segment: _,
+            rung,
+        } => format!(in alloc; "{at}r{rung} ")?,
         Event::Arrive {
             at,
             segment: _,
@@ -202,10 +232,16 @@ fn text_of(alloc: Global, event: Event) -> Result<String, Fail> {
             first,
             rate,
         } => format!(in alloc; "{at}a{first}:{rate} ")?,
-        Event::Play { at, segment, rung: _ } => format!(in alloc; "{at}p{segment} ")?,
+        Event::Play {
+            at,
+            segment,
+            rung: _,
+        } => format!(in alloc; "{at}p{segment} ")?,
         Event::Stall { at } => format!(in alloc; "{at}s ")?,
         Event::End { at } => format!(in alloc; "{at}e ")?,
-        Event::Abandon { .. } | Event::Seek { .. } => return Err(Fail::from("not on a shared link")),
+        Event::Abandon { .. } | Event::Seek { .. } => return Err(Fail::from(
+            "not on a shared link",
+        )),
     })
 }
 
@@ -225,10 +261,19 @@ fn joint_text(alloc: Global, joint: &Joint) -> Result<String, Fail> {
 fn joint_sessions(rt: HostRuntime) -> Result<(), Fail> {
     let alloc = rt.alloc();
     for case in &CASES {
-        let events = joint(&rt, alloc, case)?;
+        let events = joint(&rt, alloc, case, false)?;
         assert_eq!(rt; joint_text(alloc, &events)?.as_str(), case.text);
+    }
+    Ok(())
+}
+
+/// The body that goes millisecond by millisecond shows the same.
+#[test]
+fn plain_joint_sessions(rt: HostRuntime) -> Result<(), Fail> {
+    let alloc = rt.alloc();
+    for case in &CASES {
         if case.short {
-            let plain = plain_joint(&rt, alloc, case)?;
+            let plain = joint(&rt, alloc, case, true)?;
             assert_eq!(rt; joint_text(alloc, &plain)?.as_str(), case.text);
         }
     }

@@ -21,7 +21,7 @@ loop-body-preserved c =
     let inside = c.loop-body-test.true in
     let mode = c.is_ended.ensures in
     elim c.if-not-is_ended.branch [
-      then-not-is_ended w ↦
+      | then-not-is_ended w ↦
           let goes : GoesOn body = sym mode ∙ w.if-not-is_ended.true in
           let at : body.t ≡ c.args.t = ap (λ (b : Body). b.t) c.body-item.is ∙ times c.loop-body.body-index body inside (subst GoesOn c.body-item.is goes) in
           let calm : StaysCalm o c.args.takers w.calm_until.result body = w.calm_until.ensures in

@@ -53,7 +53,7 @@ returns-then-have_all_ended g c =
     let was : length v0 ≡ size = ap length (sym c.deref_mut.ensures.value) ∙ c.deref_mut.ensures.len in
     let long1 : length b1 ≡ size = c.in_ok-meet_all.ensures.bodies ∙ c.deref_mut.ensures.len in
     let met : Sit kind stands o kinds (instants j (players_after j n)) b1 h1 =
-        round_met o kinds is plain kind stands n v0 d0 c.loop-turn.rules.items r0 c.deref_mut.ensures.value c.deref_mut-in-loop-turn.ensures.value top b1 h1 c.in_ok-meet_all.ensures in
+    round_met o kinds is plain kind stands n v0 d0 c.loop-turn.rules.items r0 c.deref_mut.ensures.value c.deref_mut-in-loop-turn.ensures.value top b1 h1 c.in_ok-meet_all.ensures in
     let back1 = written size v0 b1 was long1 in
     let early : n < 1000000000000000 = top_early o kinds is plain n top.going in
     let v1 = take size (b1 ++ drop (length b1) v0) in
@@ -93,7 +93,7 @@ all_calm_until-until-requires-clause-rest g c =
     let was : length v0 ≡ size = ap length (sym c.deref_mut.ensures.value) ∙ c.deref_mut.ensures.len in
     let long1 : length b1 ≡ size = c.in_ok-meet_all.ensures.bodies ∙ c.deref_mut.ensures.len in
     let met : Sit kind stands o kinds (instants j (players_after j n)) b1 h1 =
-        round_met o kinds is plain kind stands n v0 d0 c.loop-turn.rules.items r0 c.deref_mut.ensures.value c.deref_mut-in-loop-turn.ensures.value top b1 h1 c.in_ok-meet_all.ensures in
+    round_met o kinds is plain kind stands n v0 d0 c.loop-turn.rules.items r0 c.deref_mut.ensures.value c.deref_mut-in-loop-turn.ensures.value top b1 h1 c.in_ok-meet_all.ensures in
     let back1 = written size v0 b1 was long1 in
     let early : n < 1000000000000000 = top_early o kinds is plain n top.going in
     let period : c.period_at-period.result ≡ period_at o.scene.now.periods n = c.period_at-period.ensures.value ∙ ap (λ ps. period_at ps n) (c.clock.ensures.value ∙ ap (λ (s : Shared). s.periods) c.requires.link) in
@@ -121,7 +121,7 @@ pass_all-requires g c =
     let was : length v0 ≡ size = ap length (sym c.deref_mut.ensures.value) ∙ c.deref_mut.ensures.len in
     let long1 : length b1 ≡ size = c.in_ok-meet_all.ensures.bodies ∙ c.deref_mut.ensures.len in
     let met : Sit kind stands o kinds (instants j (players_after j n)) b1 h1 =
-        round_met o kinds is plain kind stands n v0 d0 c.loop-turn.rules.items r0 c.deref_mut.ensures.value c.deref_mut-in-loop-turn.ensures.value top b1 h1 c.in_ok-meet_all.ensures in
+    round_met o kinds is plain kind stands n v0 d0 c.loop-turn.rules.items r0 c.deref_mut.ensures.value c.deref_mut-in-loop-turn.ensures.value top b1 h1 c.in_ok-meet_all.ensures in
     let back1 = written size v0 b1 was long1 in
     let early : n < 1000000000000000 = top_early o kinds is plain n top.going in
     subst AllCanPass (sym (c.deref_mut-in-loop-turn-2.ensures.value ∙ back1)) (all_can_pass o kinds is plain kind stands n b1 h1 met early)
@@ -146,7 +146,7 @@ glide_all-requires-clause-comes g c =
     let was : length v0 ≡ size = ap length (sym c.deref_mut.ensures.value) ∙ c.deref_mut.ensures.len in
     let long1 : length b1 ≡ size = c.in_ok-meet_all.ensures.bodies ∙ c.deref_mut.ensures.len in
     let met : Sit kind stands o kinds (instants j (players_after j n)) b1 h1 =
-        round_met o kinds is plain kind stands n v0 d0 c.loop-turn.rules.items r0 c.deref_mut.ensures.value c.deref_mut-in-loop-turn.ensures.value top b1 h1 c.in_ok-meet_all.ensures in
+    round_met o kinds is plain kind stands n v0 d0 c.loop-turn.rules.items r0 c.deref_mut.ensures.value c.deref_mut-in-loop-turn.ensures.value top b1 h1 c.in_ok-meet_all.ensures in
     let back1 = written size v0 b1 was long1 in
     let early : n < 1000000000000000 = top_early o kinds is plain n top.going in
     let period : c.period_at-period.result ≡ period_at o.scene.now.periods n = c.period_at-period.ensures.value ∙ ap (λ ps. period_at ps n) (c.clock.ensures.value ∙ ap (λ (s : Shared). s.periods) c.requires.link) in
@@ -154,7 +154,7 @@ glide_all-requires-clause-comes g c =
     let takers = c.count_takers-takers.result in
     let stand : Stand (instants j (players_after j n)) c.deref-in-loop-turn.result.now = subst (Stand (instants j (players_after j n))) (sym listed) met.stand in
     let same : takers ≡ takers_at j n = c.count_takers-takers.ensures.takers (instants j (players_after j n)) stand
-        ∙ ap₂ (λ (p : Period) (m : ℕ). takers_in p (instants j (players_after j n)) m) period (ap length listed ∙ met.count) in
+    ∙ ap₂ (λ (p : Period) (m : ℕ). takers_in p (instants j (players_after j n)) m) period (ap length listed ∙ met.count) in
     let until = c.all_calm_until-until.result in
     let calm : All (λ b. GoesOn b → StaysCalm o takers until b) b1 = subst (All (λ b. GoesOn b → StaysCalm o takers until b)) (c.deref-in-loop-turn-2.ensures.value ∙ back1) c.all_calm_until-until.ensures.calm in
     let b2 = c.pass_all.new.bodies in
@@ -190,7 +190,7 @@ loop-turn-preserved g c =
     let was : length v0 ≡ size = ap length (sym c.deref_mut.ensures.value) ∙ c.deref_mut.ensures.len in
     let long1 : length b1 ≡ size = c.in_ok-meet_all.ensures.bodies ∙ c.deref_mut.ensures.len in
     let met : Sit kind stands o kinds (instants j (players_after j n)) b1 h1 =
-        round_met o kinds is plain kind stands n v0 d0 c.loop-turn.rules.items r0 c.deref_mut.ensures.value c.deref_mut-in-loop-turn.ensures.value top b1 h1 c.in_ok-meet_all.ensures in
+    round_met o kinds is plain kind stands n v0 d0 c.loop-turn.rules.items r0 c.deref_mut.ensures.value c.deref_mut-in-loop-turn.ensures.value top b1 h1 c.in_ok-meet_all.ensures in
     let back1 = written size v0 b1 was long1 in
     let early : n < 1000000000000000 = top_early o kinds is plain n top.going in
     let period : c.period_at-period.result ≡ period_at o.scene.now.periods n = c.period_at-period.ensures.value ∙ ap (λ ps. period_at ps n) (c.clock.ensures.value ∙ ap (λ (s : Shared). s.periods) c.requires.link) in
@@ -198,7 +198,7 @@ loop-turn-preserved g c =
     let takers = c.count_takers-takers.result in
     let stand : Stand (instants j (players_after j n)) c.deref-in-loop-turn.result.now = subst (Stand (instants j (players_after j n))) (sym listed) met.stand in
     let same : takers ≡ takers_at j n = c.count_takers-takers.ensures.takers (instants j (players_after j n)) stand
-        ∙ ap₂ (λ (p : Period) (m : ℕ). takers_in p (instants j (players_after j n)) m) period (ap length listed ∙ met.count) in
+    ∙ ap₂ (λ (p : Period) (m : ℕ). takers_in p (instants j (players_after j n)) m) period (ap length listed ∙ met.count) in
     let until = c.all_calm_until-until.result in
     let calm : All (λ b. GoesOn b → StaysCalm o takers until b) b1 = subst (All (λ b. GoesOn b → StaysCalm o takers until b)) (c.deref-in-loop-turn-2.ensures.value ∙ back1) c.all_calm_until-until.ensures.calm in
     let b2 = c.pass_all.new.bodies in
@@ -220,7 +220,7 @@ loop-turn-preserved g c =
     let w0 = c.loop-turn.rules.items in
     let told = written c.loop-turn.rules.len w0 h1 (ap length (sym c.deref_mut-in-loop-turn.ensures.value) ∙ c.deref_mut-in-loop-turn.ensures.len) (c.in_ok-meet_all.ensures.count ∙ c.deref_mut-in-loop-turn.ensures.len) in
     let some : all_end_at j n ≡ false = going_all o kinds is plain kind stands n b1 h1 met
-        (λ all. true≢false (sym (c.have_all_ended.ensures.1 (subst (All HasEnded) (sym (c.deref.ensures.value ∙ back1)) all)) ∙ c.if-have_all_ended.false)) in
+    (λ all. true≢false (sym (c.have_all_ended.ensures.1 (subst (All HasEnded) (sym (c.deref.ensures.value ∙ back1)) all)) ∙ c.if-have_all_ended.false)) in
     let turns = c.loop-turn.invariant.later in
     let sit = top_glided o kinds is plain kind stands n takers until b1 h1 met same calm later early most b2 passed mid b3 glided in
     record {

@@ -11,7 +11,7 @@ loop-body-preserved c =
     let h = c.loop-body.invariant in
     let few = h.few in
     elim c.if-takes_bits.branch [
-      then-takes_bits w ↦ let now = w.takers-is in record {
+      | then-takes_bits w ↦ let now = w.takers-is in record {
         few = omega (arith, few, now);
         takers = λ ps stand.
             let yes : c.takes_bits.result ≡ true = w.if-takes_bits.true in
