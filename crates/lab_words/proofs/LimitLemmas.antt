@@ -11,21 +11,22 @@ use Rattle.indexmap.specs.IndexSet.{insert_all, insert_key}
 use Rattle.lab_model.specs.Film.{IsWithin}
 use Rattle.lab_model.specs.Rules.{RuleKind, fixed, listed, throughput, bola, mpc}
 use Rattle.lab_model.proofs.Rows.{weighing_within}
+use Rattle.lab_model.specs.Row.{AreWeights}
 use Rattle.lab_model.specs.Weighing.{IsWeighing, weighing}
-use Rattle.lab_words.specs.Limits.{IsRuleWithin, IsWithinLimits}
+use Rattle.lab_words.specs.Limits.{AreWeighed, IsRuleWithin, IsWithinLimits}
 use Rattle.lab_words.specs.Rules.{has_colon, rule_of, rule_of_kind}
 use Rattle.lab_words.specs.Spelling.{Text, all_numbers, in_range, is_number, never_falls, number_of, numbers_of, pieces_of, unless_falling, utilities_of}
 use Rattle.lab_words.specs.Check.{check_app, check_in}
 use Rattle.lab_words.specs.Command.{CommandWords, blank, view}
 use Rattle.lab_words.specs.Demo.{demo_app, demo_in}
 use Rattle.lab_words.specs.Plan.{plan_app, plan_in}
-use Rattle.lab_words.specs.Settings.{SettingsWords, settings_in, utilities_in, with_settings}
+use Rattle.lab_words.specs.Settings.{SettingsWords, UtilitiesWords, settings_in, utilities_by, utilities_in, with_settings}
 use Rattle.lab_words.specs.Compare.{at_most, compare_app, compare_in, distinct, few, named_rule, named_rules, rules_in, traces_in}
 use Rattle.lab_words.specs.Simulate.{simulate_app, simulate_in}
 use Rattle.lab_words.specs.Table.{accepted}
 use Rattle.lab_model.specs.OptionSteps.{◌>>=◌}
 use Rattle.lab_model.proofs.OptionSteps.{then_some}
-use Rattle.lab_words.specs.Values.{Gives, is_given, is_stray, several, some_plain, number_in, number_or, optional, required, rule_in}
+use Rattle.lab_words.specs.Values.{Either, first, second, Gives, is_given, one_of, is_stray, several, some_plain, number_in, number_or, optional, required, rule_in}
 use Rattle.lab_words.specs.Words.{asked_of, command_of, has_dashes, verb_of}
 use Rattle.lab_words.specs.declared.Command.{Command}
 use Rattle.lab_words.specs.declared.Verb.{Verb}
@@ -127,9 +128,19 @@ utilities_within text ns h =
     let listed' = list_within 16 0 1000000 text read.0 read.1 in
     subst (λ (xs : List ℕ). IsRising xs) same (record { count = listed'.0; each = listed'.1; rise = risen read.0 kept.0 })
 
-weighing_of : (ns : List ℕ) (switch stall startup : ℕ) → IsRising ns → IsWithin 0 1000000 switch → IsWithin 0 1000000 stall → IsWithin 0 1000000 startup → IsWeighing (weighing ns switch stall startup)
-weighing_of ns switch stall startup up w l s =
-    weighing_within ns switch stall startup up.count (record { limits = λ k d lt. (up.each k d lt).1; rise = up.rise }) (record { switch_fits = w.1; stall_fits = l.1; startup_fits = s.1 })
+weighing_of : (ns : List ℕ) (switch stall startup : ℕ) → IsRising ns → AreWeights switch stall startup → IsWeighing (weighing ns switch stall startup)
+weighing_of ns switch stall startup up weights =
+    weighing_within ns switch stall startup up.count (record { limits = λ k d lt. (up.each k d lt).1; rise = up.rise }) weights
+
+weighed_by : (given : Either) (u : UtilitiesWords) (switch stall startup : ℕ) → utilities_by given ≡ Some u → AreWeights switch stall startup → AreWeighed u.1 u.0 switch stall startup
+weighed_by (first text) u switch stall startup h weights =
+    let read = mapped (λ (ns : List ℕ). (ns, None)) (utilities_of text) u h in
+    let W : UtilitiesWords → Type 0 = λ v. AreWeighed v.1 v.0 switch stall startup in
+    subst W (sym read.2) (weighing_of read.0 switch stall startup (utilities_within text read.0 read.1) weights)
+weighed_by (second name) u switch stall startup h weights =
+    let same : ([], Some name) ≡ u = cc in
+    let W : UtilitiesWords → Type 0 = λ v. AreWeighed v.1 v.0 switch stall startup in
+    subst W same (refl, weights)
 
 -- ---- rules
 
@@ -187,7 +198,7 @@ option_within default least most name rows n d h =
 
 record AreWithin (s : SettingsWords) : Type 0 where
   buffer : IsWithin 1 10000000 s.buffer_ms
-  weights : IsWeighing (weighing s.utilities s.switch s.stall s.startup)
+  weights : AreWeighed s.table s.utilities s.switch s.stall s.startup
 
 settings_within : (rows : List Row) (s : SettingsWords) → settings_in rows ≡ Some s → AreWithin s
 unfolding settings_in utilities_in
@@ -197,15 +208,16 @@ settings_within rows s h =
     let switch = then_some (number_in 0 0 1000000 (codes "switch") rows) _ s utilities.2 in
     let stall = then_some (number_in 100 0 1000000 (codes "stall") rows) _ s switch.2 in
     let startup = then_some (number_in 1 0 1000000 (codes "startup") rows) _ s stall.2 in
-    let text = then_some (required (codes "utilities") rows) _ utilities.0 utilities.1 in
-    let made : SettingsWords = record { buffer_ms = buffer.0; utilities = utilities.0; switch = switch.0; stall = stall.0; startup = startup.0 } in
+    let given = then_some (one_of (codes "utilities") (codes "utility-table") rows) _ utilities.0 utilities.1 in
+    let made : SettingsWords = record { buffer_ms = buffer.0; utilities = utilities.0.0; table = utilities.0.1; switch = switch.0; stall = stall.0; startup = startup.0 } in
     let same : made ≡ s = cc (startup.2) in
     subst AreWithin same (record {
       buffer = option_within 25000 1 10000000 (codes "buffer") rows buffer.0 (lit≤ tt, lit≤ tt) buffer.1;
-      weights = weighing_of utilities.0 switch.0 stall.0 startup.0 (utilities_within text.0 utilities.0 text.2)
-          (option_within 0 0 1000000 (codes "switch") rows switch.0 (lit≤ tt, lit≤ tt) switch.1)
-          (option_within 100 0 1000000 (codes "stall") rows stall.0 (lit≤ tt, lit≤ tt) stall.1)
-          (option_within 1 0 1000000 (codes "startup") rows startup.0 (lit≤ tt, lit≤ tt) startup.1);
+      weights = weighed_by given.0 utilities.0 switch.0 stall.0 startup.0 given.2 (record {
+        switch_fits = (option_within 0 0 1000000 (codes "switch") rows switch.0 (lit≤ tt, lit≤ tt) switch.1).1;
+        stall_fits = (option_within 100 0 1000000 (codes "stall") rows stall.0 (lit≤ tt, lit≤ tt) stall.1).1;
+        startup_fits = (option_within 1 0 1000000 (codes "startup") rows startup.0 (lit≤ tt, lit≤ tt) startup.1).1;
+      });
     })
 
 alone : {X : Type 0} (P : X → Type 0) (x : X) → P x → All P (x ∷ [])

@@ -15,6 +15,7 @@ pub record CommandWords : Type 0 where
   pub rules : List (Text × RuleKind)
   pub buffer_ms : ℕ
   pub utilities : List ℕ
+  pub table : Option Text
   pub switch : ℕ
   pub stall : ℕ
   pub startup : ℕ
@@ -34,6 +35,7 @@ blank verb = record {
   rules = [];
   buffer_ms = 0;
   utilities = [];
+  table = None;
   switch = 0;
   stall = 0;
   startup = 0;
@@ -58,6 +60,7 @@ view c = record {
   rules = map named c.rules.items;
   buffer_ms = c.buffer_ms;
   utilities = c.utilities.items;
+  table = option_map string_bytes c.table;
   switch = c.switch;
   stall = c.stall;
   startup = c.startup;

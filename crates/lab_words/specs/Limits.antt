@@ -1,10 +1,12 @@
 -- The limits that what a command line asks for keeps.
-use Rattle.std.specs.Prelude.{◌≡◌, ◌≤◌, ℕ, IsSome, length}
+use Rattle.std.specs.Prelude.{◌≡◌, ◌≤◌, ℕ, IsSome, List, [], Option, Some, None, length}
 use Rattle.std.specs.List.{All}
 use Rattle.lab_model.specs.Film.{IsWithin}
 use Rattle.lab_model.specs.Rules.{RuleKind, fixed, listed, throughput, bola, mpc}
+use Rattle.lab_model.specs.Row.{AreWeights}
 use Rattle.lab_model.specs.Weighing.{IsWeighing, weighing}
 use Rattle.lab_words.specs.Command.{CommandWords}
+use Rattle.lab_words.specs.Spelling.{Text}
 use Rattle.lab_words.specs.declared.Verb.{Verb}
 use Rattle.lab_words.specs.declared.Verb.TheVariants.{Simulate, Compare, Plan, Check, Demo}
 
@@ -32,6 +34,11 @@ HasFilm Plan = Unit {0}
 HasFilm Check = Unit {0}
 HasFilm Demo = ⊥
 
+-- utilities and weights within their limits; where a table is named there are no utilities beside it
+abbrev pub AreWeighed : Option Text → List ℕ → ℕ → ℕ → ℕ → Type 0
+AreWeighed None utilities switch stall startup = IsWeighing (weighing utilities switch stall startup)
+AreWeighed (Some table) utilities switch stall startup = (utilities ≡ []) × AreWeights switch stall startup
+
 -- what one command alone has: the budget of `plan`, the certificate of `check`, the number of `demo`
 abbrev pub HasItsOwn : Verb → CommandWords → Type 0
 HasItsOwn Simulate c = Unit {0}
@@ -45,5 +52,5 @@ pub record IsWithinLimits (c : CommandWords) : Type 0 where
   pub counts : AreCounted c.verb (length c.traces) (length c.rules)
   pub spoken : All (λ r. IsRuleWithin r.1) c.rules
   pub buffer : HasFilm c.verb → IsWithin 1 10000000 c.buffer_ms
-  pub weights : HasFilm c.verb → IsWeighing (weighing c.utilities c.switch c.stall c.startup)
+  pub weights : HasFilm c.verb → AreWeighed c.table c.utilities c.switch c.stall c.startup
   pub own : HasItsOwn c.verb c

@@ -9,6 +9,8 @@ use Rattle.lab_words.specs.Rules.{rule_of}
 use Rattle.lab_words.specs.Spelling.{Text, number_of}
 use Rattle.lab_words.specs.declared.WordsErr.{WordsErr}
 use Rattle.lab_words.specs.declared.WordsErr.TheVariants as errors
+use Rattle.lab_words.specs.declared.values.OneOf.{OneOf}
+use Rattle.lab_words.specs.declared.values.OneOf.TheVariants as one
 
 -- a call gave the value, or refused, or was out of memory
 abbrev pub Gives : {X Y : Type 0} → (X → Y) → Result X WordsErr → Option Y → Type 0
@@ -42,6 +44,30 @@ optional name rows = checked (first_of name rows)
 -- the value of an option that has to be given
 unfoldable pub required : Text → List Row → Option Text
 required name rows = option_and_then (λ given. given) (optional name rows)
+
+-- the value of one of two options
+pub data Either : Type 0 where
+  first : Text → Either
+  second : Text → Either
+
+-- the same, without where the text lies in memory
+abbrev pub either_view : OneOf → Either
+either_view (one.First text) = first text.now
+either_view (one.Second text) = second text.now
+
+-- the value of which there is one; refused where there are both or neither
+abbrev pub the_one : Option Text → Option Text → Option Either
+the_one (Some text) None = Some (first text)
+the_one None (Some text) = Some (second text)
+the_one (Some text) (Some other) = None
+the_one None None = None
+
+-- the value of two options of which exactly one is to be given
+unfoldable pub one_of : Text → Text → List Row → Option Either
+one_of name other rows = do
+  here ← optional name rows
+  there ← optional other rows
+  the_one here there
 
 -- the number, or its default where none is given
 abbrev pub number_or : ℕ → ℕ → ℕ → Option Text → Option ℕ

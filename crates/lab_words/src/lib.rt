@@ -76,8 +76,11 @@ pub struct Command {
     pub rules: Vec<NamedRule>,
     /// The buffer's room, from 1 to 10000000 ms.
     pub buffer_ms: u32,
-    /// The utility of each rung, 1 to 16 of them, non-decreasing, each from 0 to 1000000 points.
+    /// The utility of each rung, 1 to 16 of them, non-decreasing, each from 0 to 1000000 points;
+    /// none where a table is named.
     pub utilities: Vec<u32>,
+    /// The utility table's file name.
+    pub table: Option<String>,
     /// What a switch by one point of utility costs, from 0 to 1000000 thousandths of a point.
     pub switch: u32,
     /// What a millisecond of stall costs, from 0 to 1000000 thousandths of a point.
@@ -110,6 +113,7 @@ impl Command {
             rules: Vec::new(alloc),
             buffer_ms: 0,
             utilities: Vec::new(alloc),
+            table: None,
             switch: 0,
             stall: 0,
             startup: 0,

@@ -6,6 +6,7 @@ use std::test::Fail;
 mod check;
 mod compare;
 mod demo;
+mod options;
 mod plan;
 mod simulate;
 

@@ -4,7 +4,7 @@ ghost use Rattle.std.specs.Prelude.{◌≡◌, map, option_map, string_bytes};
 ghost use Rattle.std.specs.List.{list_any};
 ghost use Rattle.clap.specs.Words.{all_of, first_of, found_of, rows_of};
 ghost use Rattle.lab_words.specs.Command.{named};
-ghost use Rattle.lab_words.specs.Values.{Gives, is_given, is_stray, number_in, optional, required, rule_in, several, some_plain};
+ghost use Rattle.lab_words.specs.Values.{Gives, either_view, is_given, is_stray, number_in, one_of, optional, required, rule_in, several, some_plain};
 
 use crate::numbers::number_of;
 use crate::rules::rule_of;
@@ -50,6 +50,30 @@ pub(crate) fn required<'a>(matches: &ArgMatches<'a>, name: &str) -> Result<&'a s
     ensures { Gives (λ text. text.now) result (required name.now (rows_of (found_of matches.now))) }
 {
     optional(matches, name)?.ok_or(WordsErr::Usage)
+}
+
+/// The value of one of two options.
+#[derive(Clone, Copy)]
+pub(crate) enum OneOf<'a> {
+    First(&'a str),
+    Second(&'a str),
+}
+
+/// The value of two options of which exactly one is to be given.
+#[tactic(auto, unfolding(crate::specs::Values::one_of))]
+pub(crate) fn one_of<'a>(
+    matches: &ArgMatches<'a>,
+    name: &str,
+    other: &str,
+) -> Result<OneOf<'a>, WordsErr>
+    ensures { Gives either_view result
+        (one_of name.now other.now (rows_of (found_of matches.now))) }
+{
+    match (optional(matches, name)?, optional(matches, other)?) {
+        (Some(text), None) => Ok(OneOf::First(text)),
+        (None, Some(text)) => Ok(OneOf::Second(text)),
+        _ => Err(WordsErr::Usage),
+    }
 }
 
 /// A file name that has to be given.
