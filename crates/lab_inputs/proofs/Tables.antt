@@ -16,7 +16,7 @@ use Rattle.lab_inputs.specs.Inputs.{weights_by}
 rows_counted : (table : List ℕ) (rungs rows : ℕ) → 1 ≤ rungs → 1 ≤ rows → length table ≡ max rows 1 * rungs → length table / rungs ≡ rows
 rows_counted table rungs rows r n whole =
     let some : max rows 1 ≡ rows = omega (arith, n) in
-    ap (λ k. k / rungs) (whole ∙ ap (λ k. k * rungs) some) ∙ mul-div_cancel rows {rungs} (omega (arith, r))
+    ap (λ k. k / rungs) (whole ∙ ap (λ k. k * rungs) some) ∙ mul-div_cancel rows {n = rungs} (omega (arith, r))
 
 -- the utilities of a table that was read
 pub table_is : (film : Film) (table : List ℕ) → IsFilm film → AreUtilities table (rungs_of film) (segments_of film) → IsTable film table
@@ -26,15 +26,15 @@ zeros : (n : ℕ) → IsRow (replicate n 0)
 zeros n = record {
   limits = All-replicate (λ (u : ℕ). u ≤ 1000000) n 0 (omega arith);
   rise = λ rung low.
-  let count = length-replicate n 0 in
-  let here = get_or-replicate n rung 0 0 (omega (arith, low, count)) in
-  let next = get_or-replicate n (rung + 1) 0 0 (omega (arith, low, count)) in
+  let count = length-replicate {A = ℕ} n 0 in
+  let here = get_or-replicate {A = ℕ} n rung 0 0 (omega (arith, low, count)) in
+  let next = get_or-replicate {A = ℕ} n (rung + 1) 0 0 (omega (arith, low, count)) in
   omega (arith, here, next);
 }
 
 one_row : (n : ℕ) → IsWithin 1 most_rungs n → AreUtilities (replicate n 0) n 1
 one_row n few =
-    let count = length-replicate n 0 in
+    let count = length-replicate {A = ℕ} n 0 in
     let w = (weighing_within (replicate n 0) 0 0 0 (subst (IsWithin 1 most_rungs) (sym count) few) (zeros n) (record { switch_fits = omega arith; stall_fits = omega arith; startup_fits = omega arith })).utilities in
     let rows : AreUtilities (replicate n 0) n 0 = subst (λ k. AreUtilities (replicate n 0) k 0) count w in
     record { count_fits = few; rows_fit = omega arith; whole = rows.whole; each = λ row low. rows.each row low }

@@ -1,7 +1,7 @@
 //! What the files of a command hold, read in the order of refusals.
 
 ghost use Rattle.std.specs.Prelude.{◌≡◌, IfOk};
-ghost use Rattle.lab_model.specs.Film.{rungs_of, segments_of};
+ghost use Rattle.lab_model.specs.Film.{IsFilm, rungs_of, segments_of};
 ghost use Rattle.lab_model.specs.Reading.{Gives};
 ghost use Rattle.lab_model.specs.Seeks.{SeeksFit};
 ghost use Rattle.lab_model.specs.Steps.{map_ok};
@@ -100,7 +100,8 @@ fn read_network(alloc: Global, name: &str, bytes: &[u8]) -> Result<Network, Inpu
 
 /// One row of utilities of 0, which stands there until a table is read.
 fn no_table(alloc: Global, m: &Manifest) -> Result<Vec<u32>, AllocError>
-    ensures { IfOk result (λ table. table.items ≡ no_table m.now) }
+    ensures value { IfOk result (λ table. table.items ≡ no_table m.now) }
+    ensures film { IsFilm m.now }
 {
     vec![in alloc; 0; m.rungs() as usize]
 }
@@ -126,8 +127,9 @@ impl Contents {
             (map_ok (with_film self.old) (manifest_of bytes.now)) }
     {
         let manifest = read_manifest(alloc, bytes)?;
-        self.table = no_table(alloc, &manifest)?;
+        let table = no_table(alloc, &manifest)?;
         self.manifest = manifest;
+        self.table = table;
         self.seeks = Vec::new(alloc);
         Ok(())
     }
