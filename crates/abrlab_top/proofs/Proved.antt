@@ -5,7 +5,7 @@ use Rattle.lab_io.specs.Sink.{Text, Grew}
 use Rattle.lab_model.specs.declared.setup.Setup.{Setup}
 use Rattle.lab_model.specs.declared.trace.Period.{Period}
 use Rattle.lab_model.specs.Cycle.{IsTrace}
-use Rattle.lab_model.specs.Film.{IsFilm}
+use Rattle.lab_model.specs.Film.{IsFilm, rungs_of}
 use Rattle.lab_model.specs.Rules.{RuleKind}
 use Rattle.lab_model.specs.Weighing.{IsWeighing}
 use Rattle.lab_words.specs.declared.Verb.{Verb}
@@ -23,6 +23,7 @@ use Rattle.lab_inputs.specs.Inputs.{InputValues, inputs_of}
 use Rattle.lab_inputs.specs.Settings.{ready_of, settled}
 use Rattle.lab_inputs.specs.Stages.{Tells}
 use Rattle.lab_inputs.proofs.Steps.{ok_same, read_ok, role_ok}
+use Rattle.lab_inputs.proofs.Tables.{weights_are}
 use Rattle.lab_inputs.proofs.Within.{IsReady, inputs_counted, is_ready, settled_fits}
 use Rattle.labels.specs.Frontier.{frontier}
 use Rattle.player_core.specs.Scene.{IsTask, Task}
@@ -156,7 +157,8 @@ is_task c files i n limits film r one = record {
   film = subst IsFilm (sym (ap (λ (j : InputValues). j.film) r.inputs)) r.within.film;
   trace = first_trace r.contents.networks n (sym (ap (λ (j : InputValues). j.networks) r.inputs) ∙ one) r.within.networks;
   setup = r.fits.setup;
-  weights = subst (λ (s : Setup). IsWeighing s.weights) (sym (ap (λ (j : InputValues). j.setup) r.inputs)) (limits.weights film);
+  weights = subst (λ (s : Setup). IsWeighing s.weights) (sym (ap (λ (j : InputValues). j.setup) r.inputs))
+  (weights_are c.table c.utilities r.contents.table (rungs_of r.contents.film) c.switch c.stall c.startup (limits.weights film) r.within.table);
   ahead = omega arith;
 }
 

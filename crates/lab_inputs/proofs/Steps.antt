@@ -139,6 +139,14 @@ film_halts seen manifest later old new r e h same k x =
     let xx : Reads (role.Manifest, manifest) (λ (film : Film). film) (film_in manifest) old (Err e) new = rw same at x in
     rw k (halts [] later (role.Manifest, manifest) (λ film. film) seen (film_in manifest) (contents_from manifest later) old old new e (asks_none old) (λ files t. tt) (λ files why t f. film_stopped manifest later why files f) xx)
 
+-- memory was wanting once the film was there
+pub film_wanting : {X : Type 0} (seen : X → ContentValues) (manifest : Text) (later : List NamedFile) (old new : Shelved) (q : Result X Halt) → IsErrAnd q (λ y. y ≡ halt.NoMemory) → Asks ((role.Manifest, manifest) ∷ []) old new
+    → Comes ((role.Manifest, manifest) ∷ later) seen (contents_from manifest later) old q new
+film_wanting seen manifest later old new q k a =
+    let p = err_from_is_err_and q k in
+    let some : AsksSome ((role.Manifest, manifest) ∷ later) old new = record { asked = (role.Manifest, manifest) ∷ []; later = later; split = refl; asks = a } in
+    rw (p.1 ∙ ap Err p.2) some
+
 -- a later file gives no value
 pub later_halts : {X Z : Type 0} (seen : X → ContentValues) (seen2 : Z → ContentValues) (manifest : Text) (later before after : List NamedFile) (file : NamedFile) (v : ContentValues) (old mid new : Shelved) (r : Result X FileErr) (e : FileErr) (h : Halt)
     → later ≡ before ++ file ∷ after → r ≡ Err e → h ≡ halt_of file.0 e → Asks ((role.Manifest, manifest) ∷ before) old mid → ((files : Files) → Tells old files → contents_from manifest before files ≡ Ok v)

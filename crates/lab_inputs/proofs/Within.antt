@@ -18,6 +18,7 @@ use Rattle.lab_inputs.specs.Settings.{Fits, misfit, ready_of, settled, unless_mi
 use Rattle.lab_inputs.proofs.Fits.{all_fits}
 use Rattle.lab_inputs.proofs.Roles.{AreWithin, adds_count, adds_within, among_cons, among_none, networks_among, networks_named}
 use Rattle.lab_inputs.proofs.Steps.{ok_same, read_ok, role_ok}
+use Rattle.lab_inputs.proofs.Tables.{no_table_is}
 
 -- the bytes of a file that adds something, and what they add
 added : (file : NamedFile) (files : Files) (v w : ContentValues) → with_file v file files ≡ Ok w → (bytes : Text) × ((row_of file.0).adds file.1 v bytes ≡ Ok w)
@@ -45,7 +46,8 @@ film_within : (manifest : Text) (files : Files) (film : Film) → film_in manife
 unfolding film_in
 film_within manifest files film h =
     let x = then_ok (bytes_of role.Manifest (files manifest)) (λ bytes. read_as (manifest_of bytes)) film h in
-    record { film = manifest-limits x.0 film (read_ok (manifest_of x.0) film x.2); networks = λ k d low. absurd (omega arith) }
+    let is = manifest-limits x.0 film (read_ok (manifest_of x.0) film x.2) in
+    record { film = is; table = no_table_is film is; networks = λ k d low. absurd (omega arith) }
 
 from_within : (manifest : Text) (later : List NamedFile) (files : Files) (v : ContentValues) → contents_from manifest later files ≡ Ok v → AreWithin v × (length v.networks ≡ networks_among later)
 unfolding contents_from

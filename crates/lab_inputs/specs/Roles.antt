@@ -4,16 +4,17 @@ use Rattle.std.specs.Prelude.{ℕ, ◌+◌, List, [], ◌∷◌, ◌++◌, Optio
 use Rattle.std.specs.Fmt.{decimal}
 use Rattle.lab_io.specs.Sink.{Text}
 use Rattle.lab_model.specs.declared.fault.Refusal.{Refusal}
-use Rattle.lab_model.specs.Film.{segments_of}
+use Rattle.lab_model.specs.Film.{rungs_of, segments_of}
 use Rattle.lab_model.specs.Steps.{map_ok}
 use Rattle.lab_words.specs.declared.Verb.{Verb}
 use Rattle.lab_words.specs.declared.Verb.TheVariants as verb
 use Rattle.lab_words.specs.Command.{CommandWords}
 use Rattle.manifest_reader.specs.Manifest.{manifest_of}
 use Rattle.seek_script.specs.Script.{seeks_of}
+use Rattle.utility_table.specs.Table.{utilities_of}
 use Rattle.lab_inputs.specs.declared.role.Role.{Role}
 use Rattle.lab_inputs.specs.declared.role.Role.TheVariants as role
-use Rattle.lab_inputs.specs.Contents.{ContentValues, trace_of, with_certificate, with_film, with_network, with_seeks}
+use Rattle.lab_inputs.specs.Contents.{ContentValues, trace_of, with_certificate, with_film, with_network, with_seeks, with_table}
 
 -- ---- the table
 
@@ -29,6 +30,11 @@ row_of role.Manifest = record {
   limit = 67108864;
   words = codes "manifest";
   adds = λ name v bytes. map_ok (with_film v) (manifest_of bytes);
+}
+row_of role.Utilities = record {
+  limit = 67108864;
+  words = codes "utilities";
+  adds = λ name v bytes. map_ok (with_table v) (utilities_of bytes (segments_of v.film) (rungs_of v.film));
 }
 row_of role.Trace = record {
   limit = 67108864;
@@ -81,7 +87,9 @@ optional_file role (Some name) = (role, name) ∷ []
 
 -- the files that come behind the manifest
 abbrev pub later_files : CommandWords → List NamedFile
-later_files c = trace_files c.verb c.traces ++ (optional_file role.Seeks c.seeks ++ optional_file role.Certificate c.certificate)
+later_files c =
+    optional_file role.Utilities c.table
+    ++ (trace_files c.verb c.traces ++ (optional_file role.Seeks c.seeks ++ optional_file role.Certificate c.certificate))
 
 -- the files of a command on a film, in the order of refusals
 abbrev pub film_files : CommandWords → List NamedFile
