@@ -18,6 +18,6 @@ returns g c =
     let kind = g.T.Rule.kind in
     record {
       sessions = IfOk-weaker c.play_on.result _ _
-      (λ joint are. subst (λ (i : JointCase). AreSessions i joint.sessions.items)
-      (scene_same kind c.args.m.now c.args.trace.now _ c.args.set.now c.args.rules.items c.on_demand-scene.result c.on_demand-scene.ensures.value c.in_ok-clock.ensures.clock) are) c.play_on.ensures;
+          (λ joint are. subst (λ (i : JointCase). AreSessions i joint.sessions.items)
+          (scene_same kind c.args.m.now c.args.trace.now _ c.args.set.now c.args.rules.items c.on_demand-scene.result c.on_demand-scene.ensures.value c.in_ok-clock.ensures.clock) are) c.play_on.ensures;
     }
