@@ -1,0 +1,10 @@
+pub mod Cells
+pub mod Carried
+pub mod Steps
+pub mod Greatest
+pub mod Chains
+pub mod Priced
+pub mod Along
+pub mod CellsAlong
+pub mod WindowsAlong
+pub mod Law

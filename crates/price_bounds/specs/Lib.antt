@@ -1,0 +1,9 @@
+pub mod Greatest
+pub mod Windows
+pub mod Cells
+pub mod ListPart
+pub mod LinkPart
+pub mod Bound
+pub mod Laws
+pub mod Steps
+pub mod Tables
