@@ -1,0 +1,31 @@
+//! The best list of a live session.
+
+ghost use Rattle.std.specs.Prelude.{◌≡◌, ◌≤◌};
+ghost use Rattle.lab_model.specs.Fit.{SetupFits};
+ghost use Rattle.player_core.specs.Scene.{task_of};
+ghost use Rattle.frontier_planner.specs.Planned.{PlanAnswer};
+
+use frontier_planner::{Grid, PlanErr, plan_from};
+use lab_model::{Manifest, Setup};
+use labels::Plan;
+use network_clock::Clock;
+use std::alloc::Global;
+
+/// The plan of a live session: the rung list of the greatest value for the live player, with its frontiers. They may have
+/// as many labels as the budget, 1 to 1000000: `BudgetSpent` names the first segment at whose end they have more.
+pub fn plan_live(
+    alloc: Global,
+    film: &Manifest,
+    clock: &Clock,
+    setup: &Setup,
+    ahead: u32,
+    budget: u32,
+) -> Result<Plan, PlanErr>
+    requires setup { SetupFits setup.now film.now }
+    requires ahead { ahead ≤ 120000000 }
+    requires budget { (1 ≤ budget) × (budget ≤ 1000000) }
+    ensures { PlanAnswer (task_of film.now clock.now setup.now ahead) budget result }
+{
+    let exact = Grid { time: 1, value: 1 };
+    Ok(plan_from(alloc, film, clock, setup, ahead, exact, budget)?.plan)
+}
