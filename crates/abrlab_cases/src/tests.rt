@@ -15,6 +15,7 @@ mod made;
 mod plan;
 mod rules;
 mod simulate;
+mod tables;
 mod usage;
 
 // A file: its name and what it holds.

@@ -56,9 +56,8 @@ certificate_read v name bytes files there fits =
 one_more : (c : CommandWords) (name : Text) → c.certificate ≡ Some name → later_files c ≡ later_files (without_certificate c) ++ (role.Certificate, name) ∷ []
 one_more c name e =
     let own : optional_file role.Certificate c.certificate ≡ (role.Certificate, name) ∷ [] = ap (optional_file role.Certificate) e in
-    ap (λ l. trace_files c.verb c.traces ++ (optional_file role.Seeks c.seeks ++ l)) own
-    ∙ sym (append_assoc (trace_files c.verb c.traces) (optional_file role.Seeks c.seeks) ((role.Certificate, name) ∷ []))
-    ∙ ap (λ l. (trace_files c.verb c.traces ++ l) ++ (role.Certificate, name) ∷ []) (sym (append-nil (optional_file role.Seeks c.seeks)))
+    ap (λ l. optional_file role.Utilities c.table ++ (trace_files c.verb c.traces ++ (optional_file role.Seeks c.seeks ++ l))) own
+    ∙ sym (simp (append_assoc, append-nil))
 
 mapped : (c : CommandWords) (files : Files) (v : ContentValues) → contents_of c files ≡ Ok v → inputs_of c files ≡ Ok (inputs_on c v)
 unfolding inputs_of

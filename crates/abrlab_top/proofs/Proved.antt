@@ -5,7 +5,7 @@ use Rattle.lab_io.specs.Sink.{Text, Grew}
 use Rattle.lab_model.specs.declared.setup.Setup.{Setup}
 use Rattle.lab_model.specs.declared.trace.Period.{Period}
 use Rattle.lab_model.specs.Cycle.{IsTrace}
-use Rattle.lab_model.specs.Film.{IsFilm}
+use Rattle.lab_model.specs.Film.{IsFilm, rungs_of}
 use Rattle.lab_model.specs.Rules.{RuleKind}
 use Rattle.lab_model.specs.Weighing.{IsWeighing}
 use Rattle.lab_words.specs.declared.Verb.{Verb}
@@ -16,11 +16,14 @@ use Rattle.lab_words.specs.Words.{command_of}
 use Rattle.lab_words.proofs.LimitLemmas.{command_within}
 use Rattle.lab_inputs.specs.declared.role.Role.TheVariants as role
 use Rattle.lab_inputs.specs.declared.stop.Stop.{Stop}
-use Rattle.lab_inputs.specs.Files.{◌>>=◌, Files, at_role, read_as}
+use Rattle.lab_model.specs.Steps.{◌>>=◌}
+use Rattle.lab_model.proofs.Steps.{then_ok}
+use Rattle.lab_inputs.specs.Files.{Files, at_role, read_as}
 use Rattle.lab_inputs.specs.Inputs.{InputValues, inputs_of}
 use Rattle.lab_inputs.specs.Settings.{ready_of, settled}
 use Rattle.lab_inputs.specs.Stages.{Tells}
-use Rattle.lab_inputs.proofs.Steps.{bind_ok, ok_same, read_ok, role_ok}
+use Rattle.lab_inputs.proofs.Steps.{ok_same, read_ok, role_ok}
+use Rattle.lab_inputs.proofs.Tables.{weights_are}
 use Rattle.lab_inputs.proofs.Within.{IsReady, inputs_counted, is_ready, settled_fits}
 use Rattle.labels.specs.Frontier.{frontier}
 use Rattle.player_core.specs.Scene.{IsTask, Task}
@@ -88,7 +91,7 @@ stopped_ok (Err why) x e = cc
 -- a command on a film that answered, by what it read
 pub about_ok : (after : InputValues → Outcome) (c : CommandWords) (files : Files) (a : Answer) → about after c files ≡ Ok a → (i : InputValues) × (inputs_of c files ≡ Ok i) × (after i ≡ Ok a)
 unfolding about
-about_ok after c files a h = let x = bind_ok (unless_stopped (inputs_of c files)) after a h in (x.0, stopped_ok (inputs_of c files) x.0 x.1, x.2)
+about_ok after c files a h = let x = then_ok (unless_stopped (inputs_of c files)) after a h in (x.0, stopped_ok (inputs_of c files) x.0 x.1, x.2)
 
 -- settings that no stop came before fit
 pub settled_ok : (i j : InputValues) → unless_stopped (settled i) ≡ Ok j → (settled i ≡ Ok i) × (i ≡ j)
@@ -118,7 +121,7 @@ unfolding simulate
 simulated_ok i n rule a e h k =
     let named = ap (λ ns. simulate_on i (slice_get ns 0) (slice_get i.rules 0)) e ∙ ap (λ rs. simulate_on i (Some n) (slice_get rs 0)) h in
     let whole : (unless_stopped (settled i) >>= λ ready. Ok (printed (session_on ready n.1 rule.1))) ≡ Ok a = sym named ∙ k in
-    let x = bind_ok (unless_stopped (settled i)) (λ ready. Ok (printed (session_on ready n.1 rule.1))) a whole in
+    let x = then_ok (unless_stopped (settled i)) (λ ready. Ok (printed (session_on ready n.1 rule.1))) a whole in
     let s = settled_ok i x.0 x.1 in
     (s.0, ap (λ (j : InputValues). printed (session_on j n.1 rule.1)) s.1 ∙ ok_same _ _ a refl x.2)
 
@@ -154,7 +157,8 @@ is_task c files i n limits film r one = record {
   film = subst IsFilm (sym (ap (λ (j : InputValues). j.film) r.inputs)) r.within.film;
   trace = first_trace r.contents.networks n (sym (ap (λ (j : InputValues). j.networks) r.inputs) ∙ one) r.within.networks;
   setup = r.fits.setup;
-  weights = subst (λ (s : Setup). IsWeighing s.weights) (sym (ap (λ (j : InputValues). j.setup) r.inputs)) (limits.weights film);
+  weights = subst (λ (s : Setup). IsWeighing s.weights) (sym (ap (λ (j : InputValues). j.setup) r.inputs))
+  (weights_are c.table c.utilities r.contents.table (rungs_of r.contents.film) c.switch c.stall c.startup (limits.weights film) r.within.table);
   ahead = omega arith;
 }
 
@@ -170,7 +174,7 @@ pub planned_ok : (budget : ℕ) (as_certificate : Bool) (i : InputValues) (n : T
 unfolding plan
 planned_ok budget as_certificate i n a e k =
     let whole : (unless_stopped (settled i) >>= λ ready. unless_spent as_certificate (task_on ready n.1) (spent_on (task_on ready n.1) budget)) ≡ Ok a = sym (ap (λ ns. plan_on budget as_certificate i (slice_get ns 0)) e) ∙ k in
-    let x = bind_ok (unless_stopped (settled i)) (λ ready. unless_spent as_certificate (task_on ready n.1) (spent_on (task_on ready n.1) budget)) a whole in
+    let x = then_ok (unless_stopped (settled i)) (λ ready. unless_spent as_certificate (task_on ready n.1) (spent_on (task_on ready n.1) budget)) a whole in
     let s = settled_ok i x.0 x.1 in
     let u = unspent as_certificate (task_on i n.1) (spent_on (task_on i n.1) budget) a (subst (λ (j : InputValues). unless_spent as_certificate (task_on j n.1) (spent_on (task_on j n.1) budget) ≡ Ok a) (sym s.1) x.2) in
     (s.0, u.0, u.1)
@@ -229,8 +233,8 @@ checked_ok : (i : InputValues) (n : Text × List Period) (a : Answer) → i.netw
 unfolding check
 checked_ok i n a e k =
     let whole : (unless_stopped (certificate_in i.certificate) >>= λ cert. unless_stopped (settled i) >>= λ ready. Ok (told_verdict cert.score (verdict_of (task_on ready n.1) cert cert.score))) ≡ Ok a = sym (ap (λ ns. check_on i (slice_get ns 0)) e) ∙ k in
-    let y = bind_ok (unless_stopped (certificate_in i.certificate)) (λ cert. unless_stopped (settled i) >>= λ ready. Ok (told_verdict cert.score (verdict_of (task_on ready n.1) cert cert.score))) a whole in
-    let z = bind_ok (unless_stopped (settled i)) (λ ready. Ok (told_verdict y.0.score (verdict_of (task_on ready n.1) y.0 y.0.score))) a y.2 in
+    let y = then_ok (unless_stopped (certificate_in i.certificate)) (λ cert. unless_stopped (settled i) >>= λ ready. Ok (told_verdict cert.score (verdict_of (task_on ready n.1) cert cert.score))) a whole in
+    let z = then_ok (unless_stopped (settled i)) (λ ready. Ok (told_verdict y.0.score (verdict_of (task_on ready n.1) y.0 y.0.score))) a y.2 in
     let s = settled_ok i z.0 z.1 in
     let spelled = read_ok (certificate_of i.certificate) y.0 (role_ok role.Certificate (read_as (certificate_of i.certificate)) y.0 (stopped_ok (certificate_in i.certificate) y.0 y.1)) in
     (y.0, spelled, s.0, ap (λ (j : InputValues). told_verdict y.0.score (verdict_of (task_on j n.1) y.0 y.0.score)) s.1 ∙ ok_same _ _ a refl z.2)

@@ -15,7 +15,7 @@ use Rattle.lab_inputs.specs.declared.stop.Stop.{Stop}
 use Rattle.lab_inputs.specs.declared.stop.Stop.TheVariants as stop
 use Rattle.lab_inputs.specs.Files.{AreAccepted, Files}
 use Rattle.lab_inputs.specs.Inputs.{InputValues, contents_of, inputs_of, inputs_on}
-use Rattle.lab_inputs.specs.Roles.{NamedFile, later_files, result_map}
+use Rattle.lab_inputs.specs.Roles.{NamedFile, later_files}
 use Rattle.lab_inputs.specs.Stages.{Asks, AsksFor, AsksSome, AsksUpTo, StopsAt, Tells}
 use Rattle.lab_inputs.proofs.Files.{asks_all, asks_none}
 use Rattle.lab_inputs.proofs.Steps.{lacking, named_film, on_film, stops_some}

@@ -18,7 +18,8 @@ use Rattle.lab_inputs.specs.declared.stop.Halt.TheVariants as halt
 use Rattle.lab_inputs.specs.declared.stop.Setting.{Setting}
 use Rattle.lab_inputs.specs.declared.stop.Stop.{Stop}
 use Rattle.lab_inputs.specs.declared.stop.Stop.TheVariants as stop
-use Rattle.lab_inputs.specs.Files.{◌>>=◌, Files}
+use Rattle.lab_model.specs.Steps.{◌>>=◌}
+use Rattle.lab_inputs.specs.Files.{Files}
 use Rattle.lab_inputs.specs.Inputs.{InputValues, inputs_of}
 use Rattle.lab_inputs.specs.Roles.{NamedFile, film_files, files_by, files_of, optional_file, trace_files}
 use Rattle.lab_inputs.specs.Settings.{Fits, misfit, settled, unless_misfit}
@@ -127,9 +128,9 @@ certificate_last c some = by_name c.certificate refl some
     by_name : (o : Option Text) → c.certificate ≡ o → IsSome o → (before : List NamedFile) × (name : Text) × (film_files c ≡ before ++ (role.Certificate, name) ∷ [])
     by_name None e h = cc
     by_name (Some name) e h = (
-      (role.Manifest, c.manifest) ∷ (trace_files c.verb c.traces ++ optional_file role.Seeks c.seeks),
+      (role.Manifest, c.manifest) ∷ (optional_file role.Utilities c.table ++ (trace_files c.verb c.traces ++ optional_file role.Seeks c.seeks)),
       name,
-      rw e (ap (λ l. (role.Manifest, c.manifest) ∷ l) (sym (append_assoc (trace_files c.verb c.traces) (optional_file role.Seeks c.seeks) ((role.Certificate, name) ∷ [])))),
+      rw e (ap (λ l. (role.Manifest, c.manifest) ∷ l) (sym (simp append_assoc))),
     )
 
 late_asked : (checks : Bool) (c : CommandWords) (why : Stop) (old new : Shelved) → IsLate checks why → (checks ≡ true → IsSome c.certificate) → Asks (film_files c) old new → AsksFor (film_files c) why old new

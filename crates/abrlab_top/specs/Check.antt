@@ -7,7 +7,8 @@ use Rattle.lab_io.specs.Sink.{Text}
 use Rattle.lab_model.specs.declared.trace.Period.{Period}
 use Rattle.lab_inputs.specs.declared.role.Role.TheVariants as role
 use Rattle.lab_inputs.specs.declared.stop.Stop.{Stop}
-use Rattle.lab_inputs.specs.Files.{◌>>=◌, at_role, read_as}
+use Rattle.lab_model.specs.Steps.{◌>>=◌}
+use Rattle.lab_inputs.specs.Files.{at_role, read_as}
 use Rattle.lab_inputs.specs.Inputs.{InputValues}
 use Rattle.lab_inputs.specs.Settings.{settled}
 use Rattle.labels.specs.Parts.{CertificateParts}

@@ -5,7 +5,8 @@ use Rattle.lab_words.specs.declared.Verb.{Verb}
 use Rattle.lab_words.specs.declared.Verb.TheVariants as verb
 use Rattle.lab_words.specs.Command.{CommandWords}
 use Rattle.lab_words.specs.Words.{command_of}
-use Rattle.lab_inputs.specs.Files.{◌>>=◌, Files}
+use Rattle.lab_model.specs.Steps.{◌>>=◌}
+use Rattle.lab_inputs.specs.Files.{Files}
 use Rattle.lab_inputs.specs.Inputs.{InputValues, inputs_of}
 use Rattle.lab_inputs.specs.Roles.{NamedFile, files_of}
 use Rattle.abrlab_top.specs.declared.ending.Ending.TheVariants as ending

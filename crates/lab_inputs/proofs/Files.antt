@@ -9,11 +9,12 @@ use Rattle.lab_model.specs.declared.fault.Refusal.{Refusal}
 use Rattle.lab_model.specs.declared.fault.InputFault.{InputFault}
 use Rattle.lab_model.specs.declared.fault.InputFault.TheVariants.{Memory, Refused}
 use Rattle.lab_model.specs.Reading.{Fails}
+use Rattle.lab_model.specs.Steps.{◌>>=◌}
 use Rattle.lab_inputs.specs.declared.fetch.FileErr.{FileErr}
 use Rattle.lab_inputs.specs.declared.fetch.FileErr.TheVariants as err
 use Rattle.lab_inputs.specs.declared.stop.FileFault.{FileFault}
 use Rattle.lab_inputs.specs.declared.stop.FileFault.TheVariants as fault
-use Rattle.lab_inputs.specs.Files.{◌>>=◌, Files, bytes_of, file_in}
+use Rattle.lab_inputs.specs.Files.{Files, bytes_of, file_in}
 use Rattle.lab_inputs.specs.Roles.{NamedFile, row_of}
 use Rattle.lab_inputs.specs.Stages.{Asks, AsksSome, Reads, err_of}
 

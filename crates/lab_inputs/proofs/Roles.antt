@@ -7,7 +7,9 @@ use Rattle.std.proofs.lemmas.List.Sums.{sum_by-append, sum_by-cons}
 use Rattle.lab_io.specs.Sink.{Text}
 use Rattle.lab_model.specs.declared.trace.Period.{Period}
 use Rattle.lab_model.specs.Cycle.{IsTrace}
-use Rattle.lab_model.specs.Film.{IsFilm, segments_of}
+use Rattle.lab_model.specs.Film.{IsFilm, rungs_of, segments_of}
+use Rattle.lab_model.specs.Steps.{map_ok}
+use Rattle.lab_model.proofs.Steps.{map_ok-ok}
 use Rattle.lab_words.specs.declared.Verb.{Verb}
 use Rattle.lab_words.specs.declared.Verb.TheVariants as verb
 use Rattle.lab_words.specs.Command.{CommandWords}
@@ -19,43 +21,53 @@ use Rattle.trace_reader.specs.TraceCsv.{trace_csv_of}
 use Rattle.trace_reader.proofs.Accepted.{trace_csv-limits, trace_json-limits}
 use Rattle.lab_inputs.specs.declared.role.Role.{Role}
 use Rattle.lab_inputs.specs.declared.role.Role.TheVariants as role
-use Rattle.lab_inputs.specs.Contents.{ContentValues, is_csv, trace_of, with_certificate, with_film, with_network, with_seeks}
-use Rattle.lab_inputs.specs.Roles.{NamedFile, later_files, optional_file, result_map, row_of, trace_files, trace_role, traces_from}
-use Rattle.lab_inputs.proofs.Steps.{map_ok, ok_same}
+use Rattle.utility_table.specs.Table.{utilities_of}
+use Rattle.utility_table.proofs.Limits.{utilities-fit}
+use Rattle.lab_inputs.specs.Contents.{ContentValues, IsTable, is_csv, trace_of, with_certificate, with_film, with_network, with_seeks, with_table}
+use Rattle.lab_inputs.specs.Roles.{NamedFile, later_files, optional_file, row_of, trace_files, trace_role, traces_from}
+use Rattle.lab_inputs.proofs.Steps.{ok_same}
+use Rattle.lab_inputs.proofs.Tables.{no_table_is, table_is}
 
--- the film and the networks keep their limits
+-- the film, the table and the networks keep their limits
 pub record AreWithin (v : ContentValues) : Type 0 where
   pub film : IsFilm v.film
+  pub table : IsTable v.film v.table
   pub networks : All (λ (n : Text × List Period). IsTrace n.1) v.networks
 
 by_format : (csv : Bool) (bytes : Text) (ps : List Period) → (if csv then trace_csv_of bytes else trace_json bytes) ≡ Ok ps → IsTrace ps
 by_format true bytes ps h = trace_csv-limits bytes ps h
 by_format false bytes ps h = trace_json-limits bytes ps h
 
-network_within : (name bytes : Text) (v w : ContentValues) → result_map (with_network name v) (trace_of name bytes) ≡ Ok w → AreWithin v → AreWithin w
+network_within : (name bytes : Text) (v w : ContentValues) → map_ok (with_network name v) (trace_of name bytes) ≡ Ok w → AreWithin v → AreWithin w
 network_within name bytes v w h k =
-    let x = map_ok (with_network name v) (trace_of name bytes) w h in
-    let limits = by_format (is_csv name) bytes x.0 x.2 in
-    subst AreWithin (sym x.1) (record { film = k.film; networks = All-push (λ (n : Text × List Period). IsTrace n.1) v.networks (name, x.0) k.networks limits })
+    let x = map_ok-ok (with_network name v) (trace_of name bytes) w h in
+    let limits = by_format (is_csv name) bytes x.0 x.1 in
+    subst AreWithin x.2 (record { film = k.film; table = k.table; networks = All-push (λ (n : Text × List Period). IsTrace n.1) v.networks (name, x.0) k.networks limits })
 
 -- what one file more adds keeps the limits
 pub adds_within : (r : Role) (name bytes : Text) (v w : ContentValues) → (row_of r).adds name v bytes ≡ Ok w → AreWithin v → AreWithin w
 adds_within role.Manifest name bytes v w h k =
-    let x = map_ok (with_film v) (manifest_of bytes) w h in
-    subst AreWithin (sym x.1) (record { film = manifest-limits bytes x.0 x.2; networks = k.networks })
+    let x = map_ok-ok (with_film v) (manifest_of bytes) w h in
+    let film = manifest-limits bytes x.0 x.1 in
+    subst AreWithin x.2 (record { film = film; table = no_table_is x.0 film; networks = k.networks })
+adds_within role.Utilities name bytes v w h k =
+    let x = map_ok-ok (with_table v) (utilities_of bytes (segments_of v.film) (rungs_of v.film)) w h in
+    let fit = utilities-fit bytes (segments_of v.film) (rungs_of v.film) x.0 k.film.rungs k.film.segments x.1 in
+    subst AreWithin x.2 (record { film = k.film; table = table_is v.film x.0 k.film fit; networks = k.networks })
 adds_within role.Trace name bytes v w h k = network_within name bytes v w h k
 adds_within (role.TraceAt place) name bytes v w h k = network_within name bytes v w h k
 adds_within role.Seeks name bytes v w h k =
-    let x = map_ok (with_seeks v) (seeks_of bytes (segments_of v.film)) w h in
-    subst AreWithin (sym x.1) (record { film = k.film; networks = k.networks })
+    let x = map_ok-ok (with_seeks v) (seeks_of bytes (segments_of v.film)) w h in
+    subst AreWithin x.2 (record { film = k.film; table = k.table; networks = k.networks })
 adds_within role.Certificate name bytes v w h k =
-    subst AreWithin (ok_same _ (with_certificate v bytes) w refl h) (record { film = k.film; networks = k.networks })
+    subst AreWithin (ok_same _ (with_certificate v bytes) w refl h) (record { film = k.film; table = k.table; networks = k.networks })
 
 -- ---- how many networks there are
 
 -- how many networks a file of this role is
 pub networks_in : Role → ℕ
 networks_in role.Manifest = 0
+networks_in role.Utilities = 0
 networks_in role.Trace = 1
 networks_in (role.TraceAt place) = 1
 networks_in role.Seeks = 0
@@ -71,14 +83,15 @@ count_kept v w e = let k = ap length e in omega (arith, k)
 -- one file more adds as many networks as its role says
 pub adds_count : (r : Role) (name bytes : Text) (v w : ContentValues) → (row_of r).adds name v bytes ≡ Ok w → length w.networks ≡ length v.networks + networks_in r
 unfolding networks_in
-adds_count role.Manifest name bytes v w h = let x = map_ok (with_film v) (manifest_of bytes) w h in count_kept v w (ap (λ (u : ContentValues). u.networks) x.1)
+adds_count role.Manifest name bytes v w h = let x = map_ok-ok (with_film v) (manifest_of bytes) w h in count_kept v w (sym (ap (λ (u : ContentValues). u.networks) x.2))
+adds_count role.Utilities name bytes v w h = let x = map_ok-ok (with_table v) (utilities_of bytes (segments_of v.film) (rungs_of v.film)) w h in count_kept v w (sym (ap (λ (u : ContentValues). u.networks) x.2))
 adds_count role.Trace name bytes v w h =
-    let x = map_ok (with_network name v) (trace_of name bytes) w h in
-    ap (λ (u : ContentValues). length u.networks) x.1 ∙ length-append v.networks ((name, x.0) ∷ [])
+    let x = map_ok-ok (with_network name v) (trace_of name bytes) w h in
+    sym (ap (λ (u : ContentValues). length u.networks) x.2) ∙ length-append v.networks ((name, x.0) ∷ [])
 adds_count (role.TraceAt place) name bytes v w h =
-    let x = map_ok (with_network name v) (trace_of name bytes) w h in
-    ap (λ (u : ContentValues). length u.networks) x.1 ∙ length-append v.networks ((name, x.0) ∷ [])
-adds_count role.Seeks name bytes v w h = let x = map_ok (with_seeks v) (seeks_of bytes (segments_of v.film)) w h in count_kept v w (ap (λ (u : ContentValues). u.networks) x.1)
+    let x = map_ok-ok (with_network name v) (trace_of name bytes) w h in
+    sym (ap (λ (u : ContentValues). length u.networks) x.2) ∙ length-append v.networks ((name, x.0) ∷ [])
+adds_count role.Seeks name bytes v w h = let x = map_ok-ok (with_seeks v) (seeks_of bytes (segments_of v.film)) w h in count_kept v w (sym (ap (λ (u : ContentValues). u.networks) x.2))
 adds_count role.Certificate name bytes v w h = count_kept v w (sym (ap (λ (u : ContentValues). u.networks) (ok_same _ (with_certificate v bytes) w refl h)))
 
 one_network : (v : Verb) (place : ℕ) → networks_in (trace_role v place) ≡ 1
@@ -114,11 +127,18 @@ no_networks None (Some name) = refl
 no_networks (Some name) None = refl
 no_networks (Some name) (Some other) = refl
 
+no_table_networks : (table : Option Text) → networks_among (optional_file role.Utilities table) ≡ 0
+unfolding networks_among networks_in
+no_table_networks None = refl
+no_table_networks (Some name) = refl
+
 -- the networks among the files of a command are those that the words name
 pub networks_named : (c : CommandWords) → networks_among (later_files c) ≡ length c.traces
 unfolding networks_among
 networks_named c =
+    let first = sum_by-append (λ (file : NamedFile). networks_in file.0) (optional_file role.Utilities c.table) (trace_files c.verb c.traces ++ (optional_file role.Seeks c.seeks ++ optional_file role.Certificate c.certificate)) in
     let e = sum_by-append (λ (file : NamedFile). networks_in file.0) (trace_files c.verb c.traces) (optional_file role.Seeks c.seeks ++ optional_file role.Certificate c.certificate) in
+    let table = no_table_networks c.table in
     let some = all_networks c.verb 1 c.traces in
     let none = no_networks c.seeks c.certificate in
-    omega (arith, e, some, none)
+    omega (arith, first, e, table, some, none)

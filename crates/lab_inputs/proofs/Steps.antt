@@ -11,6 +11,7 @@ use Rattle.std.proofs.lemmas.Option.{slice_get-map}
 use Rattle.std.proofs.lemmas.Result.{err_from_is_err_and}
 use Rattle.lab_model.specs.declared.fault.Refusal.{Refusal}
 use Rattle.lab_model.specs.Film.{Film}
+use Rattle.lab_model.specs.Steps.{◌>>=◌, map_ok}
 use Rattle.lab_io.specs.Sink.{Text, Rose}
 use Rattle.lab_io.specs.Shelf.{Shelved}
 use Rattle.lab_words.specs.declared.Verb.{Verb}
@@ -29,8 +30,8 @@ use Rattle.lab_inputs.specs.declared.stop.Stop.TheVariants as stop
 use Rattle.lab_inputs.specs.declared.stop.Halt.{Halt}
 use Rattle.lab_inputs.specs.declared.stop.Halt.TheVariants as halt
 use Rattle.lab_inputs.specs.Contents.{ContentValues, film_alone}
-use Rattle.lab_inputs.specs.Files.{◌>>=◌, AreAccepted, Files, at_role, bytes_of, contents_from, film_in, read_as, request_of, with_file, with_files}
-use Rattle.lab_inputs.specs.Roles.{NamedFile, files_by, files_of, film_files, result_map, row_of, trace_files, trace_role, traces_from}
+use Rattle.lab_inputs.specs.Files.{AreAccepted, Files, at_role, bytes_of, contents_from, film_in, read_as, request_of, with_file, with_files}
+use Rattle.lab_inputs.specs.Roles.{NamedFile, files_by, files_of, film_files, row_of, trace_files, trace_role, traces_from}
 use Rattle.lab_inputs.specs.Stages.{Asks, AsksFor, AsksSome, AsksUpTo, Comes, Reads, Tells, file_of, halt_of}
 use Rattle.lab_inputs.proofs.Files.{asks_all, asks_none}
 
@@ -138,6 +139,14 @@ film_halts seen manifest later old new r e h same k x =
     let xx : Reads (role.Manifest, manifest) (λ (film : Film). film) (film_in manifest) old (Err e) new = rw same at x in
     rw k (halts [] later (role.Manifest, manifest) (λ film. film) seen (film_in manifest) (contents_from manifest later) old old new e (asks_none old) (λ files t. tt) (λ files why t f. film_stopped manifest later why files f) xx)
 
+-- memory was wanting once the film was there
+pub film_wanting : {X : Type 0} (seen : X → ContentValues) (manifest : Text) (later : List NamedFile) (old new : Shelved) (q : Result X Halt) → IsErrAnd q (λ y. y ≡ halt.NoMemory) → Asks ((role.Manifest, manifest) ∷ []) old new
+    → Comes ((role.Manifest, manifest) ∷ later) seen (contents_from manifest later) old q new
+film_wanting seen manifest later old new q k a =
+    let p = err_from_is_err_and q k in
+    let some : AsksSome ((role.Manifest, manifest) ∷ later) old new = record { asked = (role.Manifest, manifest) ∷ []; later = later; split = refl; asks = a } in
+    rw (p.1 ∙ ap Err p.2) some
+
 -- a later file gives no value
 pub later_halts : {X Z : Type 0} (seen : X → ContentValues) (seen2 : Z → ContentValues) (manifest : Text) (later before after : List NamedFile) (file : NamedFile) (v : ContentValues) (old mid new : Shelved) (r : Result X FileErr) (e : FileErr) (h : Halt)
     → later ≡ before ++ file ∷ after → r ≡ Err e → h ≡ halt_of file.0 e → Asks ((role.Manifest, manifest) ∷ before) old mid → ((files : Files) → Tells old files → contents_from manifest before files ≡ Ok v)
@@ -233,20 +242,10 @@ stops_some named old new (stop.File role fault.TooLong) x = up_to_some named rol
 stops_some named old new (stop.File role (fault.Refused why)) x = up_to_some named role old new x
 stops_some named old new (stop.Settings setting) x = asks_all named old new x
 
--- what a value adds comes of a value
-pub map_ok : {A B E : Type 0} (f : A → B) (o : Result A E) (y : B) → result_map f o ≡ Ok y → (x : A) × (y ≡ f x) × (o ≡ Ok x)
-map_ok f (Ok x) y e = (x, ok_same _ y (f x) e refl, refl)
-map_ok f (Err why) y e = cc
-
 -- what a reader accepts, it makes
 pub read_ok : {A : Type 0} (o : Result A Refusal) (x : A) → read_as o ≡ Ok x → o ≡ Ok x
 read_ok (Ok y) x e = let k : y ≡ x = ok_same _ y x refl e in ap Ok k
 read_ok (Err why) x e = cc
-
--- a chain that went well went well so far
-pub bind_ok : {A B E : Type 0} (o : Result A E) (f : A → Result B E) (y : B) → (o >>= f) ≡ Ok y → (x : A) × (o ≡ Ok x) × (f x ≡ Ok y)
-bind_ok (Ok x) f y e = (x, refl, e)
-bind_ok (Err why) f y e = cc
 
 -- what no fault stops went well
 pub role_ok : {A : Type 0} (role : Role) (o : Result A FileFault) (x : A) → at_role role o ≡ Ok x → o ≡ Ok x
@@ -255,7 +254,7 @@ role_ok role (Err why) x e = cc
 
 -- what ends a stage ends what its value would have added to
 halt_mapped : {X Y Z W : Type 0} (named : List NamedFile) (seen : X → Y) (seen2 : Z → W) (f : Y → W) (meant : Files → Result Y Stop) (old new : Shelved) (h : Halt)
-    → Comes named seen meant old (Err h) new → Comes named seen2 (λ files. result_map f (meant files)) old (Err h) new
+    → Comes named seen meant old (Err h) new → Comes named seen2 (λ files. map_ok f (meant files)) old (Err h) new
 halt_mapped named seen seen2 f meant old new halt.NoMemory x = x
 halt_mapped named seen seen2 f meant old new (halt.Stopped (stop.File role fault.NotRead)) x = (x.0, λ files t. tt)
 halt_mapped named seen seen2 f meant old new (halt.Stopped (stop.File role fault.TooLong)) x = (x.0, λ files t. rw (x.1 files t) refl)
@@ -264,7 +263,7 @@ halt_mapped named seen seen2 f meant old new (halt.Stopped (stop.Settings settin
 
 -- the same at the exit of a `?`
 pub mapped_failed : {X Y Z W : Type 0} (named : List NamedFile) (seen : X → Y) (seen2 : Z → W) (f : Y → W) (meant : Files → Result Y Stop) (old new : Shelved) (r : Result X Halt) (q : Result Z Halt) (h : Halt)
-    → r ≡ Err h → IsErrAnd q (λ y. y ≡ h) → Comes named seen meant old r new → Comes named seen2 (λ files. result_map f (meant files)) old q new
+    → r ≡ Err h → IsErrAnd q (λ y. y ≡ h) → Comes named seen meant old r new → Comes named seen2 (λ files. map_ok f (meant files)) old q new
 mapped_failed named seen seen2 f meant old new r q h e k x =
     let p = err_from_is_err_and q k in
     let xx : Comes named seen meant old (Err h) new = rw e at x in
@@ -272,7 +271,7 @@ mapped_failed named seen seen2 f meant old new r q h e k x =
 
 -- a stage that went well, with what its value adds to
 pub mapped_ok : {X Y Z W : Type 0} (named : List NamedFile) (seen : X → Y) (seen2 : Z → W) (f : Y → W) (meant : Files → Result Y Stop) (old new : Shelved) (r : Result X Halt) (x : X) (z : Z)
-    → r ≡ Ok x → seen2 z ≡ f (seen x) → Comes named seen meant old r new → Comes named seen2 (λ files. result_map f (meant files)) old (Ok z) new
+    → r ≡ Ok x → seen2 z ≡ f (seen x) → Comes named seen meant old r new → Comes named seen2 (λ files. map_ok f (meant files)) old (Ok z) new
 mapped_ok named seen seen2 f meant old new r x z e k h =
     let c : Comes named seen meant old (Ok x) new = rw e at h in
     (c.0, λ files t. rw (c.1 files t, k) refl)

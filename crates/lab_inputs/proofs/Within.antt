@@ -3,25 +3,28 @@
 use Rattle.std.proofs.Common.{◌≡◌, ◌∙◌, ℕ, ◌+◌, ◌∷◌, [], List, Option, Some, None, Ok, length, ap, sym, refl, subst, arith}
 use Rattle.lab_io.specs.Sink.{Text}
 use Rattle.lab_model.specs.Film.{Film}
+use Rattle.lab_model.specs.Steps.{◌>>=◌}
+use Rattle.lab_model.proofs.Steps.{map_ok-ok, then_ok}
 use Rattle.lab_words.specs.Command.{CommandWords}
 use Rattle.manifest_reader.specs.Manifest.{manifest_of}
 use Rattle.manifest_reader.proofs.Accepted.{manifest-limits}
 use Rattle.lab_inputs.specs.declared.role.Role.TheVariants as role
 use Rattle.lab_inputs.specs.declared.stop.Setting.{Setting}
 use Rattle.lab_inputs.specs.Contents.{ContentValues, film_alone}
-use Rattle.lab_inputs.specs.Files.{◌>>=◌, Files, at_role, bytes_of, contents_from, film_in, read_as, with_file, with_files}
+use Rattle.lab_inputs.specs.Files.{Files, at_role, bytes_of, contents_from, film_in, read_as, with_file, with_files}
 use Rattle.lab_inputs.specs.Inputs.{InputValues, contents_of, inputs_of, inputs_on}
-use Rattle.lab_inputs.specs.Roles.{NamedFile, later_files, result_map, row_of}
+use Rattle.lab_inputs.specs.Roles.{NamedFile, later_files, row_of}
 use Rattle.lab_inputs.specs.Settings.{Fits, misfit, ready_of, settled, unless_misfit}
 use Rattle.lab_inputs.proofs.Fits.{all_fits}
 use Rattle.lab_inputs.proofs.Roles.{AreWithin, adds_count, adds_within, among_cons, among_none, networks_among, networks_named}
-use Rattle.lab_inputs.proofs.Steps.{bind_ok, map_ok, ok_same, read_ok, role_ok}
+use Rattle.lab_inputs.proofs.Steps.{ok_same, read_ok, role_ok}
+use Rattle.lab_inputs.proofs.Tables.{no_table_is}
 
 -- the bytes of a file that adds something, and what they add
 added : (file : NamedFile) (files : Files) (v w : ContentValues) → with_file v file files ≡ Ok w → (bytes : Text) × ((row_of file.0).adds file.1 v bytes ≡ Ok w)
 unfolding with_file
 added file files v w h =
-    let x = bind_ok (bytes_of file.0 (files file.1)) (λ bytes. read_as ((row_of file.0).adds file.1 v bytes)) w h in
+    let x = then_ok (bytes_of file.0 (files file.1)) (λ bytes. read_as ((row_of file.0).adds file.1 v bytes)) w h in
     (x.0, read_ok ((row_of file.0).adds file.1 v x.0) w x.2)
 
 files_within : (later : List NamedFile) (files : Files) (v w : ContentValues) → with_files v later files ≡ Ok w → AreWithin v → AreWithin w × (length w.networks ≡ length v.networks + networks_among later)
@@ -31,7 +34,7 @@ files_within [] files v w h k =
     let none = among_none in
     (subst AreWithin same k, omega (arith, count, none))
 files_within (file ∷ later) files v w h k =
-    let x = bind_ok (at_role file.0 (with_file v file files)) (λ more. with_files more later files) w h in
+    let x = then_ok (at_role file.0 (with_file v file files)) (λ more. with_files more later files) w h in
     let y = added file files v x.0 (role_ok file.0 (with_file v file files) x.0 x.1) in
     let one = adds_count file.0 file.1 y.0 v x.0 y.1 in
     let rest = files_within later files x.0 w x.2 (adds_within file.0 file.1 y.0 v x.0 y.1 k) in
@@ -42,13 +45,14 @@ files_within (file ∷ later) files v w h k =
 film_within : (manifest : Text) (files : Files) (film : Film) → film_in manifest files ≡ Ok film → AreWithin (film_alone film)
 unfolding film_in
 film_within manifest files film h =
-    let x = bind_ok (bytes_of role.Manifest (files manifest)) (λ bytes. read_as (manifest_of bytes)) film h in
-    record { film = manifest-limits x.0 film (read_ok (manifest_of x.0) film x.2); networks = λ k d low. absurd (omega arith) }
+    let x = then_ok (bytes_of role.Manifest (files manifest)) (λ bytes. read_as (manifest_of bytes)) film h in
+    let is = manifest-limits x.0 film (read_ok (manifest_of x.0) film x.2) in
+    record { film = is; table = no_table_is film is; networks = λ k d low. absurd (omega arith) }
 
 from_within : (manifest : Text) (later : List NamedFile) (files : Files) (v : ContentValues) → contents_from manifest later files ≡ Ok v → AreWithin v × (length v.networks ≡ networks_among later)
 unfolding contents_from
 from_within manifest later files v h =
-    let x = bind_ok (at_role role.Manifest (film_in manifest files)) (λ film. with_files (film_alone film) later files) v h in
+    let x = then_ok (at_role role.Manifest (film_in manifest files)) (λ film. with_files (film_alone film) later files) v h in
     let y = files_within later files (film_alone x.0) v x.2 (film_within manifest files x.0 (role_ok role.Manifest (film_in manifest files) x.0 x.1)) in
     let count = y.1 in
     (y.0, omega (arith, count))
@@ -56,7 +60,7 @@ from_within manifest later files v h =
 -- what a command is about, from what its files hold
 pub inputs_held : (c : CommandWords) (files : Files) (i : InputValues) → inputs_of c files ≡ Ok i → (v : ContentValues) × (i ≡ inputs_on c v) × (contents_of c files ≡ Ok v)
 unfolding inputs_of
-inputs_held c files i h = map_ok (inputs_on c) (contents_of c files) i h
+inputs_held c files i h = let x = map_ok-ok (inputs_on c) (contents_of c files) i h in (x.0, sym x.2, x.1)
 
 unless_none : (i j : InputValues) (o : Option Setting) → unless_misfit i o ≡ Ok j → (i ≡ j) × (o ≡ None)
 unless_none i j None h = (ok_same _ i j refl h, refl)
@@ -106,6 +110,6 @@ is_ready c files i j h k =
 pub ready_is : (c : CommandWords) (files : Files) (i : InputValues) → ready_of c files ≡ Ok i → IsReady c files i
 unfolding ready_of
 ready_is c files i h =
-    let x = bind_ok (inputs_of c files) settled i h in
+    let x = then_ok (inputs_of c files) settled i h in
     let same = (settled_fits x.0 i x.2).0 in
     subst (IsReady c files) same (is_ready c files x.0 i x.1 x.2)

@@ -3,6 +3,7 @@ use Rattle.std.specs.Prelude.{ℕ, ◌+◌, List, [], ◌∷◌, length, Option,
 use Rattle.lab_io.specs.Sink.{Text}
 use Rattle.lab_model.specs.declared.fault.Refusal.{Refusal}
 use Rattle.lab_model.specs.Film.{Film}
+use Rattle.lab_model.specs.Steps.{◌>>=◌}
 use Rattle.manifest_reader.specs.Manifest.{manifest_of}
 use Rattle.lab_inputs.specs.declared.role.Role.{Role}
 use Rattle.lab_inputs.specs.declared.role.Role.TheVariants as role
@@ -12,12 +13,6 @@ use Rattle.lab_inputs.specs.declared.stop.Stop.{Stop}
 use Rattle.lab_inputs.specs.declared.stop.Stop.TheVariants as stop
 use Rattle.lab_inputs.specs.Contents.{ContentValues, film_alone}
 use Rattle.lab_inputs.specs.Roles.{NamedFile, row_of}
-
-infixl 10 ◌>>=◌
--- the first that is refused refuses the whole
-abbrev pub ◌>>=◌ : {A B E : Type 0} → Result A E → (A → Result B E) → Result B E
-(Ok x) >>= f = f x
-(Err e) >>= f = Err e
 
 -- the bytes of each file by its name, and none where there is no such file
 abbrev pub Files : Type 0

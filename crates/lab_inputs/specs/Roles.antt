@@ -4,22 +4,19 @@ use Rattle.std.specs.Prelude.{ℕ, ◌+◌, List, [], ◌∷◌, ◌++◌, Optio
 use Rattle.std.specs.Fmt.{decimal}
 use Rattle.lab_io.specs.Sink.{Text}
 use Rattle.lab_model.specs.declared.fault.Refusal.{Refusal}
-use Rattle.lab_model.specs.Film.{segments_of}
+use Rattle.lab_model.specs.Film.{rungs_of, segments_of}
+use Rattle.lab_model.specs.Steps.{map_ok}
 use Rattle.lab_words.specs.declared.Verb.{Verb}
 use Rattle.lab_words.specs.declared.Verb.TheVariants as verb
 use Rattle.lab_words.specs.Command.{CommandWords}
 use Rattle.manifest_reader.specs.Manifest.{manifest_of}
 use Rattle.seek_script.specs.Script.{seeks_of}
+use Rattle.utility_table.specs.Table.{utilities_of}
 use Rattle.lab_inputs.specs.declared.role.Role.{Role}
 use Rattle.lab_inputs.specs.declared.role.Role.TheVariants as role
-use Rattle.lab_inputs.specs.Contents.{ContentValues, trace_of, with_certificate, with_film, with_network, with_seeks}
+use Rattle.lab_inputs.specs.Contents.{ContentValues, trace_of, with_certificate, with_film, with_network, with_seeks, with_table}
 
 -- ---- the table
-
--- what a value adds, unless its reader refuses it
-abbrev pub result_map : {A B E : Type 0} → (A → B) → Result A E → Result B E
-result_map f (Ok x) = Ok (f x)
-result_map f (Err e) = Err e
 
 -- the row of a role: the most bytes of its file, its words, and what the bytes of a file of this name add to what those before it hold
 pub record RoleRow : Type 0 where
@@ -32,22 +29,27 @@ abbrev pub row_of : Role → RoleRow
 row_of role.Manifest = record {
   limit = 67108864;
   words = codes "manifest";
-  adds = λ name v bytes. result_map (with_film v) (manifest_of bytes);
+  adds = λ name v bytes. map_ok (with_film v) (manifest_of bytes);
+}
+row_of role.Utilities = record {
+  limit = 67108864;
+  words = codes "utilities";
+  adds = λ name v bytes. map_ok (with_table v) (utilities_of bytes (segments_of v.film) (rungs_of v.film));
 }
 row_of role.Trace = record {
   limit = 67108864;
   words = codes "trace";
-  adds = λ name v bytes. result_map (with_network name v) (trace_of name bytes);
+  adds = λ name v bytes. map_ok (with_network name v) (trace_of name bytes);
 }
 row_of (role.TraceAt place) = record {
   limit = 67108864;
   words = codes "trace " ++ decimal place;
-  adds = λ name v bytes. result_map (with_network name v) (trace_of name bytes);
+  adds = λ name v bytes. map_ok (with_network name v) (trace_of name bytes);
 }
 row_of role.Seeks = record {
   limit = 67108864;
   words = codes "seeks";
-  adds = λ name v bytes. result_map (with_seeks v) (seeks_of bytes (segments_of v.film));
+  adds = λ name v bytes. map_ok (with_seeks v) (seeks_of bytes (segments_of v.film));
 }
 row_of role.Certificate = record {
   limit = 536870912;
@@ -85,7 +87,9 @@ optional_file role (Some name) = (role, name) ∷ []
 
 -- the files that come behind the manifest
 abbrev pub later_files : CommandWords → List NamedFile
-later_files c = trace_files c.verb c.traces ++ (optional_file role.Seeks c.seeks ++ optional_file role.Certificate c.certificate)
+later_files c =
+    optional_file role.Utilities c.table
+    ++ (trace_files c.verb c.traces ++ (optional_file role.Seeks c.seeks ++ optional_file role.Certificate c.certificate))
 
 -- the files of a command on a film, in the order of refusals
 abbrev pub film_files : CommandWords → List NamedFile

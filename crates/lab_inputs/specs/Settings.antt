@@ -6,12 +6,13 @@ use Rattle.lab_model.specs.declared.setup.Setup.{Setup}
 use Rattle.lab_model.specs.Film.{Film}
 use Rattle.lab_model.specs.Fit.{SetupFits, buffer_fits, utilities_fit}
 use Rattle.lab_model.specs.Rules.{KindFits, RuleKind, kind_fits}
+use Rattle.lab_model.specs.Steps.{◌>>=◌}
 use Rattle.lab_words.specs.Command.{CommandWords}
 use Rattle.lab_inputs.specs.declared.stop.Setting.{Setting}
 use Rattle.lab_inputs.specs.declared.stop.Setting.TheVariants as setting
 use Rattle.lab_inputs.specs.declared.stop.Stop.{Stop}
 use Rattle.lab_inputs.specs.declared.stop.Stop.TheVariants as stop
-use Rattle.lab_inputs.specs.Files.{◌>>=◌, Files}
+use Rattle.lab_inputs.specs.Files.{Files}
 use Rattle.lab_inputs.specs.Inputs.{InputValues, inputs_of}
 
 -- the place of the first rule that cannot be asked about the film, the first rule being at this place

@@ -1,13 +1,14 @@
 //! What a command is about, as one value.
 
-ghost use Rattle.std.specs.Prelude.{◌≡◌, IfSome, map, option_map};
+ghost use Rattle.std.specs.Prelude.{◌≡◌, ◌/◌, IfSome, length, map, option_map, string_bytes};
 ghost use Rattle.std.specs.List.{All, slice_get};
 ghost use Rattle.lab_model.specs.Film.{segments_of};
+ghost use Rattle.lab_model.specs.Row.{AreUtilities};
 ghost use Rattle.lab_model.specs.Seeks.{SeeksFit};
 ghost use Rattle.lab_words.specs.Command.{named, view};
-ghost use Rattle.lab_words.specs.Limits.{HasFilm, IsRuleWithin, IsWithinLimits};
+ghost use Rattle.lab_words.specs.Limits.{AreWeighed, HasFilm, IsRuleWithin, IsWithinLimits};
 ghost use Rattle.lab_words.specs.Rules.{spoken};
-ghost use Rattle.lab_inputs.specs.Inputs.{inputs_of, inputs_on};
+ghost use Rattle.lab_inputs.specs.Inputs.{inputs_of, inputs_on, weights_by};
 ghost use Rattle.lab_inputs.specs.Roles.{film_files};
 ghost use Rattle.lab_inputs.specs.Settings.{Fits, misfit};
 ghost use Rattle.lab_inputs.specs.Stages.{Comes, IsSettled, network_of};
@@ -60,6 +61,33 @@ impl Model for Inputs {
         × All (λ r. IsRuleWithin r.1) (map named i.rules.items) };
 }
 
+/// The weights with the utilities of the words, or those of the table where one is named.
+fn weights_of(
+    name: Option<String>,
+    utilities: Vec<u32>,
+    table: Vec<u32>,
+    rungs: u8,
+    switch: u32,
+    stall: u32,
+    startup: u32,
+) -> Weights
+    requires words { AreWeighed (option_map string_bytes name) utilities.items switch stall startup }
+    requires table { AreUtilities table.items rungs (length table.items / rungs) }
+    ensures { result ≡ weights_by (option_map string_bytes name)
+        utilities.items table.items rungs switch stall startup }
+{
+    match name {
+        None => match Weights::from_parts(utilities, switch, stall, startup) {
+            Some(weights) => weights,
+            None => unreachable!(),
+        },
+        Some(_) => match Weights::from_table(table, rungs, switch, stall, startup) {
+            Some(weights) => weights,
+            None => unreachable!(),
+        },
+    }
+}
+
 impl Inputs {
     /// What a command is about whose files hold this.
     fn of(command: Command, contents: Contents) -> Inputs
@@ -67,14 +95,15 @@ impl Inputs {
         requires film { HasFilm (view command).verb }
         ensures { result ≡ inputs_on (view command) contents }
     {
-        let Some(weights) = Weights::from_parts(
+        let weights = weights_of(
+            command.table,
             command.utilities,
+            contents.table,
+            contents.manifest.rungs(),
             command.switch,
             command.stall,
             command.startup,
-        ) else {
-            unreachable!()
-        };
+        );
         Inputs {
             manifest: contents.manifest,
             setup: Setup {

@@ -16,6 +16,8 @@ use std::alloc::{AllocError, Global};
 pub enum Role {
     /// The film.
     Manifest,
+    /// The utility table.
+    Utilities,
     /// The recorded network.
     Trace,
     /// One of several recorded networks, by its place from 1.
@@ -40,7 +42,11 @@ impl Role {
         ensures { result ≡ (row_of self).limit }
     {
         match self {
-            Role::Manifest | Role::Trace | Role::TraceAt(_) | Role::Seeks => 67_108_864,
+            Role::Manifest
+            | Role::Utilities
+            | Role::Trace
+            | Role::TraceAt(_)
+            | Role::Seeks => 67_108_864,
             Role::Certificate => 536_870_912,
         }
     }
@@ -51,6 +57,7 @@ impl Role {
     {
         match self {
             Role::Manifest => put_text(err, "manifest"),
+            Role::Utilities => put_text(err, "utilities"),
             Role::Trace => put_text(err, "trace"),
             Role::TraceAt(place) => put_numbered_trace(err, place),
             Role::Seeks => put_text(err, "seeks"),
@@ -118,7 +125,10 @@ pub(crate) fn later_files(alloc: Global, command: &Command) -> Result<Vec<FileNa
     ensures { IfOk result (λ later. map file_of later.items
         ≡ later_files (view command.entry.now)) }
 {
-    let mut later = trace_files(alloc, command)?;
+    let mut later = Vec::new(alloc);
+    push_named(&mut later, Role::Utilities, &command.table)?;
+    let mut traces = trace_files(alloc, command)?;
+    later.append(&mut traces)?;
     push_named(&mut later, Role::Seeks, &command.seeks)?;
     push_named(&mut later, Role::Certificate, &command.certificate)?;
     Ok(later)

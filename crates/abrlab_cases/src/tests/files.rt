@@ -40,6 +40,11 @@ pub(super) const SLOW: [File; 2] = [("m", FILM), ("t", C500)];
 
 pub(super) const SLOWEST: [File; 2] = [("m", FILM), ("t", C200)];
 
+// The same with a table of utilities, which tells the second segment from the others.
+pub(super) const TABLE: &str = "0,0\n0,50\n0,10\n";
+
+pub(super) const WEIGHED: [File; 3] = [("m", FILM), ("t", C2000), ("u", TABLE)];
+
 // The least film on its link.
 pub(super) const LEAST: [File; 2] = [("m", TINY), ("t", ONE)];
 

@@ -3,19 +3,24 @@ use Rattle.std.proofs.lemmas.List.{take_all}
 use Rattle.lab_words.specs.Command.{view}
 use Rattle.lab_inputs.specs.Roles.{later_files}
 use Rattle.lab_inputs.specs.Stages.{file_of}
-use Rattle.lab_inputs.proofs.Steps.{asks_more, at_file, film_first, film_halts, inputs_one_more, later_halts, next_file}
+use Rattle.lab_inputs.proofs.Steps.{asks_more, at_file, film_first, film_halts, film_wanting, inputs_one_more, later_halts, next_file}
 use Rattle.lab_inputs.proofs.contents.read_contents.Goals as goal
 
 pub returns-in-Err : goal.returns-in-Err
 returns-in-Err g c =
     (film_halts (λ v. v) (string_bytes c.args.command.now.manifest) (later_files (view c.args.command.now)) _ _ c.read_film.result c.in-Err.err c.at.result c.in-Err.is c.at.ensures (rw c.deref.ensures at c.read_film.ensures))
 
+pub returns-in_err-contents : goal.returns-in_err-contents
+returns-in_err-contents g c =
+    let film = rw c.deref.ensures at c.in-Ok.ensures in
+    film_wanting (λ v. v) (string_bytes c.args.command.now.manifest) (later_files (view c.args.command.now)) _ _ c.from_residual-in_err-contents.result c.from_residual-in_err-contents.ensures.1 film.0
+
 pub loop-file-init : goal.loop-file-init
 loop-file-init g c =
     let film = rw c.deref.ensures at c.in-Ok.ensures in
     record {
       asks = film.0;
-      values = λ files t. film_first (string_bytes c.args.command.now.manifest) c.in-Ok.film files (film.1 files t) ∙ ap Ok (sym c.of_film-contents.ensures);
+      values = λ files t. film_first (string_bytes c.args.command.now.manifest) c.in-Ok.film files (film.1 files t) ∙ ap Ok (sym c.in_ok-contents.ensures);
     }
 
 pub returns-in-Err-take_file : goal.returns-in-Err-take_file
