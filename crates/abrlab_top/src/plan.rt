@@ -133,7 +133,7 @@ fn put_exact<O: Sink>(
     requires form { IsGapCertificate (plan_gap m.now planned.now) }
     ensures { Puts (O.seen out.old)
         (parts_text None as_certificate (plan_parts m.now planned.now.plan)
-            planned.now.bound planned.now.plan.labels)
+        planned.now.bound planned.now.plan.labels)
         (O.seen out.new) result }
 {
     if as_certificate {
@@ -153,7 +153,7 @@ fn put_coarse<O: Sink>(
     requires form { IsGapCertificate (plan_gap m.now planned.now) }
     ensures { (d : Grid) → Puts (O.seen out.old)
         (parts_text (Some d) as_certificate (plan_parts m.now planned.now.plan)
-            planned.now.bound planned.now.plan.labels)
+        planned.now.bound planned.now.plan.labels)
         (O.seen out.new) result }
 {
     if as_certificate {
@@ -173,7 +173,7 @@ fn put_answer<O: Sink>(
     requires form { IsGapCertificate (plan_gap m.now planned.now) }
     ensures { Puts (O.seen out.old)
         (parts_text options.grid options.as_certificate (plan_parts m.now planned.now.plan)
-            planned.now.bound planned.now.plan.labels)
+        planned.now.bound planned.now.plan.labels)
         (O.seen out.new) result }
 {
     match options.grid {
