@@ -13,6 +13,7 @@ mod failures;
 mod files;
 mod made;
 mod plan;
+mod reach;
 mod rules;
 mod simulate;
 mod tables;

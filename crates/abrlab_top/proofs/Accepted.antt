@@ -1,5 +1,5 @@
 -- `check` says yes to the certificate that a run of `plan` printed.
-use Rattle.std.proofs.Common.{◌≡◌, ◌∙◌, ℕ, ◌≤◌, false, true, List, [], ◌∷◌, ◌++◌, length, Option, Some, None, Ok, refl, sym, ap, subst, arith, append_assoc, append-nil}
+use Rattle.std.proofs.Common.{◌≡◌, ◌∙◌, ℕ, ◌≤◌, Bool, false, true, is_some, List, [], ◌∷◌, ◌++◌, length, Option, Some, None, IfSome, Ok, refl, sym, ap, subst, arith, append_assoc, append-nil}
 use Rattle.std.specs.List.{slice_get}
 use Rattle.std.specs.Prelude.{nat_lt}
 use Rattle.std.proofs.lemmas.Bool.Decides.{nat_tests}
@@ -20,27 +20,26 @@ use Rattle.lab_inputs.specs.Stages.{Tells}
 use Rattle.lab_inputs.proofs.Steps.{inputs_one_more, ok_same}
 use Rattle.lab_inputs.proofs.Within.{inputs_counted, inputs_held, is_ready, settled_fits}
 use Rattle.player_core.specs.Scene.{IsTask, Task, task_of}
-use Rattle.labels.specs.Parts.{CertificateParts}
-use Rattle.labels.specs.Form.{IsCertificate}
-use Rattle.certificate_text.specs.Reading as text
-use Rattle.certificate_text.specs.Spelling.{spelling}
+use Rattle.labels.specs.declared.label.Grid.{Grid}
+use Rattle.labels.specs.Grid.{IsGrid}
+use Rattle.certificate_text.specs.Form.{GapParts, IsGapCertificate}
 use Rattle.labels.specs.declared.verdict.Verdict.TheVariants.{Yes}
-use Rattle.certificate_text.proofs.HeadLaws.{certificate_again}
-use Rattle.certificate_text.proofs.Length.{spelling_fits}
 use Rattle.certificate_check.specs.Verdict.{verdict_of}
-use Rattle.player_core.specs.Available.{all_ahead}
 use Rattle.abrlab_top.specs.declared.ending.Ending.{Ending}
 use Rattle.abrlab_top.specs.Accepts.{ChecksText, PlansCertificate, ReadAlike, RunsAreAccepted, without_certificate}
 use Rattle.abrlab_top.specs.Answer.{Answer, Outcome, ending_in, printed, text_in}
 use Rattle.abrlab_top.specs.Check.{check, check_on, told_verdict, verdict_text}
+use Rattle.abrlab_top.specs.Claim.{claim_of, claim_text}
 use Rattle.abrlab_top.specs.Ending.{status_of}
 use Rattle.abrlab_top.specs.Outcome.{about, answer_by, answer_of, outcome}
 use Rattle.abrlab_top.specs.Outcome as whole
-use Rattle.abrlab_top.specs.Plan.{certificate_on, plan, plan_text, task_on}
+use Rattle.abrlab_top.specs.Plan.{bound_on, certificate_on, labels_on, options_of, parts_text, plan, task_on}
 use Rattle.abrlab_top.specs.Runs.{Runs, World}
 use Rattle.abrlab_top.specs.Statuses.{IsAmong, answers_to}
-use Rattle.abrlab_top.proofs.Certified.{has_text, says_yes}
+use Rattle.abrlab_top.proofs.Certified.{has_text, own_score, says_yes}
+use Rattle.abrlab_top.proofs.Claims.{claim_again, claim_fits}
 use Rattle.abrlab_top.proofs.Proved.{about_ok, by_verb, counts_of, done_by, few_labels, is_task, outcome_asked, planned_ok}
+use Rattle.abrlab_top.proofs.Options.{grid_fits}
 use Rattle.abrlab_top.proofs.Statuses.{statuses}
 
 -- ---- reading one certificate more
@@ -86,64 +85,82 @@ settled_alike i j film setup none none2 s =
     let same : misfit j.setup j.rules j.film ≡ misfit i.setup i.rules i.film = rw (film, setup, none, none2) refl in
     rw (same ∙ fits) refl
 
--- a certificate that is read, where the settings fit
-checked : (j : InputValues) (n : Text × List Period) (cert : CertificateParts) → text.certificate_of j.certificate ≡ Ok cert → settled j ≡ Ok j → j.networks ≡ n ∷ []
-    → verdict_of (task_on j n.1) cert cert.score ≡ Yes → check j ≡ Ok (told_verdict cert.score Yes)
+-- a claim that is read, where the settings fit
+checked : (gap : Bool) (j : InputValues) (n : Text × List Period) (k : GapParts) → claim_of gap j.certificate ≡ Ok k → settled j ≡ Ok j → j.networks ≡ n ∷ []
+    → verdict_of (task_on j n.1) k.inner k.bound ≡ Yes → check gap j ≡ Ok (told_verdict gap k.inner.score k.bound Yes)
 unfolding check
-checked j n cert read fits one valid = ap (λ ns. check_on j (slice_get ns 0)) one ∙ rw (read, fits) (ap (λ v. Ok (told_verdict cert.score v)) valid)
+checked gap j n k read fits one valid = ap (λ ns. check_on gap j (slice_get ns 0)) one ∙ rw (read, fits) (ap (λ v. Ok (told_verdict gap k.inner.score k.bound v)) valid)
 
 about_is : (after : InputValues → Outcome) (c : CommandWords) (files : Files) (i : InputValues) → inputs_of c files ≡ Ok i → about after c files ≡ after i
 unfolding about
 about_is after c files i e = rw e refl
 
+-- what a plan on a grid, or on none, claims
+abbrev claim_on : Option Grid → Task → GapParts
+claim_on grid g = record { bound = bound_on grid g; inner = certificate_on grid g }
+
+certificate_said : (grid : Option Grid) (g : Task) (labels : ℕ) → parts_text grid true (certificate_on grid g) (bound_on grid g) labels ≡ claim_text (is_some grid) (claim_on grid g)
+certificate_said None g labels = refl
+certificate_said (Some d) g labels = refl
+
 -- all that a run of `plan --as-certificate` went through
-record Planned (line : List Text) (files : Files) (i : InputValues) (n : Text × List Period) : Type 0 where
+record Planned (line : List Text) (files : Files) (grid : Option Grid) (i : InputValues) (n : Text × List Period) : Type 0 where
   none : i.rules ≡ []
   settled : settled i ≡ Ok i
+  fits : IfSome grid IsGrid
   task : IsTask (task_on i n.1)
-  form : IsCertificate (certificate_on (task_on i n.1))
-  text : whole.text line files ≡ spelling (certificate_on (task_on i n.1))
+  form : IsGapCertificate (claim_on grid (task_on i n.1))
+  text : whole.text line files ≡ claim_text (is_some grid) (claim_on grid (task_on i n.1))
 
-was_planned : (line : List Text) (files : Files) (i : InputValues) (n : Text × List Period) (old new : World) (e : Ending) → PlansCertificate line files i → i.networks ≡ n ∷ [] → Tells old.shelf files → Runs line old e new → status_of e ≡ 0 → Planned line files i n
-was_planned line files i n old new e p one t h s =
+was_planned : (line : List Text) (files : Files) (grid : Option Grid) (i : InputValues) (n : Text × List Period) (old new : World) (e : Ending) → PlansCertificate line files grid i → i.networks ≡ n ∷ [] → Tells old.shelf files → Runs line old e new → status_of e ≡ 0 → Planned line files grid i n
+was_planned line files grid i n old new e p one t h s =
     let c = p.command in
     let d = done_by line old new e h s c files p.asked t in
-    let x = about_ok (plan c.budget c.as_certificate) c files d.answer (by_verb Plan c files d.answer p.verb d.gives) in
+    let o = options_of c in
+    let x = about_ok (plan o) c files d.answer (by_verb Plan c files d.answer p.verb d.gives) in
     let same : x.0 ≡ i = ok_same (inputs_of c files) x.0 i x.1 p.read in
-    let answered : plan c.budget c.as_certificate i ≡ Ok d.answer = subst (λ j. plan c.budget c.as_certificate j ≡ Ok d.answer) same x.2 in
-    let y = planned_ok c.budget c.as_certificate i n d.answer one answered in
+    let answered : plan o i ≡ Ok d.answer = subst (λ j. plan o j ≡ Ok d.answer) same x.2 in
+    let y = planned_ok o i n d.answer one answered in
+    let g = task_on i n.1 in
     let is = is_task c files i n d.limits (subst HasFilm (sym p.verb) tt) (is_ready c files i i p.read y.0) one in
-    let few = few_labels c (task_on i n.1) d.limits p.verb is y.1 in
+    let few = few_labels c o.grid g d.limits p.verb is y.1 in
     let counts = counts_of c Plan d.limits p.verb in
-    let said : (plan_text true (task_on i n.1)) ≡ d.answer.text = subst (λ b. plan_text b (task_on i n.1) ≡ d.answer.text) p.as_certificate (ap (λ (a : Answer). a.text) y.2) in
+    let own = grid_fits c d.limits in
+    let said : claim_text (is_some o.grid) (claim_on o.grid g) ≡ d.answer.text =
+    sym (certificate_said o.grid g (labels_on o.grid g))
+    ∙ subst (λ b. parts_text o.grid b (certificate_on o.grid g) (bound_on o.grid g) (labels_on o.grid g) ≡ d.answer.text) p.as_certificate (ap (λ (a : Answer). a.text) y.2) in
     record {
       none = none_of i.rules (ap length (inputs_counted c files i p.read).1 ∙ counts.1);
       settled = y.0;
+      fits = subst (λ d. IfSome d IsGrid) p.on_grid own;
       task = is;
-      form = has_text (task_on i n.1) is few;
-      text = ap text_in (outcome_asked line c files p.asked ∙ d.gives) ∙ sym said;
+      form = subst (λ d. IsGapCertificate (claim_on d g)) p.on_grid (has_text o.grid g own is few);
+      text = ap text_in (outcome_asked line c files p.asked ∙ d.gives) ∙ sym said ∙ ap (λ d. claim_text (is_some d) (claim_on d g)) p.on_grid;
     }
 
 -- `check` says yes to what a run of `plan --as-certificate` printed
 pub runs_accepted : RunsAreAccepted
-runs_accepted line line2 files files2 i j old new old2 new2 e e2 plans t h s checks t2 h2 alike =
+runs_accepted line line2 files files2 grid i j old new old2 new2 e e2 plans t h s checks t2 h2 alike =
     let n = alike.one in
-    let done = was_planned line files i n old new e plans alike.network t h s in
+    let done = was_planned line files grid i n old new e plans alike.network t h s in
     let g = task_on i n.1 in
-    let cert = certificate_on g in
+    let gap = is_some grid in
+    let claim = claim_on grid g in
     let c = checks.command in
     let bytes = whole.text line files in
     let limits = command_within line2 c checks.asked in
-    let short : length bytes ≤ 536870912 = subst (λ t. length t ≤ 536870912) (sym done.text) (spelling_fits cert done.form) in
+    let short : length bytes ≤ 536870912 = subst (λ t. length t ≤ 536870912) (sym done.text) (claim_fits gap claim done.form) in
     let read = read_more c checks.name bytes files2 j checks.certificate checks.there short checks.read in
     let all : InputValues = record j { certificate = bytes } in
     let counts = counts_of c Check limits checks.verb in
     let none : all.rules ≡ [] = none_of all.rules (ap length (inputs_counted c files2 all read).1 ∙ counts.1) in
     let fits = settled_alike i all alike.film alike.setup done.none none done.settled in
-    let task : task_on all n.1 ≡ g = rw (alike.film, alike.setup) refl in
-    let yes : verdict_of (task_on all n.1) cert cert.score ≡ Yes = ap (λ t. verdict_of t cert cert.score) task ∙ says_yes g done.task in
-    let spelled : text.certificate_of all.certificate ≡ Ok cert = ap text.certificate_of done.text ∙ certificate_again cert done.form in
-    let verdict : check all ≡ Ok (told_verdict cert.score Yes) = checked all (alike.other, n.1) cert spelled fits alike.same yes in
+    let task : task_on all n.1 ≡ g = rw (alike.film, alike.setup, alike.live) refl in
+    let yes : verdict_of (task_on all n.1) claim.inner claim.bound ≡ Yes = ap (λ t. verdict_of t claim.inner claim.bound) task ∙ says_yes grid g done.fits done.task in
+    let spelled : claim_of gap all.certificate ≡ Ok claim = ap (claim_of gap) done.text ∙ claim_again gap claim done.form (own_score grid g done.task) in
+    let verdict : check gap all ≡ Ok (told_verdict gap claim.inner.score claim.bound Yes) = checked gap all (alike.other, n.1) claim spelled fits alike.same yes in
     let by : answer_of c files2 ≡ answer_by Check c files2 = ap (λ v. answer_by v c files2) checks.verb in
-    let came : outcome line2 files2 ≡ Ok (printed (verdict_text cert.score Yes)) = outcome_asked line2 c files2 checks.asked ∙ by ∙ about_is check c files2 all read ∙ verdict in
-    (cert, done.form, done.text, came, subst (λ o. IsAmong (status_of e2) (answers_to o)) came ((statuses line2 old2 e2 new2 h2).told files2 t2))
+    let asked : answer_by Check c files2 ≡ about (check gap) c files2 = ap (λ b. about (check b) c files2) checks.asks_gap in
+    let came : outcome line2 files2 ≡ Ok (printed (verdict_text gap claim.inner.score claim.bound Yes)) =
+    outcome_asked line2 c files2 checks.asked ∙ by ∙ asked ∙ about_is (check gap) c files2 all read ∙ verdict in
+    (claim, done.form, done.text, came, subst (λ o. IsAmong (status_of e2) (answers_to o)) came ((statuses line2 old2 e2 new2 h2).told files2 t2))

@@ -1,5 +1,5 @@
 -- What `demo` writes of a made case: its rows, its plan, and the verdict on the plan's certificate.
-use Rattle.std.proofs.Common.{◌≡◌, ◌∙◌, ℕ, ◌≤◌, ◌++◌, List, [], ◌∷◌, map, Result, Ok, Err, ap, sym, refl, subst, arith}
+use Rattle.std.proofs.Common.{◌≡◌, ◌∙◌, ℕ, ◌≤◌, ◌++◌, List, [], ◌∷◌, map, None, Result, Ok, Err, ap, sym, refl, subst, arith}
 use Rattle.std.specs.Prelude.{ℤ, codes, pos}
 use Rattle.std.specs.Fmt.{signed_decimal}
 use Rattle.std.specs.List.{All, flat_map}
@@ -83,22 +83,22 @@ plan_put score z y labels old new r e h x =
     puts_as old new _ _ r (ap (λ s. fields_line (codes "plan" ∷ codes "score" ∷ signed_decimal s ∷ codes "labels" ∷ signed_decimal y ∷ [])) e ∙ ap (λ n. fields_line (codes "plan" ∷ codes "score" ∷ signed_decimal score ∷ codes "labels" ∷ signed_decimal n ∷ [])) h) x
 
 -- the plan's line is the one of the task
-plan_said : (g : Task) (p : Plan) (budget : ℕ) (score : ℤ) → score ≡ p.score → IsPlanOf exact g (frontier g) budget p p.score → demo_plan score p.labels ≡ demo_plan (certificate_on g).score (labels_on g)
-plan_said g p budget score e h = ap (λ s. demo_plan s p.labels) e ∙ ap (λ (c : CertificateParts). demo_plan c.score p.labels) h.parts ∙ ap (demo_plan (certificate_on g).score) h.labels
+plan_said : (g : Task) (p : Plan) (budget : ℕ) (score : ℤ) → score ≡ p.score → IsPlanOf exact g (frontier g) budget p p.score → demo_plan score p.labels ≡ demo_plan (certificate_on None g).score (labels_on None g)
+plan_said g p budget score e h = ap (λ s. demo_plan s p.labels) e ∙ ap (λ (c : CertificateParts). demo_plan c.score p.labels) h.parts ∙ ap (demo_plan (certificate_on None g).score) h.labels
 
 -- the line of the plan did not go out
 pub plan_cut : (g : Task) (p : Plan) (budget : ℕ) (score : ℤ) (old new : Seen) (r q : Result (Unit {0}) PutErr) (e : PutErr) → score ≡ p.score → IsPlanOf exact g (frontier g) budget p p.score → r ≡ Err e → IsErrAnd q (λ y. y ≡ e)
     → Puts old (demo_plan score p.labels) new r → WritesRows old (plan_report g) q new
 plan_cut g p budget score old new r q e same of h k x =
-    rows_failed old new (demo_plan (certificate_on g).score (labels_on g)) (fields_line (codes "check" ∷ codes "yes" ∷ [])) r q e h k
-    (rows_as old new (demo_plan score p.labels) (demo_plan (certificate_on g).score (labels_on g)) r (plan_said g p budget score same of) (rows_put old new (demo_plan score p.labels) r x))
+    rows_failed old new (demo_plan (certificate_on None g).score (labels_on None g)) (fields_line (codes "check" ∷ codes "yes" ∷ [])) r q e h k
+    (rows_as old new (demo_plan score p.labels) (demo_plan (certificate_on None g).score (labels_on None g)) r (plan_said g p budget score same of) (rows_put old new (demo_plan score p.labels) r x))
 
 -- the line of the plan, and what the verdict came to
 pub plan_told : (g : Task) (p : Plan) (budget : ℕ) (score : ℤ) (old mid new : Seen) (r q : Result (Unit {0}) PutErr) (u : Unit {0}) → score ≡ p.score → IsPlanOf exact g (frontier g) budget p p.score → r ≡ Ok u
     → Puts old (demo_plan score p.labels) mid r → Puts mid (fields_line (codes "check" ∷ codes "yes" ∷ [])) new q → WritesRows old (plan_report g) q new
 plan_told g p budget score old mid new r q u same of h x y =
-    rows_more old mid new (demo_plan (certificate_on g).score (labels_on g)) (fields_line (codes "check" ∷ codes "yes" ∷ [])) r q u h
-    (rows_as old mid (demo_plan score p.labels) (demo_plan (certificate_on g).score (labels_on g)) r (plan_said g p budget score same of) (rows_put old mid (demo_plan score p.labels) r x))
+    rows_more old mid new (demo_plan (certificate_on None g).score (labels_on None g)) (fields_line (codes "check" ∷ codes "yes" ∷ [])) r q u h
+    (rows_as old mid (demo_plan score p.labels) (demo_plan (certificate_on None g).score (labels_on None g)) r (plan_said g p budget score same of) (rows_put old mid (demo_plan score p.labels) r x))
     (rows_put mid new (fields_line (codes "check" ∷ codes "yes" ∷ [])) q y)
 
 -- the certificate of the plan has a text

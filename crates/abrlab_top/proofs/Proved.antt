@@ -1,5 +1,5 @@
 -- The headline of each command, from a run that answered 0.
-use Rattle.std.proofs.Common.{◌≡◌, ◌∙◌, ℕ, ◌≤◌, Bool, List, [], ◌∷◌, length, Option, Some, None, Result, Ok, Err, ap, sym, refl, subst, arith}
+use Rattle.std.proofs.Common.{◌≡◌, ◌∙◌, ℕ, ◌≤◌, false, is_some, List, [], ◌∷◌, length, Option, Some, None, IfSome, Result, Ok, Err, ap, sym, refl, subst, arith}
 use Rattle.std.specs.List.{All, slice_get}
 use Rattle.lab_io.specs.Sink.{Text, Grew}
 use Rattle.lab_model.specs.declared.setup.Setup.{Setup}
@@ -24,30 +24,35 @@ use Rattle.lab_inputs.specs.Settings.{ready_of, settled}
 use Rattle.lab_inputs.specs.Stages.{Tells}
 use Rattle.lab_inputs.proofs.Steps.{ok_same, read_ok, role_ok}
 use Rattle.lab_inputs.proofs.Tables.{weights_are}
-use Rattle.lab_inputs.proofs.Within.{IsReady, inputs_counted, is_ready, settled_fits}
-use Rattle.labels.specs.Frontier.{frontier}
-use Rattle.player_core.specs.Scene.{IsTask, Task}
-use Rattle.labels.specs.Parts.{CertificateParts}
+use Rattle.lab_inputs.proofs.Within.{IsReady, inputs_counted, inputs_held, is_ready, settled_fits}
+use Rattle.player_core.specs.Available.{all_ahead}
+use Rattle.player_core.specs.State.{case_of}
+use Rattle.player_core.specs.Scene.{IsTask, Task, task_of}
+use Rattle.labels.specs.declared.label.Grid.{Grid}
+use Rattle.labels.specs.Grid.{IsGrid}
 use Rattle.labels.specs.Read.{labels_in}
-use Rattle.labels.proofs.Sound.{plan_accepted, plan_settles, sound}
+use Rattle.labels.proofs.Sound.{sound}
 use Rattle.labels.specs.declared.verdict.Verdict.{Verdict}
 use Rattle.labels.specs.declared.verdict.Verdict.TheVariants.{Yes, No}
-use Rattle.certificate_text.specs.Reading.{certificate_of}
-use Rattle.certificate_text.proofs.HeadLaws.{certificate_takes}
-use Rattle.certificate_text.proofs.Length.{spelling_fits}
+use Rattle.certificate_text.specs.Form.{GapParts}
 use Rattle.certificate_check.specs.Verdict.{verdict_of}
 use Rattle.certificate_check.proofs.Verdicts.{yes_valid}
 use Rattle.abrlab_top.specs.declared.ending.Ending.{Ending}
 use Rattle.abrlab_top.specs.declared.ending.Ending.TheVariants as ending
+use Rattle.abrlab_top.specs.declared.plan.PlanOptions.{PlanOptions}
+use Rattle.abrlab_top.specs.Ahead.{ahead_of}
 use Rattle.abrlab_top.specs.Answer.{Answer, Outcome, printed, unless_stopped}
-use Rattle.abrlab_top.specs.Check.{certificate_in, check, check_on, told_verdict, verdict_ending, verdict_text}
+use Rattle.abrlab_top.specs.Check.{check, check_on, claim_in, told_verdict, verdict_ending, verdict_text}
+use Rattle.abrlab_top.specs.Claim.{claim_of}
 use Rattle.abrlab_top.specs.Ending.{status_of}
 use Rattle.abrlab_top.specs.Outcome.{about, answer_by, answer_of, named_files, outcome, outcome_by}
-use Rattle.abrlab_top.specs.Plan.{certificate_on, labels_on, plan, plan_on, plan_text, spent_on, task_on, unless_spent}
-use Rattle.abrlab_top.specs.Proves.{IsBest, IsYes, PlansTheBest, Proves, SaysYesSoundly, Simulates}
+use Rattle.abrlab_top.specs.Plan.{bound_on, certificate_on, chains_on, grid_in, labels_on, options_of, plan, plan_on, plan_text, planned_on, spent_on, task_on, unless_spent}
+use Rattle.abrlab_top.specs.Proves.{Headline, IsBest, IsPlain, IsSession, IsYes, PlansTheBest, Proves, SaysYesSoundly, Simulates}
 use Rattle.abrlab_top.specs.Runs.{Runs, World}
 use Rattle.abrlab_top.specs.Simulate.{case_on, session_on, simulate, simulate_on}
-use Rattle.abrlab_top.proofs.Certified.{has_text, within_budget}
+use Rattle.abrlab_top.proofs.Certified.{bound_holds, has_text, own_score, within_budget}
+use Rattle.abrlab_top.proofs.Claims.{claim_fits, claim_form, own_claim}
+use Rattle.abrlab_top.proofs.Options.{grid_fits, no_grid}
 use Rattle.abrlab_top.proofs.Statuses.{statuses, tells_named}
 
 -- ---- a run that answered 0
@@ -114,6 +119,10 @@ ready_by : (c : CommandWords) (files : Files) (i : InputValues) → inputs_of c 
 unfolding ready_of
 ready_by c files i e h = rw e h
 
+-- what is read is about a live film just where the words say so
+pub live_by : (c : CommandWords) (files : Files) (i : InputValues) → inputs_of c files ≡ Ok i → i.live ≡ c.live
+live_by c files i e = ap (λ (v : InputValues). v.live) (inputs_held c files i e).1
+
 -- ---- simulate
 
 simulated_ok : (i : InputValues) (n : Text × List Period) (rule : Text × RuleKind) (a : Answer) → i.networks ≡ n ∷ [] → i.rules ≡ rule ∷ [] → simulate i ≡ Ok a → (settled i ≡ Ok i) × (printed (session_on i n.1 rule.1) ≡ a)
@@ -125,7 +134,7 @@ simulated_ok i n rule a e h k =
     let s = settled_ok i x.0 x.1 in
     (s.0, ap (λ (j : InputValues). printed (session_on j n.1 rule.1)) s.1 ∙ ok_same _ _ a refl x.2)
 
--- the headline of `simulate`
+-- what `simulate` proves
 pub simulates : (line : List Text) (old new : World) (e : Ending) (r : ℕ) → Runs line old e new → r ≡ status_of e → Simulates line old r new
 simulates line old new e r h k c files asked v t s =
     let d = done_by line old new e h (sym k ∙ s) c files asked t in
@@ -138,6 +147,7 @@ simulates line old new e r h k c files asked v t s =
     record {
       inputs = x.0;
       read = ready_by c files x.0 x.1 y.0;
+      live = live_by c files x.0 x.1;
       network = network.0;
       one_network = network.1;
       text = session_on x.0 network.0.1 rule.0.1;
@@ -151,6 +161,11 @@ simulates line old new e r h k c files asked v t s =
 first_trace : (networks : List (Text × List Period)) (n : Text × List Period) → networks ≡ n ∷ [] → All (λ (m : Text × List Period). IsTrace m.1) networks → IsTrace n.1
 first_trace networks n e h = let k : All (λ (m : Text × List Period). IsTrace m.1) (n ∷ []) = subst (All (λ (m : Text × List Period). IsTrace m.1)) e h in k 0 n (omega arith)
 
+-- media ahead within the limits of the words
+ahead_fits : (o : Option ℕ) → IfSome o (λ ms. ms ≤ 120000000) → ahead_of o ≤ 120000000
+ahead_fits None h = omega arith
+ahead_fits (Some ms) h = h
+
 -- what is ready is a task for the planner
 pub is_task : (c : CommandWords) (files : Files) (i : InputValues) (n : Text × List Period) → IsWithinLimits c → HasFilm c.verb → IsReady c files i → i.networks ≡ n ∷ [] → IsTask (task_on i n.1)
 is_task c files i n limits film r one = record {
@@ -159,68 +174,72 @@ is_task c files i n limits film r one = record {
   setup = r.fits.setup;
   weights = subst (λ (s : Setup). IsWeighing s.weights) (sym (ap (λ (j : InputValues). j.setup) r.inputs))
       (weights_are c.table c.utilities r.contents.table (rungs_of r.contents.film) c.switch c.stall c.startup (limits.weights film) r.within.table);
-  ahead = omega arith;
+  ahead = subst (λ o. ahead_of o ≤ 120000000) (sym (ap (λ (j : InputValues). j.live) r.inputs)) (ahead_fits c.live limits.live);
 }
 
 -- ---- plan
 
-unspent : (as_certificate : Bool) (g : Task) (o : Option ℕ) (a : Answer) → unless_spent as_certificate g o ≡ Ok a → (o ≡ None) × (printed (plan_text as_certificate g) ≡ a)
-unspent as_certificate g None a e = (refl, ok_same _ (printed (plan_text as_certificate g)) a refl e)
-unspent as_certificate g (Some segment) a e = cc
+unspent : (o : PlanOptions) (g : Task) (spent : Option ℕ) (a : Answer) → unless_spent o g spent ≡ Ok a → (spent ≡ None) × (printed (plan_text o g) ≡ a)
+unspent o g None a e = (refl, ok_same _ (printed (plan_text o g)) a refl e)
+unspent o g (Some segment) a e = cc
 
 -- what `plan` went through to its answer
-pub planned_ok : (budget : ℕ) (as_certificate : Bool) (i : InputValues) (n : Text × List Period) (a : Answer) → i.networks ≡ n ∷ [] → plan budget as_certificate i ≡ Ok a
-    → (settled i ≡ Ok i) × (spent_on (task_on i n.1) budget ≡ None) × (printed (plan_text as_certificate (task_on i n.1)) ≡ a)
+pub planned_ok : (o : PlanOptions) (i : InputValues) (n : Text × List Period) (a : Answer) → i.networks ≡ n ∷ [] → plan o i ≡ Ok a
+    → (settled i ≡ Ok i) × (spent_on o.grid (task_on i n.1) o.budget ≡ None) × (printed (plan_text o (task_on i n.1)) ≡ a)
 unfolding plan
-planned_ok budget as_certificate i n a e k =
-    let whole : (unless_stopped (settled i) >>= λ ready. unless_spent as_certificate (task_on ready n.1) (spent_on (task_on ready n.1) budget)) ≡ Ok a = sym (ap (λ ns. plan_on budget as_certificate i (slice_get ns 0)) e) ∙ k in
-    let x = then_ok (unless_stopped (settled i)) (λ ready. unless_spent as_certificate (task_on ready n.1) (spent_on (task_on ready n.1) budget)) a whole in
+planned_ok o i n a e k =
+    let whole : (unless_stopped (settled i) >>= λ ready. planned_on o (task_on ready n.1)) ≡ Ok a = sym (ap (λ ns. plan_on o i (slice_get ns 0)) e) ∙ k in
+    let x = then_ok (unless_stopped (settled i)) (λ ready. planned_on o (task_on ready n.1)) a whole in
     let s = settled_ok i x.0 x.1 in
-    let u = unspent as_certificate (task_on i n.1) (spent_on (task_on i n.1) budget) a (subst (λ (j : InputValues). unless_spent as_certificate (task_on j n.1) (spent_on (task_on j n.1) budget) ≡ Ok a) (sym s.1) x.2) in
+    let u = unspent o (task_on i n.1) (spent_on o.grid (task_on i n.1) o.budget) a (subst (λ (j : InputValues). planned_on o (task_on j n.1) ≡ Ok a) (sym s.1) x.2) in
     (s.0, u.0, u.1)
 
 -- a plan's labels are no more than a certificate may have
-pub few_labels : (c : CommandWords) (g : Task) → IsWithinLimits c → c.verb ≡ verb.Plan → IsTask g → spent_on g c.budget ≡ None → labels_in g (frontier g) ≤ 1000000
-few_labels c g limits v is unspent =
+pub few_labels : (c : CommandWords) (grid : Option Grid) (g : Task) → IsWithinLimits c → c.verb ≡ verb.Plan → IsTask g → spent_on grid g c.budget ≡ None → labels_in g (chains_on grid g) ≤ 1000000
+few_labels c grid g limits v is unspent =
     let own = (subst (λ w. HasItsOwn w c) v limits.own).1 in
-    let few = within_budget g c.budget is.film.segments.0 unspent in
+    let few = within_budget grid g c.budget is.film.segments.0 unspent in
     omega (arith, own, few)
 
--- the plan of a task is the best
-best_is : (g : Task) (as_certificate : Bool) → IsTask g → labels_in g (frontier g) ≤ 1000000 → (p : IsBest g as_certificate (plan_text as_certificate g)) × (p.bound ≡ p.best.score)
-best_is g as_certificate is few =
-    let form = has_text g is few in
-    let list = (plan_settles g is).list in (
+-- the plan of a task is the best, or no list is above its bound
+best_is : (o : PlanOptions) (g : Task) → IfSome o.grid IsGrid → IsTask g → labels_in g (chains_on o.grid g) ≤ 1000000
+    → (p : IsBest g o.grid o.as_certificate (plan_text o g)) × (is_some o.grid ≡ false → p.bound ≡ p.best.score)
+best_is o g fits is few =
+    let form = has_text o.grid g fits is few in
+    let valid = bound_holds o.grid g fits is in (
       record {
-        best = certificate_on g;
-        labels = labels_on g;
-        bound = (certificate_on g).score;
-        settles = sound g is (certificate_on g) (certificate_on g).score (plan_accepted g is) list.0;
-        valid = plan_accepted g is;
+        best = certificate_on o.grid g;
+        labels = labels_on o.grid g;
+        bound = bound_on o.grid g;
+        settles = sound g is (certificate_on o.grid g) (bound_on o.grid g) valid form.inner.head.plan.0;
+        valid = valid;
         form = form;
-        short = spelling_fits (certificate_on g) form;
+        short = claim_fits (is_some o.grid) (record { bound = bound_on o.grid g; inner = certificate_on o.grid g }) form;
         is = refl;
       },
-      refl,
+      own_score o.grid g is,
     )
 
--- the headline of `plan`
+-- what `plan` proves
 pub plans_the_best : (line : List Text) (old new : World) (e : Ending) (r : ℕ) → Runs line old e new → r ≡ status_of e → PlansTheBest line old r new
 plans_the_best line old new e r h k c files asked v t s =
     let d = done_by line old new e h (sym k ∙ s) c files asked t in
-    let x = about_ok (plan c.budget c.as_certificate) c files d.answer (by_verb verb.Plan c files d.answer v d.gives) in
+    let o = options_of c in
+    let x = about_ok (plan o) c files d.answer (by_verb verb.Plan c files d.answer v d.gives) in
     let counts = counts_of c verb.Plan d.limits v in
     let network = one_of x.0.networks ((inputs_counted c files x.0 x.1).0 ∙ counts.0) in
-    let y = planned_ok c.budget c.as_certificate x.0 network.0 d.answer network.1 x.2 in
+    let y = planned_ok o x.0 network.0 d.answer network.1 x.2 in
     let g = task_on x.0 network.0.1 in
     let is = is_task c files x.0 network.0 d.limits (subst HasFilm (sym v) tt) (is_ready c files x.0 x.0 x.1 y.0) network.1 in
+    let best = best_is o g (grid_fits c d.limits) is (few_labels c o.grid g d.limits v is y.1) in
     record {
       inputs = x.0;
       read = ready_by c files x.0 x.1 y.0;
+      live = live_by c files x.0 x.1;
       network = network.0;
       one_network = network.1;
-      text = plan_text c.as_certificate g;
-      proves = best_is g c.as_certificate is (few_labels c g d.limits v is y.1);
+      text = plan_text o g;
+      proves = (best.0, λ none. best.1 (ap is_some (no_grid c.coarse_time c.coarse_value none)));
       out = subst (λ (a : Answer). Grew old.out.written a.text new.out.written) (sym y.2) d.out;
       err = d.err;
     }
@@ -228,51 +247,86 @@ plans_the_best line old new e r h k c files asked v t s =
 -- ---- check
 
 -- what `check` went through to its answer
-checked_ok : (i : InputValues) (n : Text × List Period) (a : Answer) → i.networks ≡ n ∷ [] → check i ≡ Ok a
-    → (cert : CertificateParts) × (certificate_of i.certificate ≡ Ok cert) × (settled i ≡ Ok i) × (told_verdict cert.score (verdict_of (task_on i n.1) cert cert.score) ≡ a)
+checked_ok : (gap : Bool) (i : InputValues) (n : Text × List Period) (a : Answer) → i.networks ≡ n ∷ [] → check gap i ≡ Ok a
+    → (k : GapParts) × (claim_of gap i.certificate ≡ Ok k) × (settled i ≡ Ok i) × (told_verdict gap k.inner.score k.bound (verdict_of (task_on i n.1) k.inner k.bound) ≡ a)
 unfolding check
-checked_ok i n a e k =
-    let whole : (unless_stopped (certificate_in i.certificate) >>= λ cert. unless_stopped (settled i) >>= λ ready. Ok (told_verdict cert.score (verdict_of (task_on ready n.1) cert cert.score))) ≡ Ok a = sym (ap (λ ns. check_on i (slice_get ns 0)) e) ∙ k in
-    let y = then_ok (unless_stopped (certificate_in i.certificate)) (λ cert. unless_stopped (settled i) >>= λ ready. Ok (told_verdict cert.score (verdict_of (task_on ready n.1) cert cert.score))) a whole in
-    let z = then_ok (unless_stopped (settled i)) (λ ready. Ok (told_verdict y.0.score (verdict_of (task_on ready n.1) y.0 y.0.score))) a y.2 in
+checked_ok gap i n a e h =
+    let whole : (unless_stopped (claim_in gap i.certificate) >>= λ k. unless_stopped (settled i) >>= λ ready. Ok (told_verdict gap k.inner.score k.bound (verdict_of (task_on ready n.1) k.inner k.bound))) ≡ Ok a = sym (ap (λ ns. check_on gap i (slice_get ns 0)) e) ∙ h in
+    let y = then_ok (unless_stopped (claim_in gap i.certificate)) (λ k. unless_stopped (settled i) >>= λ ready. Ok (told_verdict gap k.inner.score k.bound (verdict_of (task_on ready n.1) k.inner k.bound))) a whole in
+    let z = then_ok (unless_stopped (settled i)) (λ ready. Ok (told_verdict gap y.0.inner.score y.0.bound (verdict_of (task_on ready n.1) y.0.inner y.0.bound))) a y.2 in
     let s = settled_ok i z.0 z.1 in
-    let spelled = read_ok (certificate_of i.certificate) y.0 (role_ok role.Certificate (read_as (certificate_of i.certificate)) y.0 (stopped_ok (certificate_in i.certificate) y.0 y.1)) in
-    (y.0, spelled, s.0, ap (λ (j : InputValues). told_verdict y.0.score (verdict_of (task_on j n.1) y.0 y.0.score)) s.1 ∙ ok_same _ _ a refl z.2)
+    let spelled = read_ok (claim_of gap i.certificate) y.0 (role_ok role.Certificate (read_as (claim_of gap i.certificate)) y.0 (stopped_ok (claim_in gap i.certificate) y.0 y.1)) in
+    (y.0, spelled, s.0, ap (λ (j : InputValues). told_verdict gap y.0.inner.score y.0.bound (verdict_of (task_on j n.1) y.0.inner y.0.bound)) s.1 ∙ ok_same _ _ a refl z.2)
 
 is_yes : (v : Verdict) → verdict_ending v ≡ ending.Done → v ≡ Yes
 is_yes Yes e = refl
 is_yes (No clause segment rung label) e = cc
 
--- the headline of `check`
+-- what `check` proves
 pub says_yes_soundly : (line : List Text) (old new : World) (e : Ending) (r : ℕ) → Runs line old e new → r ≡ status_of e → SaysYesSoundly line old r new
 says_yes_soundly line old new e r h k c files asked v t s =
     let d = done_by line old new e h (sym k ∙ s) c files asked t in
-    let x = about_ok check c files d.answer (by_verb verb.Check c files d.answer v d.gives) in
+    let x = about_ok (check c.gap) c files d.answer (by_verb verb.Check c files d.answer v d.gives) in
     let counts = counts_of c verb.Check d.limits v in
     let network = one_of x.0.networks ((inputs_counted c files x.0 x.1).0 ∙ counts.0) in
-    let y = checked_ok x.0 network.0 d.answer network.1 x.2 in
+    let y = checked_ok c.gap x.0 network.0 d.answer network.1 x.2 in
     let g = task_on x.0 network.0.1 in
-    let cert = y.0 in
-    let yes = is_yes (verdict_of g cert cert.score) (ap (λ (a : Answer). a.ending) y.3 ∙ d.ending) in
+    let claim = y.0 in
+    let yes = is_yes (verdict_of g claim.inner claim.bound) (ap (λ (a : Answer). a.ending) y.3 ∙ d.ending) in
     let is = is_task c files x.0 network.0 d.limits (subst HasFilm (sym v) tt) (is_ready c files x.0 x.0 x.1 y.2) network.1 in
-    let form = (certificate_takes x.0.certificate cert y.1).0 in
-    let text : verdict_text cert.score Yes ≡ d.answer.text = ap (verdict_text cert.score) (sym yes) ∙ ap (λ (a : Answer). a.text) y.3 in
+    let form = claim_form c.gap x.0.certificate claim y.1 in
+    let text : verdict_text c.gap claim.inner.score claim.bound Yes ≡ d.answer.text = ap (verdict_text c.gap claim.inner.score claim.bound) (sym yes) ∙ ap (λ (a : Answer). a.text) y.3 in
     record {
       inputs = x.0;
       read = ready_by c files x.0 x.1 y.2;
+      live = live_by c files x.0 x.1;
       network = network.0;
       one_network = network.1;
-      text = verdict_text cert.score Yes;
+      text = verdict_text c.gap claim.inner.score claim.bound Yes;
       proves = (
         record {
-          certificate = cert;
+          claim = claim;
           spelled = y.1;
-          bound = cert.score;
-          settles = sound g is cert cert.score (yes_valid g cert cert.score yes) form.head.plan.0;
+          settles = sound g is claim.inner claim.bound (yes_valid g claim.inner claim.bound yes) form.head.plan.0;
           is = refl;
         },
-        refl,
+        λ none. own_claim c.gap x.0.certificate claim none y.1,
       );
       out = subst (λ (text : Text). Grew old.out.written text new.out.written) (sym text) d.out;
       err = d.err;
     }
+
+-- ---- the headline
+
+-- what is proved at the task of a film on demand
+plainly : (c : CommandWords) (files : Files) (old new : World) (General Own : InputValues → List Period → Text → Type 0) → c.live ≡ None → Proves c files General old new
+    → ((i : InputValues) (periods : List Period) (text : Text) → i.live ≡ None → General i periods text → Own i periods text) → Proves c files Own old new
+plainly c files old new General Own none p from = record {
+  inputs = p.inputs;
+  read = p.read;
+  live = p.live;
+  network = p.network;
+  one_network = p.one_network;
+  text = p.text;
+  proves = from p.inputs p.network.1 p.text (p.live ∙ none) p.proves;
+  out = p.out;
+  err = p.err;
+}
+
+-- the headline follows from what is proved at each task
+pub headline : (line : List Text) (old new : World) (r : ℕ) → Simulates line old r new → PlansTheBest line old r new → SaysYesSoundly line old r new → Headline line old r new
+headline line old new r simulates plans checks = record {
+  simulates = λ c files asked v plain t s.
+      plainly c files old new _ _ plain.on_demand (simulates c files asked v t s)
+      (λ i periods text none h. (h.0, h.1, subst (λ live. IsSession (case_of i.film periods i.setup i.seeks (ahead_of live) h.0.1) text) none h.2));
+  plans = λ c files asked v plain t s.
+      plainly c files old new _ _ plain.on_demand (plans c files asked v t s)
+      (λ i periods text none h.
+      subst (λ grid. (p : IsBest (task_of i.film periods i.setup all_ahead) grid c.as_certificate text) × (p.bound ≡ p.best.score)) (no_grid c.coarse_time c.coarse_value plain.exact)
+      (subst (λ live. (p : IsBest (task_of i.film periods i.setup (ahead_of live)) (grid_in c.coarse_time c.coarse_value) c.as_certificate text) × (p.bound ≡ p.best.score)) none (h.0, h.1 plain.exact)));
+  checks = λ c files asked v plain t s.
+      plainly c files old new _ _ plain.on_demand (checks c files asked v t s)
+      (λ i periods text none h.
+      subst (λ gap. (p : IsYes (task_of i.film periods i.setup all_ahead) gap i.certificate text) × (p.claim.bound ≡ p.claim.inner.score)) plain.no_gap
+      (subst (λ live. (p : IsYes (task_of i.film periods i.setup (ahead_of live)) c.gap i.certificate text) × (p.claim.bound ≡ p.claim.inner.score)) none (h.0, h.1 plain.no_gap)));
+}

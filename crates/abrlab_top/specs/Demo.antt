@@ -1,5 +1,5 @@
 -- What `demo` answers: five rules on the made case of a number, its plan, and the verdict on the plan's certificate.
-use Rattle.std.specs.Prelude.{ℕ, ℤ, List, [], ◌∷◌, ◌++◌, Ok, codes}
+use Rattle.std.specs.Prelude.{ℕ, ℤ, List, [], ◌∷◌, ◌++◌, None, Ok, codes}
 use Rattle.std.specs.List.{flat_map}
 use Rattle.std.specs.Fmt.{decimal, signed_decimal}
 use Rattle.lab_io.specs.Piece.{fields_line}
@@ -41,7 +41,7 @@ demo_line n = fields_line (codes "demo" ∷ decimal n ∷ [])
 
 -- the two lines of a task: its plan, and that the plan's certificate is valid
 abbrev pub plan_report : Task → Text
-plan_report g = demo_plan (certificate_on g).score (labels_on g) ++ fields_line (codes "check" ∷ codes "yes" ∷ [])
+plan_report g = demo_plan (certificate_on None g).score (labels_on None g) ++ fields_line (codes "check" ∷ codes "yes" ∷ [])
 
 -- the text of the demo of a number
 unfoldable pub demo_text : ℕ → Text

@@ -1,4 +1,6 @@
 pub mod Ending
+pub mod Ahead
+pub mod Claim
 pub mod Answer
 pub mod Rows
 pub mod Simulate

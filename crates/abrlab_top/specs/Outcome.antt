@@ -15,7 +15,7 @@ use Rattle.abrlab_top.specs.Check.{check}
 use Rattle.abrlab_top.specs.Compare.{compare}
 use Rattle.abrlab_top.specs.Demo.{demo}
 use Rattle.abrlab_top.specs.Ending.{note_of, status_of}
-use Rattle.abrlab_top.specs.Plan.{plan}
+use Rattle.abrlab_top.specs.Plan.{options_of, plan}
 use Rattle.abrlab_top.specs.Simulate.{simulate}
 use Rattle.abrlab_top.specs.Stages.{Manner, at_the_end, of_a_check, refusing, row_by_row}
 
@@ -31,8 +31,8 @@ about answer c files = do
 abbrev pub answer_by : Verb → CommandWords → Files → Outcome
 answer_by verb.Simulate c files = about simulate c files
 answer_by verb.Compare c files = about compare c files
-answer_by verb.Plan c files = about (plan c.budget c.as_certificate) c files
-answer_by verb.Check c files = about check c files
+answer_by verb.Plan c files = about (plan (options_of c)) c files
+answer_by verb.Check c files = about (check c.gap) c files
 answer_by verb.Demo c files = demo c.number
 
 -- what a command comes to

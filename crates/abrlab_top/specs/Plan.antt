@@ -1,40 +1,87 @@
--- What `plan` answers: the best rung list that a network allowed, or its certificate, unless its frontiers spend the budget.
-use Rattle.std.specs.Prelude.{ℕ, ℤ, suc, Bool, List, [], ◌∷◌, ◌++◌, map, Option, Some, None, Ok, Err, codes, nat_lt, if◌then◌else◌}
+-- What `plan` answers: the best rung list that a network allowed, or on a grid one with a bound; or its certificate, unless its frontiers
+-- spend the budget.
+use Rattle.std.specs.Prelude.{ℕ, ℤ, suc, ◌==◌, Bool, List, [], ◌∷◌, ◌++◌, map, Option, Some, None, IfSome, unwrap_or, Result, Ok, Err, codes, nat_lt, if◌then◌else◌}
 use Rattle.std.specs.List.{find, slice_get}
 use Rattle.std.specs.Fmt.{decimal, signed_decimal}
 use Rattle.lab_io.specs.Piece.{fields_line}
 use Rattle.lab_io.specs.Sink.{Text}
 use Rattle.lab_model.specs.declared.trace.Period.{Period}
-use Rattle.lab_model.specs.Film.{segments_of}
+use Rattle.lab_model.specs.Film.{IsWithin, segments_of}
 use Rattle.lab_model.specs.Ladder.{rungs_below}
 use Rattle.lab_model.specs.Steps.{◌>>=◌}
+use Rattle.lab_words.specs.Command.{CommandWords}
 use Rattle.lab_inputs.specs.Inputs.{InputValues}
 use Rattle.lab_inputs.specs.Settings.{settled}
-use Rattle.player_core.specs.Available.{all_ahead}
+use Rattle.labels.specs.declared.label.Grid.{Grid}
 use Rattle.labels.specs.Frontier.{frontier}
-use Rattle.labels.specs.Grid.{exact}
+use Rattle.labels.specs.Grid.{IsGrid, exact}
+use Rattle.labels.specs.Grown.{grown}
 use Rattle.player_core.specs.Scene.{Task, task_of}
 use Rattle.labels.specs.Parts.{CertificateParts}
-use Rattle.labels.specs.Read.{certificate_from, labels_before, labels_in}
-use Rattle.certificate_text.specs.Spelling.{spelling}
+use Rattle.labels.specs.Read.{Chains, SpentAt, bound_of, certificate_from, labels_before, labels_in}
+use Rattle.frontier_planner.specs.declared.plans.CoarsePlan.{CoarsePlan}
+use Rattle.frontier_planner.specs.declared.plans.PlanErr.{PlanErr}
+use Rattle.frontier_planner.specs.declared.plans.PlanErr.TheVariants as planned
+use Rattle.frontier_planner.specs.Planned.{IsPlanOf}
+use Rattle.certificate_text.specs.Spelling.{gap_spelling, spelling}
 use Rattle.abrlab_top.specs.declared.ending.Ending.TheVariants as ending
+use Rattle.abrlab_top.specs.declared.plan.PlanOptions.{PlanOptions}
+use Rattle.abrlab_top.specs.Ahead.{ahead_of}
 use Rattle.abrlab_top.specs.Answer.{Outcome, printed, unless_stopped}
 
--- the planner's task on one network, for a film on demand
+-- ---- what is asked for
+
+-- the grid with these steps, none where there are none
+abbrev pub grid_in : ℕ → ℕ → Option Grid
+grid_in time value = if time == 0 then None else Some (record { time = time; value = value })
+
+-- what a command asks of `plan`
+abbrev pub options_of : CommandWords → PlanOptions
+options_of c = record { grid = grid_in c.coarse_time c.coarse_value; budget = c.budget; as_certificate = c.as_certificate }
+
+-- within their limits
+pub record AreOptions (o : PlanOptions) : Type 0 where
+  pub grid : IfSome o.grid IsGrid
+  pub budget : IsWithin 1 1000000 o.budget
+
+-- ---- the chains and what is read off them
+
+-- the planner's task on one network, on demand or live
 abbrev pub task_on : InputValues → List Period → Task
-task_on i periods = task_of i.film periods i.setup all_ahead
+task_on i periods = task_of i.film periods i.setup (ahead_of i.live)
 
--- the certificate that is read off the frontiers of a task
-abbrev pub certificate_on : Task → CertificateParts
-certificate_on g = certificate_from exact g (frontier g)
+-- the steps of the planner's grid: without one nothing is rounded
+abbrev pub steps_of : Option Grid → Grid
+steps_of grid = unwrap_or grid exact
 
--- the number of labels in the frontiers of a task
-abbrev pub labels_on : Task → ℕ
-labels_on g = labels_in g (frontier g)
+-- the chains that a plan is read off: the frontiers, or on a grid the coarse frontiers
+abbrev pub chains_on : Option Grid → Task → Chains
+chains_on None g = frontier g
+chains_on (Some d) g = grown d g
+
+-- the certificate that is read off the chains of a task
+abbrev pub certificate_on : Option Grid → Task → CertificateParts
+certificate_on grid g = certificate_from (steps_of grid) g (chains_on grid g)
+
+-- the greatest end value in them
+abbrev pub bound_on : Option Grid → Task → ℤ
+bound_on grid g = bound_of g (chains_on grid g)
+
+-- the number of labels in them
+abbrev pub labels_on : Option Grid → Task → ℕ
+labels_on grid g = labels_in g (chains_on grid g)
 
 -- the first segment at whose end the labels so far are more than the budget
-unfoldable pub spent_on : Task → ℕ → Option ℕ
-spent_on g budget = find (λ i. nat_lt budget (labels_before g (frontier g) (suc i))) (rungs_below (segments_of g.film))
+unfoldable pub spent_on : Option Grid → Task → ℕ → Option ℕ
+spent_on grid g budget = find (λ i. nat_lt budget (labels_before g (chains_on grid g) (suc i))) (rungs_below (segments_of g.film))
+
+-- what planning answers: the plan that is read off the chains, with its bound, or the segment at whose end they spend the budget
+abbrev pub IsPlanned : Option Grid → Task → ℕ → Result CoarsePlan PlanErr → Type 0
+IsPlanned grid g budget (Ok c) = IsPlanOf (steps_of grid) g (chains_on grid g) budget c.plan c.bound
+IsPlanned grid g budget (Err (planned.BudgetSpent segment)) = SpentAt g (chains_on grid g) budget segment
+IsPlanned grid g budget (Err planned.Memory) = Unit {0}
+
+-- ---- texts
 
 -- the three lines of a plan with this score, so many labels and this rung list
 abbrev pub plan_lines : ℤ → ℕ → List ℕ → Text
@@ -42,26 +89,44 @@ plan_lines score labels rungs =
     fields_line (codes "score" ∷ signed_decimal score ∷ [])
     ++ (fields_line (codes "labels" ∷ decimal labels ∷ []) ++ fields_line (codes "plan" ∷ map decimal rungs))
 
--- the text of a certificate, or of the plan in it with so many labels
-abbrev pub parts_text : Bool → CertificateParts → ℕ → Text
-parts_text as_certificate p labels = if as_certificate then spelling p else plan_lines p.score labels p.plan
+-- the line of a bound
+abbrev pub bound_line : ℤ → Text
+bound_line bound = fields_line (codes "bound" ∷ signed_decimal bound ∷ [])
+
+-- the four lines of a plan on a grid, which tell its bound too
+abbrev pub coarse_lines : ℤ → ℤ → ℕ → List ℕ → Text
+coarse_lines score bound labels rungs =
+    fields_line (codes "score" ∷ signed_decimal score ∷ [])
+    ++ (bound_line bound ++ (fields_line (codes "labels" ∷ decimal labels ∷ []) ++ fields_line (codes "plan" ∷ map decimal rungs)))
+
+-- the text of a certificate, or of the plan in it, with this bound and so many labels
+abbrev pub parts_text : Option Grid → Bool → CertificateParts → ℤ → ℕ → Text
+parts_text None as_certificate p bound labels = if as_certificate then spelling p else plan_lines p.score labels p.plan
+parts_text (Some d) as_certificate p bound labels =
+    if as_certificate then gap_spelling (record { bound = bound; inner = p }) else coarse_lines p.score bound labels p.plan
 
 -- the text of the plan of a task, or of its certificate
-abbrev pub plan_text : Bool → Task → Text
-plan_text as_certificate g = parts_text as_certificate (certificate_on g) (labels_on g)
+abbrev pub plan_text : PlanOptions → Task → Text
+plan_text o g = parts_text o.grid o.as_certificate (certificate_on o.grid g) (bound_on o.grid g) (labels_on o.grid g)
 
--- the plan of a task, unless its frontiers spend the budget
-abbrev pub unless_spent : Bool → Task → Option ℕ → Outcome
-unless_spent as_certificate g None = Ok (printed (plan_text as_certificate g))
-unless_spent as_certificate g (Some segment) = Err (ending.Spent segment)
+-- ---- the answer
+
+-- the plan of a task, unless its chains spend the budget
+abbrev pub unless_spent : PlanOptions → Task → Option ℕ → Outcome
+unless_spent o g None = Ok (printed (plan_text o g))
+unless_spent o g (Some segment) = Err (ending.Spent segment)
+
+-- the plan of a task
+abbrev pub planned_on : PlanOptions → Task → Outcome
+planned_on o g = unless_spent o g (spent_on o.grid g o.budget)
 
 -- the answer on this network; a command line of `plan` names one
-abbrev pub plan_on : ℕ → Bool → InputValues → Option (Text × List Period) → Outcome
-plan_on budget as_certificate i (Some network) = do
+abbrev pub plan_on : PlanOptions → InputValues → Option (Text × List Period) → Outcome
+plan_on o i (Some network) = do
   ready ← unless_stopped (settled i)
-  unless_spent as_certificate (task_on ready network.1) (spent_on (task_on ready network.1) budget)
-plan_on budget as_certificate i None = Ok (printed [])
+  planned_on o (task_on ready network.1)
+plan_on o i None = Ok (printed [])
 
--- what `plan` answers, by its budget, whether a certificate is asked for, and its inputs
-unfoldable pub plan : ℕ → Bool → InputValues → Outcome
-plan budget as_certificate i = plan_on budget as_certificate i (slice_get i.networks 0)
+-- what `plan` answers, by what is asked for and its inputs
+unfoldable pub plan : PlanOptions → InputValues → Outcome
+plan o i = plan_on o i (slice_get i.networks 0)

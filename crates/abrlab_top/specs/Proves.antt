@@ -1,5 +1,6 @@
--- THE HEADLINE: what the text of each command proves, at the task that words and files give.
-use Rattle.std.specs.Prelude.{◌≡◌, ◌≤◌, ℕ, ℤ, Bool, List, [], ◌∷◌, length, Some, Ok}
+-- What the text of each command proves, at the task that words and files give, and THE HEADLINE, which this is for command lines without
+-- an option of further reach.
+use Rattle.std.specs.Prelude.{◌≡◌, ◌≤◌, ℕ, ℤ, Bool, false, List, [], ◌∷◌, length, Option, Some, None, Ok, is_some}
 use Rattle.lab_io.specs.Sink.{Text, Grew}
 use Rattle.lab_model.specs.declared.trace.Period.{Period}
 use Rattle.lab_model.specs.Rules.{RuleKind}
@@ -11,19 +12,20 @@ use Rattle.lab_inputs.specs.Files.{Files}
 use Rattle.lab_inputs.specs.Inputs.{InputValues}
 use Rattle.lab_inputs.specs.Settings.{ready_of}
 use Rattle.lab_inputs.specs.Stages.{Tells}
-use Rattle.player_core.specs.State.{Case}
+use Rattle.player_core.specs.Available.{all_ahead}
+use Rattle.player_core.specs.State.{Case, case_of}
 use Rattle.player_core.specs.Session.{session_of}
 use Rattle.labels.specs.Best.{Settles}
-use Rattle.player_core.specs.Scene.{Task}
+use Rattle.player_core.specs.Scene.{Task, task_of}
+use Rattle.labels.specs.declared.label.Grid.{Grid}
 use Rattle.labels.specs.Parts.{CertificateParts}
 use Rattle.labels.specs.Valid.{IsValid}
 use Rattle.labels.specs.declared.verdict.Verdict.TheVariants.{Yes}
-use Rattle.labels.specs.Form.{IsCertificate}
-use Rattle.certificate_text.specs.Reading.{certificate_of}
-use Rattle.certificate_text.specs.Spelling.{spelling}
+use Rattle.certificate_text.specs.Form.{GapParts, IsGapCertificate}
 use Rattle.session_report.specs.Session.{session_text}
 use Rattle.abrlab_top.specs.Check.{verdict_text}
-use Rattle.abrlab_top.specs.Plan.{parts_text, task_on}
+use Rattle.abrlab_top.specs.Claim.{claim_of, claim_text}
+use Rattle.abrlab_top.specs.Plan.{grid_in, parts_text, task_on}
 use Rattle.abrlab_top.specs.Runs.{World}
 use Rattle.abrlab_top.specs.Simulate.{case_on}
 
@@ -33,35 +35,35 @@ use Rattle.abrlab_top.specs.Simulate.{case_on}
 abbrev pub IsSession : Case → Text → Type 0
 IsSession case text = text ≡ session_text (session_of case) case.setup.weights
 
--- the text is a rung list with its score, or the list's certificate. The list has that score for its value: the score of the session in
--- which the millisecond player of the task plays it; no rung list has a value above the bound; the certificate proves it, and a file
--- may hold its text
-pub record IsBest (g : Task) (as_certificate : Bool) (text : Text) : Type 0 where
+-- the text is a rung list with its score, and on a grid with its bound, or the list's certificate. The list has that score for its value:
+-- the score of the session in which the millisecond player of the task plays it; no rung list has a value above the bound; the
+-- certificate proves it, and a file may hold its text
+pub record IsBest (g : Task) (grid : Option Grid) (as_certificate : Bool) (text : Text) : Type 0 where
   pub best : CertificateParts
   pub labels : ℕ
   pub bound : ℤ
   pub settles : Settles g best.plan best.score bound
   pub valid : IsValid g best bound
-  pub form : IsCertificate best
-  pub short : length (spelling best) ≤ 536870912
-  pub is : text ≡ parts_text as_certificate best labels
+  pub form : IsGapCertificate (record { bound = bound; inner = best })
+  pub short : length (claim_text (is_some grid) (record { bound = bound; inner = best })) ≤ 536870912
+  pub is : text ≡ parts_text grid as_certificate best bound labels
 
--- the text is a yes with the score of the certificate that the bytes spell. Its rung list has that score for its value, and no rung list
--- has a value above the bound
-pub record IsYes (g : Task) (bytes text : Text) : Type 0 where
-  pub certificate : CertificateParts
-  pub spelled : certificate_of bytes ≡ Ok certificate
-  pub bound : ℤ
-  pub settles : Settles g certificate.plan certificate.score bound
-  pub is : text ≡ verdict_text certificate.score Yes
+-- the text is a yes with the score of the certificate that the bytes spell, and of a gap certificate with its bound. Its rung list has that
+-- score for its value, and no rung list has a value above the bound
+pub record IsYes (g : Task) (gap : Bool) (bytes text : Text) : Type 0 where
+  pub claim : GapParts
+  pub spelled : claim_of gap bytes ≡ Ok claim
+  pub settles : Settles g claim.inner.plan claim.inner.score claim.bound
+  pub is : text ≡ verdict_text gap claim.inner.score claim.bound Yes
 
 -- ---- what a run proves that answered 0
 
--- the files of the command were read and its settings fit; on its one network, of which this holds; `out` has grown by exactly the text of
--- which it says it, and `err` is as before
+-- the files of the command were read and its settings fit, and it is about a live film just where the words say so; on its one network, of
+-- which this holds, `out` has grown by exactly the text of which it says it, and `err` is as before
 pub record Proves (c : CommandWords) (files : Files) (OfText : InputValues → List Period → Text → Type 0) (old new : World) : Type 0 where
   pub inputs : InputValues
   pub read : ready_of c files ≡ Ok inputs
+  pub live : inputs.live ≡ c.live
   pub network : Text × List Period
   pub one_network : inputs.networks ≡ network ∷ []
   pub text : Text
@@ -78,10 +80,37 @@ WhereDone v OfText line old result new =
 abbrev pub Simulates : List Text → World → ℕ → World → Type 0
 Simulates = WhereDone verb.Simulate (λ c i periods text. (rule : Text × RuleKind) × (i.rules ≡ rule ∷ []) × IsSession (case_on i periods rule.1) text)
 
--- of `plan`: the best rung list, whose score is the bound
+-- of `plan`: a rung list and a bound; without a grid this is the list's own score, so no list is better
 abbrev pub PlansTheBest : List Text → World → ℕ → World → Type 0
-PlansTheBest = WhereDone verb.Plan (λ c i periods text. (p : IsBest (task_on i periods) c.as_certificate text) × (p.bound ≡ p.best.score))
+PlansTheBest =
+    WhereDone verb.Plan (λ c i periods text. (p : IsBest (task_on i periods) (grid_in c.coarse_time c.coarse_value) c.as_certificate text) × (c.coarse_time ≡ 0 → p.bound ≡ p.best.score))
 
--- of `check`: a yes, and the certificate's score is the bound
+-- of `check`: a yes; the bound is that of the gap certificate, or the certificate's own score
 abbrev pub SaysYesSoundly : List Text → World → ℕ → World → Type 0
-SaysYesSoundly = WhereDone verb.Check (λ c i periods text. (p : IsYes (task_on i periods) i.certificate text) × (p.bound ≡ p.certificate.score))
+SaysYesSoundly = WhereDone verb.Check (λ c i periods text. (p : IsYes (task_on i periods) c.gap i.certificate text) × (c.gap ≡ false → p.claim.bound ≡ p.claim.inner.score))
+
+-- ---- THE HEADLINE
+
+-- a command line without an option of further reach
+pub record IsPlain (c : CommandWords) : Type 0 where
+  pub on_demand : c.live ≡ None
+  pub exact : c.coarse_time ≡ 0
+  pub no_gap : c.gap ≡ false
+
+-- where such words ask for this command and the run answers 0, over told files it proves this
+abbrev pub WherePlain : Verb → (CommandWords → InputValues → List Period → Text → Type 0) → List Text → World → ℕ → World → Type 0
+WherePlain v OfText line old result new =
+    (c : CommandWords) (files : Files) → command_of line ≡ Some c → c.verb ≡ v → IsPlain c → Tells old.shelf files → result ≡ 0 → Proves c files (OfText c) old new
+
+-- the player's task of a film on demand
+abbrev pub on_demand : InputValues → List Period → Task
+on_demand i periods = task_of i.film periods i.setup all_ahead
+
+-- for every command line without an option of further reach, and files, where the run answers 0: `simulate` prints the session of the
+-- millisecond player under the named rule, abandonment and seeks; `plan` prints a rung list which that player, without abandonment or
+-- seeks, scores at the printed value, and no rung list of the manifest scores more; `check` says yes only to certificates that prove
+-- this of theirs
+pub record Headline (line : List Text) (old : World) (result : ℕ) (new : World) : Type 0 where
+  pub simulates : WherePlain verb.Simulate (λ c i periods text. (rule : Text × RuleKind) × (i.rules ≡ rule ∷ []) × IsSession (case_of i.film periods i.setup i.seeks all_ahead rule.1) text) line old result new
+  pub plans : WherePlain verb.Plan (λ c i periods text. (p : IsBest (on_demand i periods) None c.as_certificate text) × (p.bound ≡ p.best.score)) line old result new
+  pub checks : WherePlain verb.Check (λ c i periods text. (p : IsYes (on_demand i periods) false i.certificate text) × (p.claim.bound ≡ p.claim.inner.score)) line old result new

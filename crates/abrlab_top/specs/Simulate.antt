@@ -7,15 +7,15 @@ use Rattle.lab_model.specs.Rules.{RuleKind}
 use Rattle.lab_model.specs.Steps.{◌>>=◌}
 use Rattle.lab_inputs.specs.Inputs.{InputValues}
 use Rattle.lab_inputs.specs.Settings.{settled}
-use Rattle.player_core.specs.Available.{all_ahead}
 use Rattle.player_core.specs.State.{Case, case_of}
 use Rattle.player_core.specs.Session.{session_of}
 use Rattle.session_report.specs.Session.{session_text}
+use Rattle.abrlab_top.specs.Ahead.{ahead_of}
 use Rattle.abrlab_top.specs.Answer.{Outcome, printed, unless_stopped}
 
--- the case of a film on demand that a command plays on one network under one rule
+-- the case that a command plays on one network under one rule, on demand or live
 abbrev pub case_on : InputValues → List Period → RuleKind → Case
-case_on i periods rule = case_of i.film periods i.setup i.seeks all_ahead rule
+case_on i periods rule = case_of i.film periods i.setup i.seeks (ahead_of i.live) rule
 
 -- the text of the session of a network under a rule
 abbrev pub session_on : InputValues → List Period → RuleKind → Text

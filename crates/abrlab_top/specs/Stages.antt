@@ -84,17 +84,17 @@ abbrev pub bad_line : InputFault → Ending
 bad_line Memory = ending.NoMemory
 bad_line (Refused why) = ending.Stopped (stop.File role.Certificate (fault.Refused why))
 
--- the answer that says a judgement
-abbrev pub judged : Judgement → Answer
-judged j = told_verdict j.score j.verdict
+-- the answer that says a judgement on a certificate, plain or with a gap
+abbrev pub judged : Bool → Judgement → Answer
+judged gap j = told_verdict gap j.score j.bound j.verdict
 
 -- what judging gave: the answer of the command, or the stop that comes first
-abbrev pub Judges : InputValues → Result Judgement Ending → Type 0
-Judges i (Ok j) = check i ≡ Ok (judged j)
-Judges i (Err ending.Done) = ⊥
-Judges i (Err ending.Invalid) = ⊥
-Judges i (Err ending.Usage) = ⊥
-Judges i (Err (ending.Stopped why)) = IsLate true why × (check i ≡ Err (ending.Stopped why))
-Judges i (Err (ending.Spent segment)) = ⊥
-Judges i (Err ending.OutputFailed) = ⊥
-Judges i (Err ending.NoMemory) = Unit {0}
+abbrev pub Judges : Bool → InputValues → Result Judgement Ending → Type 0
+Judges gap i (Ok j) = check gap i ≡ Ok (judged gap j)
+Judges gap i (Err ending.Done) = ⊥
+Judges gap i (Err ending.Invalid) = ⊥
+Judges gap i (Err ending.Usage) = ⊥
+Judges gap i (Err (ending.Stopped why)) = IsLate true why × (check gap i ≡ Err (ending.Stopped why))
+Judges gap i (Err (ending.Spent segment)) = ⊥
+Judges gap i (Err ending.OutputFailed) = ⊥
+Judges gap i (Err ending.NoMemory) = Unit {0}

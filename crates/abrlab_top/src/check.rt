@@ -1,6 +1,6 @@
 //! `check`: the verdict on anybody's certificate.
 
-ghost use Rattle.std.specs.Prelude.{◌≡◌, List, Some, Ok, Err};
+ghost use Rattle.std.specs.Prelude.{◌≡◌, IfOk, List, Some, Ok, Err};
 ghost use Rattle.std.specs.List.{slice_get};
 ghost use Rattle.lab_io.specs.Piece.{fields_line};
 ghost use Rattle.lab_io.specs.Sink.{Puts, Text};
@@ -12,15 +12,18 @@ ghost use Rattle.lab_inputs.specs.Inputs.{InputValues};
 ghost use Rattle.lab_inputs.specs.Roles.{film_files};
 ghost use Rattle.lab_inputs.specs.Settings.{Fits, settled};
 ghost use Rattle.lab_inputs.specs.Stages.{network_of};
-ghost use Rattle.certificate_text.specs.Walk.{IsBegun, begun};
-ghost use Rattle.abrlab_top.specs.Check.{check, place_fields, verdict_ending, verdict_text};
+ghost use Rattle.lab_model.specs.Reading.{Gives};
+ghost use Rattle.certificate_text.specs.Walk.{IsBegun};
+ghost use Rattle.abrlab_top.specs.Claim.{claim_begun};
+ghost use Rattle.abrlab_top.specs.Check.{check, place_fields, verdict_ending, verdict_text, yes_line};
 ghost use Rattle.abrlab_top.specs.Ending.{ended};
 ghost use Rattle.abrlab_top.specs.Outcome.{about};
 ghost use Rattle.abrlab_top.specs.Runs.{Ends};
 ghost use Rattle.abrlab_top.specs.Stages.{Judges, Writes, bad_line, of_a_check};
 
+use crate::ahead::media_ahead;
 use crate::ending::Ending;
-use certificate_check::{Verdict, check_lines};
+use certificate_check::{Verdict, check_lines_from};
 use certificate_text::Lines;
 use lab_inputs::{FileFault, Inputs, Network, Role, Stop, read_inputs};
 use lab_io::Piece::{Number, Word};
@@ -30,11 +33,13 @@ use lab_words::Command;
 use network_clock::Clock;
 use std::alloc::Global;
 
-/// A certificate's score, and the verdict on it.
+/// What a certificate claims, and the verdict on it.
 #[derive(Clone, Copy)]
 pub(crate) struct Judgement {
-    /// The score that it claims, in thousandths of a point.
+    /// The score of its rung list, in thousandths of a point.
     pub score: i128,
+    /// What no rung list is to have more than, in thousandths of a point.
+    pub bound: i128,
     pub verdict: Verdict,
 }
 
@@ -50,32 +55,53 @@ fn bad_line(fault: InputFault) -> Ending
     }
 }
 
+/// The lines of a certificate, plain or with a gap, behind those before its first layer.
+fn begin(alloc: Global, gap: bool, bytes: &[u8]) -> Result<Lines<'_>, InputFault>
+    ensures walk { Gives (λ lines. lines) result (claim_begun gap bytes.now) }
+    ensures begun { IfOk result IsBegun }
+{
+    if gap {
+        Lines::begin_gap(alloc, bytes)
+    } else {
+        Lines::begin(alloc, bytes)
+    }
+}
+
 /// The verdict of lines that have just begun, on this network.
 fn judge_lines(
     alloc: Global,
     inputs: &Inputs,
     network: &Network,
+    gap: bool,
     lines: Lines<'_>,
 ) -> Result<Judgement, Ending>
     requires network { slice_get inputs.now.networks 0 ≡ Some (network_of network.now) }
     requires settled { settled inputs.now ≡ Ok inputs.now }
     requires fits { Fits inputs.now }
     requires lines { IsBegun lines }
-    requires certificate { begun inputs.now.certificate ≡ Ok lines }
-    ensures { Judges inputs.now result }
+    requires certificate { claim_begun gap inputs.now.certificate ≡ Ok lines }
+    ensures { Judges gap inputs.now result }
 {
     let clock = Clock::new(alloc, &network.trace)?;
     let score = lines.score();
-    match check_lines(inputs.manifest(), &clock, inputs.setup(), lines) {
-        Ok(verdict) => Ok(Judgement { score, verdict }),
+    let bound = lines.bound();
+    let (film, setup) = (inputs.manifest(), inputs.setup());
+    match check_lines_from(film, &clock, setup, media_ahead(inputs), lines, bound) {
+        Ok(verdict) => Ok(Judgement {
+            score,
+            bound,
+            verdict,
+        }),
         Err(fault) => Err(bad_line(fault)),
     }
 }
 
 /// How a setting that does not fit ends the command: a bad line of the certificate comes first.
-fn misfit_behind(lines: Lines<'_>, why: Stop) -> Ending
+fn misfit_behind(gap: bool, lines: Lines<'_>, why: Stop) -> Ending
     ensures { (i : InputValues) → (n : Text × List Period) → slice_get i.networks 0 ≡ Some n
-        → settled i ≡ Err why → begun i.certificate ≡ Ok lines.entry → Judges i (Err result) }
+        → settled i ≡ Err why
+        → claim_begun gap i.certificate ≡ Ok lines.entry
+        → Judges gap i (Err result) }
 {
     match lines.read_rest() {
         Ok(()) => Ending::Stopped(why),
@@ -84,17 +110,17 @@ fn misfit_behind(lines: Lines<'_>, why: Stop) -> Ending
 }
 
 /// The verdict on the certificate, on this network.
-fn judge(alloc: Global, inputs: &Inputs, network: &Network) -> Result<Judgement, Ending>
+fn judge(alloc: Global, inputs: &Inputs, network: &Network, gap: bool) -> Result<Judgement, Ending>
     requires network { slice_get inputs.now.networks 0 ≡ Some (network_of network.now) }
-    ensures { Judges inputs.now result }
+    ensures { Judges gap inputs.now result }
 {
-    let lines = match Lines::begin(alloc, inputs.certificate()) {
+    let lines = match begin(alloc, gap, inputs.certificate()) {
         Ok(lines) => lines,
         Err(fault) => return Err(bad_line(fault)),
     };
     match inputs.fit() {
-        Ok(()) => judge_lines(alloc, inputs, network, lines),
-        Err(stop) => Err(misfit_behind(lines, stop)),
+        Ok(()) => judge_lines(alloc, inputs, network, gap, lines),
+        Err(stop) => Err(misfit_behind(gap, lines, stop)),
     }
 }
 
@@ -123,12 +149,33 @@ fn put_failure<O: Sink>(
     )
 }
 
-/// Says yes, with the score, or no, with the first failing clause and its place.
-fn put_judgement<O: Sink>(out: &mut O, said: Judgement) -> Result<(), PutErr>
-    ensures { Puts (O.seen out.old) (verdict_text said.score said.verdict) (O.seen out.new) result }
+/// Says yes, with the score, and to a gap certificate with the bound.
+fn put_yes<O: Sink>(out: &mut O, gap: bool, score: i128, bound: i128) -> Result<(), PutErr>
+    ensures { Puts (O.seen out.old) (yes_line gap score bound) (O.seen out.new) result }
+{
+    if gap {
+        put_fields(
+            out,
+            &[
+                Word("yes"),
+                Word("score"),
+                Number(score),
+                Word("bound"),
+                Number(bound),
+            ],
+        )
+    } else {
+        put_fields(out, &[Word("yes"), Word("score"), Number(score)])
+    }
+}
+
+/// Says yes, or no, with the first failing clause and its place.
+fn put_judgement<O: Sink>(out: &mut O, gap: bool, said: Judgement) -> Result<(), PutErr>
+    ensures { Puts (O.seen out.old)
+        (verdict_text gap said.score said.bound said.verdict) (O.seen out.new) result }
 {
     match said.verdict {
-        Verdict::Yes => put_fields(out, &[Word("yes"), Word("score"), Number(said.score)]),
+        Verdict::Yes => put_yes(out, gap, said.score, said.bound),
         Verdict::No {
             clause,
             segment,
@@ -152,15 +199,20 @@ fn verdict_end(verdict: Verdict) -> Result<(), Ending>
 }
 
 /// Checks the certificate and writes the verdict.
-fn write_verdict<O: Sink>(alloc: Global, inputs: &Inputs, out: &mut O) -> Result<(), Ending>
-    ensures { Writes of_a_check (check inputs.now)
+fn write_verdict<O: Sink>(
+    alloc: Global,
+    inputs: &Inputs,
+    gap: bool,
+    out: &mut O,
+) -> Result<(), Ending>
+    ensures { Writes of_a_check (check gap inputs.now)
         (O.seen out.old) (ended result) (O.seen out.new) }
 {
     let Some(network) = inputs.network() else {
         return Ok(());
     };
-    let said = judge(alloc, inputs, network)?;
-    put_judgement(out, said)?;
+    let said = judge(alloc, inputs, network, gap)?;
+    put_judgement(out, gap, said)?;
     verdict_end(said.verdict)
 }
 
@@ -173,10 +225,12 @@ pub(crate) fn check<F: Shelf, O: Sink>(
 ) -> Result<(), Ending>
     requires limits { IsWithinLimits (view command) }
     requires verb { (view command).verb ≡ verb.Check }
-    ensures { Ends (film_files (view command)) of_a_check (about check (view command))
+    ensures { Ends (film_files (view command)) of_a_check
+        (about (check (view command).gap) (view command))
         (F.shelved shelf.old) (O.seen out.old) (ended result)
         (F.shelved shelf.new) (O.seen out.new) }
 {
+    let gap = command.gap;
     let inputs = read_inputs(alloc, shelf, command)?;
-    write_verdict(alloc, &inputs, out)
+    write_verdict(alloc, &inputs, gap, out)
 }

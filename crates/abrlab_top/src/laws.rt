@@ -18,8 +18,8 @@ pub fn runs_are_complete()
     ensures { RunsAreComplete }
 {}
 
-/// `check` says yes to what `plan --as-certificate` printed whole, where both read the same film, network and setup, or it
-/// ends with 4, 5 or 9.
+/// `check` says yes to what `plan --as-certificate` printed whole, and `check --gap` where that was on a grid, where both read
+/// the same film, network and setup with as much media ahead, or it ends with 4, 5 or 9.
 pub fn plans_are_accepted()
     ensures { RunsAreAccepted }
 {}

@@ -1,6 +1,7 @@
 //! The whole run of a command line: from its words and files to a status, a text and a note.
 #![tactic(auto)]
 
+mod ahead;
 mod check;
 mod command;
 mod compare;
@@ -16,7 +17,7 @@ mod simulate;
 ghost use Rattle.std.specs.Prelude.{◌≡◌, map, string_bytes};
 ghost use Rattle.abrlab_top.specs.declared.ending.Ending.{Ending};
 ghost use Rattle.abrlab_top.specs.Ending.{status_of};
-ghost use Rattle.abrlab_top.specs.Proves.{PlansTheBest, SaysYesSoundly, Simulates};
+ghost use Rattle.abrlab_top.specs.Proves.{Headline, PlansTheBest, SaysYesSoundly, Simulates};
 ghost use Rattle.abrlab_top.specs.Runs.{Runs, world};
 
 use crate::command::run_command;
@@ -49,7 +50,7 @@ pub fn run<F: Shelf, O: Sink, E: Sink>(
     ensures runs { (e : Ending) × (result ≡ status_of e) × Runs (map string_bytes words.now)
         (world (F.shelved shelf.old) (O.seen out.old) (E.seen err.old))
         e (world (F.shelved shelf.new) (O.seen out.new) (E.seen err.new)) }
-    // What its text proves where it answers 0.
+    // What its text proves where it answers 0, at the task that words and files give.
     ensures simulates { Simulates (map string_bytes words.now)
         (world (F.shelved shelf.old) (O.seen out.old) (E.seen err.old))
         result
@@ -59,6 +60,11 @@ pub fn run<F: Shelf, O: Sink, E: Sink>(
         result
         (world (F.shelved shelf.new) (O.seen out.new) (E.seen err.new)) }
     ensures checks { SaysYesSoundly (map string_bytes words.now)
+        (world (F.shelved shelf.old) (O.seen out.old) (E.seen err.old))
+        result
+        (world (F.shelved shelf.new) (O.seen out.new) (E.seen err.new)) }
+    // The same for command lines without an option of further reach.
+    ensures headline { Headline (map string_bytes words.now)
         (world (F.shelved shelf.old) (O.seen out.old) (E.seen err.old))
         result
         (world (F.shelved shelf.new) (O.seen out.new) (E.seen err.new)) }

@@ -1,29 +1,31 @@
-//! `plan`: the best rung list that the network allowed, or its certificate.
+//! `plan`: the best rung list that the network allowed, or on a grid one with a bound; or its certificate.
 
-ghost use Rattle.std.specs.Prelude.{◌≡◌, ◌∷◌, [], codes};
+ghost use Rattle.std.specs.Prelude.{◌≡◌, ◌≤◌, ◌∷◌, [], IfSome, None, Some, codes};
 ghost use Rattle.std.specs.Fmt.{decimal};
 ghost use Rattle.lab_io.specs.Piece.{fields_line};
 ghost use Rattle.lab_io.specs.Sink.{Puts};
 ghost use Rattle.lab_words.specs.declared.Verb.TheVariants as verb;
 ghost use Rattle.lab_words.specs.Command.{view};
 ghost use Rattle.lab_words.specs.Limits.{IsWithinLimits};
-ghost use Rattle.lab_model.specs.Film.{IsWithin};
 ghost use Rattle.lab_model.specs.Fit.{SetupFits};
-ghost use Rattle.player_core.specs.Available.{all_ahead};
 ghost use Rattle.player_core.specs.Scene.{IsTask, task_of};
 ghost use Rattle.labels.specs.Parts.{plan_parts};
-ghost use Rattle.frontier_planner.specs.Planned.{PlanAnswer};
-ghost use Rattle.labels.specs.Form.{IsCertificate};
+ghost use Rattle.labels.specs.Grid.{IsGrid};
+ghost use Rattle.labels.specs.declared.label.Grid.{Grid};
+ghost use Rattle.certificate_text.specs.Form.{IsGapCertificate};
+ghost use Rattle.gap_plan.specs.Gap.{plan_gap};
 ghost use Rattle.lab_inputs.specs.Roles.{film_files};
 ghost use Rattle.abrlab_top.specs.Ending.{ended};
 ghost use Rattle.abrlab_top.specs.Outcome.{about};
-ghost use Rattle.abrlab_top.specs.Plan.{parts_text, plan, plan_lines};
+ghost use Rattle.abrlab_top.specs.Plan.{AreOptions, IsPlanned, bound_line, coarse_lines, grid_in, options_of, parts_text, plan, plan_lines, steps_of};
 ghost use Rattle.abrlab_top.specs.Runs.{Ends};
 ghost use Rattle.abrlab_top.specs.Stages.{Writes, at_the_end};
 
+use crate::ahead::media_ahead;
 use crate::ending::Ending;
 use certificate_text::{put_plan, put_score, write_certificate};
-use frontier_planner::{Plan, PlanErr};
+use frontier_planner::{CoarsePlan, Grid, Plan, PlanErr, plan_from};
+use gap_plan::write_gap;
 use lab_inputs::{Inputs, read_inputs};
 use lab_io::Piece::{Number, Word};
 use lab_io::{PutErr, Shelf, Sink, put_fields};
@@ -31,6 +33,59 @@ use lab_model::{Manifest, Setup};
 use lab_words::Command;
 use network_clock::Clock;
 use std::alloc::Global;
+
+/// The grid on which nothing changes.
+const EXACT: Grid = Grid { time: 1, value: 1 };
+
+/// What is asked of `plan`.
+#[derive(Clone, Copy)]
+pub(crate) struct PlanOptions {
+    /// The grid of a coarse plan.
+    pub grid: Option<Grid>,
+    /// The most labels, 1 to 1000000.
+    pub budget: u32,
+    /// Whether the certificate is to be written.
+    pub as_certificate: bool,
+}
+
+/// The grid with these steps, none where there are none.
+fn grid_in(time: u32, value: u32) -> Option<Grid>
+    ensures { result ≡ grid_in time value }
+{
+    if time == 0 {
+        None
+    } else {
+        Some(Grid { time, value })
+    }
+}
+
+impl PlanOptions {
+    /// What a command asks for.
+    fn of(command: &Command) -> PlanOptions
+        requires limits { IsWithinLimits (view command.now) }
+        requires verb { (view command.now).verb ≡ verb.Plan }
+        ensures value { result ≡ options_of (view command.now) }
+        ensures within { AreOptions result }
+    {
+        PlanOptions {
+            grid: grid_in(command.coarse_time, command.coarse_value),
+            budget: command.budget,
+            as_certificate: command.as_certificate,
+        }
+    }
+}
+
+/// The steps of the planner's grid: without one nothing is rounded.
+fn steps_of(grid: Option<Grid>) -> Grid
+    requires { IfSome grid IsGrid }
+    ensures value { result ≡ steps_of grid }
+    ensures within { IsGrid result }
+{
+    match grid {
+        Some(grid) => grid,
+        None => EXACT,
+    }
+}
 
 /// Writes the line of the number of labels.
 fn put_labels<O: Sink>(out: &mut O, labels: u32) -> Result<(), PutErr>
@@ -50,52 +105,113 @@ fn put_lines<O: Sink>(out: &mut O, plan: &Plan) -> Result<(), PutErr>
     put_plan(out, &plan.rungs)
 }
 
-/// Writes a plan, or its certificate.
-fn put_answer<O: Sink>(
+/// Writes the line of a bound.
+fn put_bound<O: Sink>(out: &mut O, bound: i128) -> Result<(), PutErr>
+    ensures { Puts (O.seen out.old) (bound_line bound) (O.seen out.new) result }
+{
+    put_fields(out, &[Word("bound"), Number(bound)])
+}
+
+/// Writes the four lines of a plan on a grid.
+fn put_coarse_lines<O: Sink>(out: &mut O, coarse: &CoarsePlan) -> Result<(), PutErr>
+    ensures { Puts (O.seen out.old) (coarse_lines coarse.now.plan.score coarse.now.bound
+        coarse.now.plan.labels coarse.now.plan.rungs.items) (O.seen out.new) result }
+{
+    put_score(out, coarse.plan.score)?;
+    put_bound(out, coarse.bound)?;
+    put_labels(out, coarse.plan.labels)?;
+    put_plan(out, &coarse.plan.rungs)
+}
+
+/// Writes a plan without a grid, or its certificate.
+fn put_exact<O: Sink>(
     out: &mut O,
     m: &Manifest,
-    plan: &Plan,
+    planned: &CoarsePlan,
     as_certificate: bool,
 ) -> Result<(), PutErr>
-    requires form { IsCertificate (plan_parts m.now plan.now) }
+    requires form { IsGapCertificate (plan_gap m.now planned.now) }
     ensures { Puts (O.seen out.old)
-        (parts_text as_certificate (plan_parts m.now plan.now) plan.now.labels)
+        (parts_text None as_certificate (plan_parts m.now planned.now.plan)
+        planned.now.bound planned.now.plan.labels)
         (O.seen out.new) result }
 {
     if as_certificate {
-        write_certificate(m, plan, out)
+        write_certificate(m, &planned.plan, out)
     } else {
-        put_lines(out, plan)
+        put_lines(out, &planned.plan)
     }
 }
 
-/// The plan of a film on demand.
+/// Writes a plan on a grid, or its gap certificate.
+fn put_coarse<O: Sink>(
+    out: &mut O,
+    m: &Manifest,
+    planned: &CoarsePlan,
+    as_certificate: bool,
+) -> Result<(), PutErr>
+    requires form { IsGapCertificate (plan_gap m.now planned.now) }
+    ensures { (d : Grid) → Puts (O.seen out.old)
+        (parts_text (Some d) as_certificate (plan_parts m.now planned.now.plan)
+        planned.now.bound planned.now.plan.labels)
+        (O.seen out.new) result }
+{
+    if as_certificate {
+        write_gap(m, planned, out)
+    } else {
+        put_coarse_lines(out, planned)
+    }
+}
+
+/// Writes what is asked for of a plan.
+fn put_answer<O: Sink>(
+    out: &mut O,
+    m: &Manifest,
+    planned: &CoarsePlan,
+    options: PlanOptions,
+) -> Result<(), PutErr>
+    requires form { IsGapCertificate (plan_gap m.now planned.now) }
+    ensures { Puts (O.seen out.old)
+        (parts_text options.grid options.as_certificate (plan_parts m.now planned.now.plan)
+        planned.now.bound planned.now.plan.labels)
+        (O.seen out.new) result }
+{
+    match options.grid {
+        Some(_) => put_coarse(out, m, planned, options.as_certificate),
+        None => put_exact(out, m, planned, options.as_certificate),
+    }
+}
+
+/// The plan where so much media is ahead.
 fn plan_on(
     alloc: Global,
     m: &Manifest,
     clock: &Clock,
     set: &Setup,
-    budget: u32,
-) -> Result<Plan, PlanErr>
+    ahead: u32,
+    options: PlanOptions,
+) -> Result<CoarsePlan, PlanErr>
     requires setup { SetupFits set.now m.now }
-    requires budget { IsWithin 1 1000000 budget }
-    ensures answer { PlanAnswer (task_of m.now clock.now set.now all_ahead) budget result }
-    ensures task { IsTask (task_of m.now clock.now set.now all_ahead) }
+    requires ahead { ahead ≤ 120000000 }
+    requires options { AreOptions options }
+    ensures answer { IsPlanned options.grid (task_of m.now clock.now set.now ahead)
+        options.budget result }
+    ensures task { IsTask (task_of m.now clock.now set.now ahead) }
 {
     prove!(m.segments() > 0 && set.weights.count() > 0 && !clock.periods().is_empty());
-    frontier_planner::plan(alloc, m, clock, set, budget)
+    let steps = steps_of(options.grid);
+    plan_from(alloc, m, clock, set, ahead, steps, options.budget)
 }
 
 /// Plans and writes the plan, or its certificate.
 fn write_plan<O: Sink>(
     alloc: Global,
     inputs: &Inputs,
-    budget: u32,
-    as_certificate: bool,
+    options: PlanOptions,
     out: &mut O,
 ) -> Result<(), Ending>
-    requires budget { IsWithin 1 1000000 budget }
-    ensures { Writes at_the_end (plan budget as_certificate inputs.now)
+    requires options { AreOptions options }
+    ensures { Writes at_the_end (plan options inputs.now)
         (O.seen out.old) (ended result) (O.seen out.new) }
 {
     let Some(network) = inputs.network() else {
@@ -103,8 +219,9 @@ fn write_plan<O: Sink>(
     };
     inputs.fit()?;
     let clock = Clock::new(alloc, &network.trace)?;
-    let plan = plan_on(alloc, inputs.manifest(), &clock, inputs.setup(), budget)?;
-    Ok(put_answer(out, inputs.manifest(), &plan, as_certificate)?)
+    let (film, setup) = (inputs.manifest(), inputs.setup());
+    let planned = plan_on(alloc, film, &clock, setup, media_ahead(inputs), options)?;
+    Ok(put_answer(out, film, &planned, options)?)
 }
 
 /// Reads the files, plans and writes the plan.
@@ -117,11 +234,11 @@ pub(crate) fn plan<F: Shelf, O: Sink>(
     requires limits { IsWithinLimits (view command) }
     requires verb { (view command).verb ≡ verb.Plan }
     ensures { Ends (film_files (view command)) at_the_end
-        (about (plan (view command).budget (view command).as_certificate) (view command))
+        (about (plan (options_of (view command))) (view command))
         (F.shelved shelf.old) (O.seen out.old) (ended result)
         (F.shelved shelf.new) (O.seen out.new) }
 {
-    let (budget, as_certificate) = (command.budget, command.as_certificate);
+    let options = PlanOptions::of(&command);
     let inputs = read_inputs(alloc, shelf, command)?;
-    write_plan(alloc, &inputs, budget, as_certificate, out)
+    write_plan(alloc, &inputs, options, out)
 }

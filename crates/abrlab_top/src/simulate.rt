@@ -1,4 +1,4 @@
-//! `simulate`: the session of one network and one rule.
+//! `simulate`: the session of one network and one rule, on demand or live.
 
 ghost use Rattle.lab_words.specs.Command.{view};
 ghost use Rattle.lab_words.specs.Limits.{HasFilm, IsWithinLimits};
@@ -9,13 +9,14 @@ ghost use Rattle.abrlab_top.specs.Runs.{Ends};
 ghost use Rattle.abrlab_top.specs.Simulate.{simulate};
 ghost use Rattle.abrlab_top.specs.Stages.{Writes, at_the_end};
 
+use crate::ahead::media_ahead;
 use crate::ending::Ending;
 use crate::rule::any_rule;
 use lab_inputs::{Inputs, read_inputs};
 use lab_io::{Shelf, Sink};
 use lab_words::Command;
 use network_clock::Clock;
-use player_core::play;
+use player_core::play_from;
 use session_report::write_session;
 use std::alloc::Global;
 
@@ -33,12 +34,13 @@ fn write_simulation<O: Sink>(alloc: Global, inputs: &Inputs, out: &mut O) -> Res
     inputs.fit()?;
     let clock = Clock::new(alloc, &network.trace)?;
     let rule = any_rule(alloc, &rule.rule)?;
-    let session = play(
+    let session = play_from(
         alloc,
         inputs.manifest(),
         &clock,
         inputs.setup(),
         inputs.seeks(),
+        media_ahead(inputs),
         rule,
     )?;
     Ok(write_session(&session, &inputs.setup().weights, out)?)

@@ -12,10 +12,11 @@ use Rattle.lab_model.specs.declared.label.Label.{Label}
 use Rattle.lab_io.specs.Sink.{Text}
 use Rattle.lab_io.specs.Piece.{fields_line, later_fields}
 use Rattle.labels.specs.Parts.{CertificateParts, ChainParts}
+use Rattle.certificate_text.specs.Form.{GapParts, IsGapCertificate}
 use Rattle.labels.specs.Form.{HasDigits, HasSignedDigits, AreChains, IsCertificate, IsHead, IsSpelled, label_count, names_per}
 use Rattle.certificate_text.specs.Line.{fields_of}
-use Rattle.certificate_text.specs.Grammar.{end_line, plan_line, rungs_line, score_line, segments_line, start_line}
-use Rattle.certificate_text.specs.Spelling.{chain_lines, chains_lines, head_lines, label_fields, label_lines, layer_fields, lines_text, spelling, table_lines, version_fields, version_number}
+use Rattle.certificate_text.specs.Grammar.{bound_line, end_line, gap_line, plan_line, rungs_line, score_line, segments_line, start_line}
+use Rattle.certificate_text.specs.Spelling.{chain_lines, chains_lines, head_lines, label_fields, gap_lines, gap_spelling, label_lines, layer_fields, lines_text, spelling, table_lines, version_fields, version_number}
 use Rattle.certificate_text.proofs.Texts.{spelling_parts}
 
 -- the most bytes of a certificate's text that a program has to take
@@ -186,9 +187,9 @@ head_short c h =
     let w = lines_more starts [] in
     omega (arith, many, high, long, wide, a, b, d, e, f, p, s, one, two, x, y, z, u, v, w)
 
--- the text of a certificate is within that
-pub spelling_fits : (c : CertificateParts) → IsCertificate c → length (spelling c) ≤ most_bytes
-spelling_fits c form =
+-- the text of a certificate is well within that
+spelling_short : (c : CertificateParts) → IsCertificate c → length (spelling c) ≤ 500000000
+spelling_short c form =
     let head = lines_text (head_lines c) in
     let chains = lines_text (chains_lines c.segments c.rungs 0 c.chains) in
     let few = at_most c.segments c.rungs form.head.segments.1 form.head.rungs.1 in
@@ -203,3 +204,34 @@ spelling_fits c form =
   where
     at_most : (n r : ℕ) → n ≤ 2000 → r ≤ 16 → n * r ≤ 32000
     at_most n r a b = grind (arith, a, b)
+
+-- so the text of a certificate is within that
+pub spelling_fits : (c : CertificateParts) → IsCertificate c → length (spelling c) ≤ most_bytes
+spelling_fits c form = let l = spelling_short c form in omega (arith, l)
+
+bound_short : (z : ℤ) → HasSignedDigits 24 z → length (fields_line (fields_of bound_line (z, tt))) ≤ 32
+bound_short z h =
+    let d = signed_short 24 z (omega arith) (omega arith) h in
+    let a = first_field (codes "bound") (signed_decimal z ∷ []) in
+    let b = one_field (signed_decimal z) [] in
+    omega (arith, d, a, b)
+
+-- and so is that of a gap certificate
+pub gap_fits : (c : GapParts) → IsGapCertificate c → length (gap_spelling c) ≤ most_bytes
+gap_fits c form =
+    let bound = fields_of bound_line (c.bound, tt) in
+    let l = spelling_short c.inner form.inner in
+    let b = bound_short c.bound form.bound in
+    let whole = length-append (lines_text (gap_lines c.bound)) (spelling c.inner) in
+    let x = lines_more (fields_of gap_line tt) (bound ∷ []) in
+    let y = lines_more bound [] in
+    let first : length (fields_line (fields_of gap_line tt)) ≤ 27 = gap_short in
+    omega (arith, l, b, whole, x, y, first)
+  where
+    gap_short : length (fields_line (fields_of gap_line tt)) ≤ 27
+    gap_short =
+        let d = digits_short 7 1 (omega arith) (omega arith) (lit≤ tt) in
+        let a = first_field (codes "abrlab") (codes "gap" ∷ decimal 1 ∷ []) in
+        let e = one_field (codes "gap") (decimal 1 ∷ []) in
+        let f = one_field (decimal 1) [] in
+        omega (arith, d, a, e, f)

@@ -14,8 +14,8 @@ use Rattle.lab_inputs.specs.Contents.{ContentValues}
 use Rattle.lab_inputs.specs.Files.{Files, contents_from}
 use Rattle.lab_inputs.specs.Roles.{later_files}
 
--- the film, the setup, the networks in order, each behind its name, the seeks, the bytes of the certificate, and the rules in order,
--- each behind its word
+-- the film, the setup, the networks in order, each behind its name, the seeks, the bytes of the certificate, the rules in order,
+-- each behind its word, and for a live film the milliseconds of media that are there at instant 0
 pub record InputValues : Type 0 where
   pub film : Film
   pub setup : Setup
@@ -23,6 +23,7 @@ pub record InputValues : Type 0 where
   pub seeks : List Seek
   pub certificate : Text
   pub rules : List (Text × RuleKind)
+  pub live : Option ℕ
 
 -- the weights: those of the words, or those of the table where one is named
 abbrev pub weights_by : Option Text → List ℕ → List ℕ → ℕ → ℕ → ℕ → ℕ → Weighing
@@ -39,7 +40,7 @@ setup_of c v = record {
 
 -- what a command is about whose files hold this
 abbrev pub inputs_on : CommandWords → ContentValues → InputValues
-inputs_on c v = record { film = v.film; setup = setup_of c v; networks = v.networks; seeks = v.seeks; certificate = v.certificate; rules = c.rules }
+inputs_on c v = record { film = v.film; setup = setup_of c v; networks = v.networks; seeks = v.seeks; certificate = v.certificate; rules = c.rules; live = c.live }
 
 -- what the files of a command hold
 abbrev pub contents_of : CommandWords → Files → Result ContentValues Stop

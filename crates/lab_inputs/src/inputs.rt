@@ -1,6 +1,6 @@
 //! What a command is about, as one value.
 
-ghost use Rattle.std.specs.Prelude.{◌≡◌, ◌/◌, IfSome, length, map, option_map, string_bytes};
+ghost use Rattle.std.specs.Prelude.{◌≡◌, ◌/◌, ◌≤◌, IfSome, length, map, option_map, string_bytes};
 ghost use Rattle.std.specs.List.{All, slice_get};
 ghost use Rattle.lab_model.specs.Film.{segments_of};
 ghost use Rattle.lab_model.specs.Row.{AreUtilities};
@@ -24,8 +24,8 @@ use std::marker::Model;
 
 /// What a command is about: what its files hold, with the setup and the rules of its words.
 ///
-/// The seeks are always within the film, and the numbers of the rules within their limits. Whether the setup and the rules
-/// fit the film is for `fit` to say.
+/// The seeks are always within the film, and the numbers of the rules and the media ahead within their limits. Whether the
+/// setup and the rules fit the film is for `fit` to say.
 #[derive(Drop)]
 pub struct Inputs {
     manifest: Manifest,
@@ -34,10 +34,11 @@ pub struct Inputs {
     seeks: Vec<Seek>,
     certificate: Vec<u8>,
     rules: Vec<NamedRule>,
+    live: Option<u32>,
 }
 
 impl Model for Inputs {
-    ghost use Rattle.std.specs.Prelude.{map};
+    ghost use Rattle.std.specs.Prelude.{◌≤◌, IfSome, map};
     ghost use Rattle.lab_words.specs.Command.{named};
     ghost use Rattle.std.specs.List.{All};
     ghost use Rattle.lab_model.specs.Film.{segments_of};
@@ -55,10 +56,12 @@ impl Model for Inputs {
       seeks = i.seeks.items;
       certificate = i.certificate.items;
       rules = map named i.rules.items;
+      live = i.live;
     } };
 
     ghost invariant = { λ i. SeeksFit i.seeks.items (segments_of i.manifest)
-        × All (λ r. IsRuleWithin r.1) (map named i.rules.items) };
+        × All (λ r. IsRuleWithin r.1) (map named i.rules.items)
+        × IfSome i.live (λ ms. ms ≤ 120000000) };
 }
 
 /// The weights with the utilities of the words, or those of the table where one is named.
@@ -115,6 +118,7 @@ impl Inputs {
             seeks: contents.seeks,
             certificate: contents.certificate,
             rules: command.rules,
+            live: command.live,
         }
     }
 
@@ -175,6 +179,14 @@ impl Inputs {
         ensures within { IfSome result (λ r. IsRuleWithin (spoken r.now.rule)) }
     {
         self.rules.first()
+    }
+
+    /// Of a live film the milliseconds of media that are there at instant 0, at most 120000000.
+    pub fn live(&self) -> Option<u32>
+        ensures value { result ≡ self.now.live }
+        ensures within { IfSome result (λ ms. ms ≤ 120000000) }
+    {
+        self.live
     }
 
     /// The first setting that does not fit the film: the buffer, then the utilities, then the rules.

@@ -1,9 +1,9 @@
 -- What a command line asks for keeps its limits.
-use Rattle.std.proofs.Common.{◌≡◌, ◌++◌, length-append, ◌&&◌, ◌<◌, ◌≤◌, ◌+◌, ◌⊎◌, ℕ, List, [], ◌∷◌, Bool, true, false, Option, Some, None, Result, Ok, Err, IfOk, length, refl, sym, ap, subst, arith, cond, inl, inr, zero, suc, option_map, option_and_then, codes, lit≤, if◌then◌else◌}
+use Rattle.std.proofs.Common.{◌≡◌, ◌++◌, length-append, ◌&&◌, ◌<◌, ◌≤◌, ◌+◌, ◌⊎◌, ℕ, List, [], ◌∷◌, Bool, true, false, Option, Some, None, Result, Ok, Err, IfOk, IfSome, length, refl, sym, ap, subst, arith, cond, inl, inr, zero, suc, option_map, option_and_then, codes, lit≤, if◌then◌else◌}
 use Rattle.std.proofs.lemmas.Bool.Decides.{nat_tests}
 use Rattle.std.proofs.lemmas.List.Splits.{length-slice_split}
 use Rattle.std.specs.List.{All, after_first, before_first, list_any, slice_split}
-use Rattle.std.specs.Prelude.{nat_le, slice_index, ◌==◌}
+use Rattle.std.specs.Prelude.{nat_le, slice_index, unwrap_or, ◌==◌}
 use Rattle.std.specs.Str.{bytes_eq}
 use Rattle.std.specs.Str.Parse.{digits_value}
 use Rattle.clap.specs.Walk.{Row, all_of}
@@ -13,20 +13,20 @@ use Rattle.lab_model.specs.Rules.{RuleKind, fixed, listed, throughput, bola, mpc
 use Rattle.lab_model.proofs.Rows.{weighing_within}
 use Rattle.lab_model.specs.Row.{AreWeights}
 use Rattle.lab_model.specs.Weighing.{IsWeighing, weighing}
-use Rattle.lab_words.specs.Limits.{AreWeighed, IsRuleWithin, IsWithinLimits}
+use Rattle.lab_words.specs.Limits.{AreWeighed, IsGrid, IsRuleWithin, IsWithinLimits}
 use Rattle.lab_words.specs.Rules.{has_colon, rule_of, rule_of_kind}
-use Rattle.lab_words.specs.Spelling.{Text, all_numbers, in_range, is_number, never_falls, number_of, numbers_of, pieces_of, unless_falling, utilities_of}
-use Rattle.lab_words.specs.Check.{check_app, check_in}
+use Rattle.lab_words.specs.Spelling.{Text, all_numbers, grid_by, grid_of, has_comma, in_range, is_number, never_falls, number_of, numbers_of, pieces_of, unless_falling, utilities_of}
+use Rattle.lab_words.specs.Check.{check_agrees, check_app, check_in}
 use Rattle.lab_words.specs.Command.{CommandWords, blank, view}
 use Rattle.lab_words.specs.Demo.{demo_app, demo_in}
-use Rattle.lab_words.specs.Plan.{plan_app, plan_in}
+use Rattle.lab_words.specs.Plan.{grid_if, grid_in, plan_agrees, plan_app, plan_in}
 use Rattle.lab_words.specs.Settings.{SettingsWords, UtilitiesWords, settings_in, utilities_by, utilities_in, with_settings}
 use Rattle.lab_words.specs.Compare.{at_most, compare_app, compare_in, distinct, few, named_rule, named_rules, rules_in, traces_in}
-use Rattle.lab_words.specs.Simulate.{simulate_app, simulate_in}
+use Rattle.lab_words.specs.Simulate.{simulate_agrees, simulate_app, simulate_in}
 use Rattle.lab_words.specs.Table.{accepted}
 use Rattle.lab_model.specs.OptionSteps.{◌>>=◌}
 use Rattle.lab_model.proofs.OptionSteps.{then_some}
-use Rattle.lab_words.specs.Values.{Either, first, second, Gives, is_given, one_of, is_stray, several, some_plain, number_in, number_or, optional, required, rule_in}
+use Rattle.lab_words.specs.Values.{Either, first, second, Gives, if_agreed, is_given, one_of, is_stray, several, some_plain, number_in, number_if, optional, optional_number, required, rule_in}
 use Rattle.lab_words.specs.Words.{asked_of, command_of, has_dashes, verb_of}
 use Rattle.lab_words.specs.declared.Command.{Command}
 use Rattle.lab_words.specs.declared.Verb.{Verb}
@@ -184,15 +184,61 @@ named_within rows r h =
 
 -- ---- options
 
+optional_within : (least most : ℕ) (name : Text) (rows : List Row) (o : Option ℕ) → optional_number least most name rows ≡ Some o → IfSome o (IsWithin least most)
+unfolding optional_number
+optional_within least most name rows o h =
+    let given = went (number_if least most) (optional name rows) o h in
+    by_given given.0 given.2
+  where
+    by_given : (text : Option Text) → number_if least most text ≡ Some o → IfSome o (IsWithin least most)
+    by_given None e = let same : None ≡ o = cc in subst (λ (x : Option ℕ). IfSome x (IsWithin least most)) same tt
+    by_given (Some text) e =
+        let read = mapped (λ (n : ℕ). Some n) (number_of least most text) o e in
+        subst (λ (x : Option ℕ). IfSome x (IsWithin least most)) (sym read.2) (number_within least most text read.0 read.1)
+
+live_within : (rows : List Row) (live : Option ℕ) → optional_number 0 120000000 (codes "live") rows ≡ Some live → IfSome live (λ ms. ms ≤ 120000000)
+live_within rows live h = below live (optional_within 0 120000000 (codes "live") rows live h)
+  where
+    below : (o : Option ℕ) → IfSome o (IsWithin 0 120000000) → IfSome o (λ ms. ms ≤ 120000000)
+    below None w = tt
+    below (Some ms) w = w.1
+
+grid_by_within : (time value : Text) (g : ℕ × ℕ) → grid_by time value ≡ Some g → IsGrid g.0 g.1
+grid_by_within time value g h =
+    let ms = then_some (number_of 1 10000 time) _ g h in
+    let thousandths = then_some (number_of 1 1000000 value) _ g ms.2 in
+    let same : (ms.0, thousandths.0) ≡ g = cc (thousandths.2) in
+    subst (λ (p : ℕ × ℕ). IsGrid p.0 p.1) same (inr (number_within 1 10000 time ms.0 ms.1, number_within 1 1000000 value thousandths.0 thousandths.1))
+
+grid_of_within : (text : Text) (g : ℕ × ℕ) → grid_of text ≡ Some g → IsGrid g.0 g.1
+unfolding grid_of
+grid_of_within text g h = grid_by_within (before_first (λ b. b == 44) text) (after_first (λ b. b == 44) text) g (chosen (has_comma text) _ g h).1
+
+grid_within : (rows : List Row) (g : ℕ × ℕ) → grid_in rows ≡ Some g → IsGrid g.0 g.1
+unfolding grid_in
+grid_within rows g h =
+    let given = then_some (optional (codes "coarse") rows) grid_if g h in
+    by_given given.0 given.2
+  where
+    by_given : (text : Option Text) → grid_if text ≡ Some g → IsGrid g.0 g.1
+    by_given None e = let same : (0, 0) ≡ g = cc in subst (λ (p : ℕ × ℕ). IsGrid p.0 p.1) same (inl (refl, refl))
+    by_given (Some text) e = grid_of_within text g e
+
+were_agreed : (agrees : CommandWords → Bool) (x y : CommandWords) → if_agreed agrees x ≡ Some y → (agrees x ≡ true) × (x ≡ y)
+were_agreed agrees x y h =
+    let split = chosen (agrees x) (Some x) y h in
+    let same : x ≡ y = cc (split.1) in
+    (split.0, same)
+
 option_within : (default least most : ℕ) (name : Text) (rows : List Row) (n : ℕ) → IsWithin least most default → number_in default least most name rows ≡ Some n → IsWithin least most n
 unfolding number_in
 option_within default least most name rows n d h =
-    let given = went (number_or default least most) (optional name rows) n h in
-    by_given given.0 given.2
+    let given = mapped (λ (o : Option ℕ). unwrap_or o default) (optional_number least most name rows) n h in
+    subst (IsWithin least most) (sym given.2) (or_default given.0 (optional_within least most name rows given.0 given.1))
   where
-    by_given : (text : Option Text) → number_or default least most text ≡ Some n → IsWithin least most n
-    by_given None e = let same : default ≡ n = cc in subst (λ (k : ℕ). IsWithin least most k) same d
-    by_given (Some text) e = number_within least most text n e
+    or_default : (o : Option ℕ) → IfSome o (IsWithin least most) → IsWithin least most (unwrap_or o default)
+    or_default None w = d
+    or_default (Some m) w = w
 
 -- ---- a command
 
@@ -232,6 +278,7 @@ simulate_within rows c h =
     let rule = then_some (rule_in rows) _ c trace.2 in
     let settings = then_some (settings_in rows) _ c rule.2 in
     let seeks = then_some (optional (codes "seeks") rows) _ c settings.2 in
+    let live = then_some (optional_number 0 120000000 (codes "live") rows) _ c seeks.2 in
     let within = settings_within rows settings.0 settings.1 in
     let made : CommandWords = record (with_settings settings.0 (blank verb.Simulate)) {
       manifest = manifest.0;
@@ -239,14 +286,19 @@ simulate_within rows c h =
       rules = rule.0 ∷ [];
       abandon = is_given (codes "abandon") rows;
       seeks = seeks.0;
+      live = live.0;
     } in
-    let same : made ≡ c = cc (seeks.2) in
+    let agreed = were_agreed simulate_agrees made c live.2 in
+    let same : made ≡ c = agreed.1 in
     subst IsWithinLimits same (record {
       counts = (refl, refl);
       spoken = alone (λ (r : Text × RuleKind). IsRuleWithin r.1) rule.0 (named_within rows rule.0 rule.1);
       buffer = λ film. within.buffer;
       weights = λ film. within.weights;
       own = tt;
+      live = live_within rows live.0 live.1;
+      grid = inl (refl, refl);
+      agreed = agreed.0;
     })
 
 -- ---- rules and traces without repeats
@@ -345,6 +397,9 @@ compare_within rows c h =
       buffer = λ film. within.buffer;
       weights = λ film. within.weights;
       own = tt;
+      live = tt;
+      grid = inl (refl, refl);
+      agreed = refl;
     })
 
 no_rules : All (λ (r : Text × RuleKind). IsRuleWithin r.1) []
@@ -357,20 +412,29 @@ plan_within rows c h =
     let trace = then_some (required (codes "trace") rows) _ c manifest.2 in
     let settings = then_some (settings_in rows) _ c trace.2 in
     let budget = then_some (number_in 200000 1 1000000 (codes "budget") rows) _ c settings.2 in
+    let live = then_some (optional_number 0 120000000 (codes "live") rows) _ c budget.2 in
+    let grid = then_some (grid_in rows) _ c live.2 in
     let within = settings_within rows settings.0 settings.1 in
     let made : CommandWords = record (with_settings settings.0 (blank verb.Plan)) {
       manifest = manifest.0;
       traces = trace.0 ∷ [];
       budget = budget.0;
       as_certificate = is_given (codes "as-certificate") rows;
+      live = live.0;
+      coarse_time = grid.0.0;
+      coarse_value = grid.0.1;
     } in
-    let same : made ≡ c = cc (budget.2) in
+    let agreed = were_agreed plan_agrees made c grid.2 in
+    let same : made ≡ c = agreed.1 in
     subst IsWithinLimits same (record {
       counts = (refl, refl);
       spoken = no_rules;
       buffer = λ film. within.buffer;
       weights = λ film. within.weights;
       own = option_within 200000 1 1000000 (codes "budget") rows budget.0 (lit≤ tt, lit≤ tt) budget.1;
+      live = live_within rows live.0 live.1;
+      grid = grid_within rows grid.0 grid.1;
+      agreed = agreed.0;
     })
 
 check_within : (rows : List Row) (c : CommandWords) → check_in rows ≡ Some c → IsWithinLimits c
@@ -380,19 +444,26 @@ check_within rows c h =
     let trace = then_some (required (codes "trace") rows) _ c manifest.2 in
     let settings = then_some (settings_in rows) _ c trace.2 in
     let certificate = then_some (required (codes "certificate") rows) _ c settings.2 in
+    let live = then_some (optional_number 0 120000000 (codes "live") rows) _ c certificate.2 in
     let within = settings_within rows settings.0 settings.1 in
     let made : CommandWords = record (with_settings settings.0 (blank verb.Check)) {
       manifest = manifest.0;
       traces = trace.0 ∷ [];
       certificate = Some certificate.0;
+      live = live.0;
+      gap = is_given (codes "gap") rows;
     } in
-    let same : made ≡ c = cc (certificate.2) in
+    let agreed = were_agreed check_agrees made c live.2 in
+    let same : made ≡ c = agreed.1 in
     subst IsWithinLimits same (record {
       counts = (refl, refl);
       spoken = no_rules;
       buffer = λ film. within.buffer;
       weights = λ film. within.weights;
       own = refl;
+      live = live_within rows live.0 live.1;
+      grid = inl (refl, refl);
+      agreed = agreed.0;
     })
 
 demo_within : (rows : List Row) (c : CommandWords) → demo_in rows ≡ Some c → IsWithinLimits c
@@ -408,6 +479,9 @@ demo_within rows c h =
       buffer = λ film. absurd film;
       weights = λ film. absurd film;
       own = (number_within 0 2147483647 text.0 number.0 number.1).1;
+      live = tt;
+      grid = inl (refl, refl);
+      agreed = refl;
     })
 
 asked_within : (v : Verb) (words : List Text) (c : CommandWords) → asked_of v words ≡ Some c → IsWithinLimits c

@@ -25,6 +25,10 @@ pub record CommandWords : Type 0 where
   pub as_certificate : Bool
   pub certificate : Option Text
   pub number : ℕ
+  pub live : Option ℕ
+  pub coarse_time : ℕ
+  pub coarse_value : ℕ
+  pub gap : Bool
 
 -- a command that asks for nothing yet
 abbrev pub blank : Verb → CommandWords
@@ -45,6 +49,10 @@ blank verb = record {
   as_certificate = false;
   certificate = None;
   number = 0;
+  live = None;
+  coarse_time = 0;
+  coarse_value = 0;
+  gap = false;
 }
 
 -- a rule and its word, without where they lie in memory
@@ -70,4 +78,8 @@ view c = record {
   as_certificate = c.as_certificate;
   certificate = option_map string_bytes c.certificate;
   number = c.number;
+  live = c.live;
+  coarse_time = c.coarse_time;
+  coarse_value = c.coarse_value;
+  gap = c.gap;
 }

@@ -1,11 +1,14 @@
 -- The limits that what a command line asks for keeps.
-use Rattle.std.specs.Prelude.{◌≡◌, ◌≤◌, ℕ, IsSome, List, [], Option, Some, None, length}
+use Rattle.std.specs.Prelude.{◌≡◌, ◌≤◌, ◌⊎◌, ℕ, Bool, true, IfSome, IsSome, List, [], Option, Some, None, length}
 use Rattle.std.specs.List.{All}
 use Rattle.lab_model.specs.Film.{IsWithin}
 use Rattle.lab_model.specs.Rules.{RuleKind, fixed, listed, throughput, bola, mpc}
 use Rattle.lab_model.specs.Row.{AreWeights}
 use Rattle.lab_model.specs.Weighing.{IsWeighing, weighing}
+use Rattle.lab_words.specs.Check.{check_agrees}
 use Rattle.lab_words.specs.Command.{CommandWords}
+use Rattle.lab_words.specs.Plan.{plan_agrees}
+use Rattle.lab_words.specs.Simulate.{simulate_agrees}
 use Rattle.lab_words.specs.Spelling.{Text}
 use Rattle.lab_words.specs.declared.Verb.{Verb}
 use Rattle.lab_words.specs.declared.Verb.TheVariants.{Simulate, Compare, Plan, Check, Demo}
@@ -47,10 +50,25 @@ HasItsOwn Plan c = IsWithin 1 1000000 c.budget
 HasItsOwn Check c = IsSome c.certificate
 HasItsOwn Demo c = c.number ≤ 2147483647
 
--- the counts, the rules, the settings and what one command alone has, within their limits
+-- no grid, or milliseconds and thousandths of a point within their limits
+abbrev pub IsGrid : ℕ → ℕ → Type 0
+IsGrid time value = ((time ≡ 0) × (value ≡ 0)) ⊎ (IsWithin 1 10000 time × IsWithin 1 1000000 value)
+
+-- no two options exclude each other
+abbrev pub agrees : Verb → CommandWords → Bool
+agrees Simulate c = simulate_agrees c
+agrees Compare c = true
+agrees Plan c = plan_agrees c
+agrees Check c = check_agrees c
+agrees Demo c = true
+
+-- the counts, the rules, the settings, what one command alone has, the media ahead and the grid, within their limits; and no two options that exclude each other
 pub record IsWithinLimits (c : CommandWords) : Type 0 where
   pub counts : AreCounted c.verb (length c.traces) (length c.rules)
   pub spoken : All (λ r. IsRuleWithin r.1) c.rules
   pub buffer : HasFilm c.verb → IsWithin 1 10000000 c.buffer_ms
   pub weights : HasFilm c.verb → AreWeighed c.table c.utilities c.switch c.stall c.startup
   pub own : HasItsOwn c.verb c
+  pub live : IfSome c.live (λ ms. ms ≤ 120000000)
+  pub grid : IsGrid c.coarse_time c.coarse_value
+  pub agreed : agrees c.verb c ≡ true

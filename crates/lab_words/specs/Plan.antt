@@ -1,13 +1,13 @@
 -- The command `plan`: its words and what they ask for.
-use Rattle.std.specs.Prelude.{List, [], ◌∷◌, Option, Some, codes}
+use Rattle.std.specs.Prelude.{ℕ, Bool, List, [], ◌∷◌, Option, Some, None, codes, is_some, nat_lt}
 use Rattle.clap.specs.Simple.{App}
 use Rattle.clap.specs.Walk.{Row}
 use Rattle.lab_words.specs.Command.{CommandWords, blank}
 use Rattle.lab_words.specs.Settings.{settings_in, settings_words, with_settings}
-use Rattle.lab_words.specs.Spelling.{Text}
+use Rattle.lab_words.specs.Spelling.{Text, grid_of}
 use Rattle.lab_words.specs.Table.{table_app}
 use Rattle.lab_model.specs.OptionSteps.{◌>>=◌}
-use Rattle.lab_words.specs.Values.{is_given, number_in, required}
+use Rattle.lab_words.specs.Values.{at_most_one, if_agreed, is_given, number_in, optional, optional_number, required}
 use Rattle.lab_words.specs.declared.Verb.TheVariants as verb
 use Rattle.lab_words.specs.declared.table.Kind.{Kind}
 use Rattle.lab_words.specs.declared.table.Kind.TheVariants as kind
@@ -18,11 +18,28 @@ plan_words = (codes "manifest", kind.Required)
     ∷ (codes "trace", kind.Required)
     ∷ (codes "budget", kind.Optional)
     ∷ (codes "as-certificate", kind.Flag)
+    ∷ (codes "live", kind.Optional)
+    ∷ (codes "coarse", kind.Optional)
     ∷ []
 
 -- the command for `clap`
 unfoldable pub plan_app : App
 plan_app = table_app (codes "plan") plan_words settings_words
+
+-- the grid of a text, or zeros where there is none
+abbrev pub grid_if : Option Text → Option (ℕ × ℕ)
+grid_if None = Some (0, 0)
+grid_if (Some text) = grid_of text
+
+-- the grid of a coarse plan, or zeros
+unfoldable pub grid_in : List Row → Option (ℕ × ℕ)
+grid_in rows = do
+  given ← optional (codes "coarse") rows
+  grid_if given
+
+-- not both asked for: media ahead, and a coarse plan
+abbrev pub plan_agrees : CommandWords → Bool
+plan_agrees c = at_most_one (is_some c.live ∷ nat_lt 0 c.coarse_time ∷ [])
 
 -- what `plan` is asked for, by the values of its options
 unfoldable pub plan_in : List Row → Option CommandWords
@@ -31,9 +48,14 @@ plan_in rows = do
   trace ← required (codes "trace") rows
   settings ← settings_in rows
   budget ← number_in 200000 1 1000000 (codes "budget") rows
-  Some (record (with_settings settings (blank verb.Plan)) {
+  live ← optional_number 0 120000000 (codes "live") rows
+  grid ← grid_in rows
+  if_agreed plan_agrees (record (with_settings settings (blank verb.Plan)) {
     manifest = manifest;
     traces = trace ∷ [];
     budget = budget;
     as_certificate = is_given (codes "as-certificate") rows;
+    live = live;
+    coarse_time = grid.0;
+    coarse_value = grid.1;
   })

@@ -1,7 +1,8 @@
--- How numbers and lists of numbers are spelled on the command line.
-use Rattle.std.specs.Prelude.{ℕ, ◌&&◌, ◌==◌, Bool, true, List, [], ◌∷◌, Option, Some, None, length, if◌then◌else◌, nat_le, option_map, option_and_then}
-use Rattle.std.specs.List.{slice_split}
+-- How numbers, lists of numbers and grids are spelled on the command line.
+use Rattle.std.specs.Prelude.{ℕ, ◌&&◌, ◌==◌, Bool, true, List, [], ◌∷◌, Option, Some, None, length, if◌then◌else◌, nat_le, nat_lt, option_map, option_and_then}
+use Rattle.std.specs.List.{after_first, before_first, position_or_len, slice_split}
 use Rattle.std.specs.Str.Parse.{digits_value}
+use Rattle.lab_model.specs.OptionSteps.{◌>>=◌}
 pub use Rattle.lab_io.specs.Number.{is_number}
 pub use Rattle.lab_io.specs.Sink.{Text}
 
@@ -39,3 +40,18 @@ unless_falling ns = if never_falls ns then Some ns else None
 -- 1 to 16 utilities joined by `,`, non-decreasing, each from 0 to 1000000
 unfoldable pub utilities_of : Text → Option (List ℕ)
 utilities_of text = option_and_then unless_falling (numbers_of 16 0 1000000 text)
+
+-- a text has a `,`
+abbrev pub has_comma : Text → Bool
+has_comma text = nat_lt (position_or_len (λ b. b == 44) text) (length text)
+
+-- a grid of two texts: milliseconds from 1 to 10000, and thousandths of a point from 1 to 1000000
+abbrev pub grid_by : Text → Text → Option (ℕ × ℕ)
+grid_by time value = do
+  ms ← number_of 1 10000 time
+  thousandths ← number_of 1 1000000 value
+  Some (ms, thousandths)
+
+-- the grid that a text spells: its time, a `,` and its value
+unfoldable pub grid_of : Text → Option (ℕ × ℕ)
+grid_of text = if has_comma text then grid_by (before_first (λ b. b == 44) text) (after_first (λ b. b == 44) text) else None

@@ -1,5 +1,5 @@
--- The values of a command's options, by the rows of `clap`'s matches: optional or required, numbers, flags and rules.
-use Rattle.std.specs.Prelude.{◌≡◌, ℕ, ◌==◌, Bool, true, List, [], ◌∷◌, Option, Some, None, Result, Ok, Err, codes, option_and_then, unwrap_or, if◌then◌else◌}
+-- The values of a command's options, by the rows of `clap`'s matches: optional or required, one of two, numbers, flags and rules; and options that exclude each other.
+use Rattle.std.specs.Prelude.{◌≡◌, ℕ, ◌==◌, Bool, true, List, [], ◌∷◌, Option, Some, None, Result, Ok, Err, codes, count_by, nat_le, option_and_then, option_map, unwrap_or, if◌then◌else◌}
 use Rattle.std.specs.List.{list_any}
 use Rattle.std.specs.Str.{bytes_eq}
 use Rattle.clap.specs.Walk.{Row, all_of, first_of}
@@ -69,14 +69,18 @@ one_of name other rows = do
   there ← optional other rows
   the_one here there
 
--- the number, or its default where none is given
-abbrev pub number_or : ℕ → ℕ → ℕ → Option Text → Option ℕ
-number_or default least most None = Some default
-number_or default least most (Some text) = number_of least most text
+-- the number that is given, if there is one
+abbrev pub number_if : ℕ → ℕ → Option Text → Option (Option ℕ)
+number_if least most None = Some None
+number_if least most (Some text) = option_map (λ n. Some n) (number_of least most text)
+
+-- the number of an option from `least` to `most`, or that none is given
+unfoldable pub optional_number : ℕ → ℕ → Text → List Row → Option (Option ℕ)
+optional_number least most name rows = option_and_then (number_if least most) (optional name rows)
 
 -- the number of an option from `least` to `most`, or its default
 unfoldable pub number_in : ℕ → ℕ → ℕ → Text → List Row → Option ℕ
-number_in default least most name rows = option_and_then (number_or default least most) (optional name rows)
+number_in default least most name rows = option_map (λ given. unwrap_or given default) (optional_number least most name rows)
 
 -- the values of a word that stands once or more; refused where one is stray
 unfoldable pub several : Text → List Row → Option (List Text)
@@ -85,6 +89,14 @@ several name rows = option_and_then some_plain (all_of name rows)
 -- whether a flag is given
 abbrev pub is_given : Text → List Row → Bool
 is_given name rows = bytes_eq (unwrap_or (first_of name rows) []) (codes "true")
+
+-- at most one of the tests holds
+abbrev pub at_most_one : List Bool → Bool
+at_most_one tests = nat_le (count_by (λ test. test) tests) 1
+
+-- what was read, where no two options of it exclude each other
+abbrev pub if_agreed : {X : Type 0} → (X → Bool) → X → Option X
+if_agreed agrees x = if agrees x then Some x else None
 
 -- the rule, which has to be given, behind its word
 unfoldable pub rule_in : List Row → Option (Text × RuleKind)

@@ -8,19 +8,21 @@ ghost use Rattle.lab_words.specs.Table.{accepted};
 ghost use Rattle.lab_words.specs.Values.{Gives};
 ghost use Rattle.lab_words.specs.Words.{asked_of};
 
-use crate::settings::{SETTINGS, settings_in};
+use crate::settings::{MOST_LIVE, SETTINGS, settings_in};
 use crate::table::{Kind, Word, table_matches};
-use crate::values::file_name;
+use crate::values::{at_most_one, file_name, is_given, optional_number};
 use crate::{Command, Verb, WordsErr};
 use clap::ArgMatches;
 use std::alloc::Global;
 
 /// The words of `check` alone.
 #[rattlefmt::skip]
-static CHECK: [Word; 3] = [
+static CHECK: [Word; 5] = [
     Word { name: "manifest", kind: Kind::Required },
     Word { name: "trace", kind: Kind::Required },
     Word { name: "certificate", kind: Kind::Required },
+    Word { name: "live", kind: Kind::Optional },
+    Word { name: "gap", kind: Kind::Flag },
 ];
 
 /// The matches of `check` on the words behind it.
@@ -40,10 +42,17 @@ fn check_in(alloc: Global, matches: &ArgMatches<'_>) -> Result<Command, WordsErr
     let trace = file_name(alloc, matches, "trace")?;
     let settings = settings_in(alloc, matches)?;
     let certificate = file_name(alloc, matches, "certificate")?;
+    let live = optional_number(matches, "live", 0, MOST_LIVE)?;
+    let gap = is_given(matches, "gap");
+    if !at_most_one(&[live.is_some(), gap]) {
+        return Err(WordsErr::Usage);
+    }
     Ok(Command {
         manifest,
         traces: vec![in alloc; trace]?,
         certificate: Some(certificate),
+        live,
+        gap,
         ..settings.command(alloc, Verb::Check)
     })
 }

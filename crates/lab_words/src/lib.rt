@@ -99,6 +99,14 @@ pub struct Command {
     pub certificate: Option<String>,
     /// The number of the made-up case, from 0 to 2147483647.
     pub number: u32,
+    /// The media that are there at instant 0, from 0 to 120000000 ms, where the film is live.
+    pub live: Option<u32>,
+    /// The grid's milliseconds, from 1 to 10000; 0 where no coarse plan is asked for.
+    pub coarse_time: u32,
+    /// The grid's thousandths of a point, from 1 to 1000000; 0 where no coarse plan is asked for.
+    pub coarse_value: u32,
+    /// Whether the certificate is one of a coarse plan, with its bound.
+    pub gap: bool,
 }
 
 impl Command {
@@ -123,6 +131,10 @@ impl Command {
             as_certificate: false,
             certificate: None,
             number: 0,
+            live: None,
+            coarse_time: 0,
+            coarse_value: 0,
+            gap: false,
         }
     }
 }

@@ -1,8 +1,8 @@
-//! Numbers and lists of numbers as they are spelled on the command line.
+//! Numbers, lists of numbers and grids as they are spelled on the command line.
 
 ghost use Rattle.std.specs.Prelude.{◌≡◌, ◌≤◌, IfOk, IfSome, length, map};
 ghost use Rattle.std.specs.Str.{all_ascii_digits};
-ghost use Rattle.lab_words.specs.Spelling.{is_number, never_falls, number_of, numbers_of, pieces_of, utilities_of};
+ghost use Rattle.lab_words.specs.Spelling.{grid_by, grid_of, is_number, never_falls, number_of, numbers_of, pieces_of, utilities_of};
 ghost use Rattle.lab_words.specs.Values.{Gives};
 
 use crate::WordsErr;
@@ -130,5 +130,26 @@ pub(crate) fn utilities_of(alloc: Global, text: &str) -> Result<Vec<u32>, WordsE
         Ok(utilities)
     } else {
         Err(WordsErr::Usage)
+    }
+}
+
+/// The grid of two texts: milliseconds from 1 to 10000, thousandths of a point from 1 to 1000000.
+fn grid_by(time: &str, value: &str) -> Option<(u32, u32)>
+    ensures { result ≡ grid_by time.now value.now }
+{
+    match (number_of(time, 1, 10_000), number_of(value, 1, 1_000_000)) {
+        (Some(ms), Some(thousandths)) => Some((ms, thousandths)),
+        _ => None,
+    }
+}
+
+/// The grid that the text spells: its time, a `,` and its value.
+#[tactic(auto, unfolding(crate::specs::Spelling::grid_of))]
+pub(crate) fn grid_of(text: &str) -> Option<(u32, u32)>
+    ensures { result ≡ grid_of text.now }
+{
+    match text.split_once(',') {
+        Some((time, value)) => grid_by(time, value),
+        None => None,
     }
 }

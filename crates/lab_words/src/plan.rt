@@ -3,25 +3,28 @@
 ghost use Rattle.std.specs.Prelude.{map, string_bytes};
 ghost use Rattle.clap.specs.Words.{found_of, rows_of};
 ghost use Rattle.lab_words.specs.Command.{view};
-ghost use Rattle.lab_words.specs.Plan.{plan_app, plan_in};
+ghost use Rattle.lab_words.specs.Plan.{grid_in, plan_app, plan_in};
 ghost use Rattle.lab_words.specs.Table.{accepted};
 ghost use Rattle.lab_words.specs.Values.{Gives};
 ghost use Rattle.lab_words.specs.Words.{asked_of};
 
-use crate::settings::{SETTINGS, settings_in};
+use crate::numbers::grid_of;
+use crate::settings::{MOST_LIVE, SETTINGS, settings_in};
 use crate::table::{Kind, Word, table_matches};
-use crate::values::{file_name, is_given, number_in};
+use crate::values::{at_most_one, file_name, is_given, number_in, optional, optional_number};
 use crate::{Command, Verb, WordsErr};
 use clap::ArgMatches;
 use std::alloc::Global;
 
 /// The words of `plan` alone.
 #[rattlefmt::skip]
-static PLAN: [Word; 4] = [
+static PLAN: [Word; 6] = [
     Word { name: "manifest", kind: Kind::Required },
     Word { name: "trace", kind: Kind::Required },
     Word { name: "budget", kind: Kind::Optional },
     Word { name: "as-certificate", kind: Kind::Flag },
+    Word { name: "live", kind: Kind::Optional },
+    Word { name: "coarse", kind: Kind::Optional },
 ];
 
 /// The matches of `plan` on the words behind it.
@@ -30,6 +33,17 @@ fn plan_matches<'a>(alloc: Global, words: &'a [String]) -> Result<ArgMatches<'a>
         (accepted plan_app (map string_bytes words.entry.now)) }
 {
     table_matches(alloc, "plan", &PLAN, &SETTINGS, words)
+}
+
+/// The grid of a coarse plan, or zeros.
+#[tactic(auto, unfolding(crate::specs::Plan::grid_in))]
+fn grid_in(matches: &ArgMatches<'_>) -> Result<(u32, u32), WordsErr>
+    ensures { Gives (λ grid. grid) result (grid_in (rows_of (found_of matches.now))) }
+{
+    match optional(matches, "coarse")? {
+        Some(text) => grid_of(text).ok_or(WordsErr::Usage),
+        None => Ok((0, 0)),
+    }
 }
 
 /// What `plan` is asked for, by the values of its options.
@@ -41,11 +55,19 @@ fn plan_in(alloc: Global, matches: &ArgMatches<'_>) -> Result<Command, WordsErr>
     let trace = file_name(alloc, matches, "trace")?;
     let settings = settings_in(alloc, matches)?;
     let budget = number_in(matches, "budget", 200_000, 1, 1_000_000)?;
+    let live = optional_number(matches, "live", 0, MOST_LIVE)?;
+    let (coarse_time, coarse_value) = grid_in(matches)?;
+    if !at_most_one(&[live.is_some(), coarse_time > 0]) {
+        return Err(WordsErr::Usage);
+    }
     Ok(Command {
         manifest,
         traces: vec![in alloc; trace]?,
         budget,
         as_certificate: is_given(matches, "as-certificate"),
+        live,
+        coarse_time,
+        coarse_value,
         ..settings.command(alloc, Verb::Plan)
     })
 }

@@ -13,6 +13,9 @@ use crate::{Command, Verb, WordsErr};
 use clap::ArgMatches;
 use std::alloc::Global;
 
+/// The most media ahead of a live film, in milliseconds.
+pub(crate) const MOST_LIVE: u32 = 120_000_000;
+
 /// Their words.
 #[rattlefmt::skip]
 pub(crate) static SETTINGS: [Word; 6] = [

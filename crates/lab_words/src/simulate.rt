@@ -8,21 +8,24 @@ ghost use Rattle.lab_words.specs.Table.{accepted};
 ghost use Rattle.lab_words.specs.Values.{Gives};
 ghost use Rattle.lab_words.specs.Words.{asked_of};
 
-use crate::settings::{SETTINGS, settings_in};
+use crate::settings::{MOST_LIVE, SETTINGS, settings_in};
 use crate::table::{Kind, Word, table_matches};
-use crate::values::{file_name, is_given, optional_file_name, rule_in};
+use crate::values::{
+    at_most_one, file_name, is_given, optional_file_name, optional_number, rule_in,
+};
 use crate::{Command, Verb, WordsErr};
 use clap::ArgMatches;
 use std::alloc::Global;
 
 /// The words of `simulate` alone.
 #[rattlefmt::skip]
-static SIMULATE: [Word; 5] = [
+static SIMULATE: [Word; 6] = [
     Word { name: "manifest", kind: Kind::Required },
     Word { name: "trace", kind: Kind::Required },
     Word { name: "rule", kind: Kind::Optional },
     Word { name: "abandon", kind: Kind::Flag },
     Word { name: "seeks", kind: Kind::Optional },
+    Word { name: "live", kind: Kind::Optional },
 ];
 
 /// The matches of `simulate` on the words behind it.
@@ -34,7 +37,7 @@ fn simulate_matches<'a>(alloc: Global, words: &'a [String]) -> Result<ArgMatches
 }
 
 /// What `simulate` is asked for, by the values of its options.
-#[tactic(auto, unfolding(crate::specs::Simulate::simulate_in))]
+#[tactic(auto, using(crate::proofs::Options::some_map), unfolding(crate::specs::Simulate::simulate_in))]
 fn simulate_in(alloc: Global, matches: &ArgMatches<'_>) -> Result<Command, WordsErr>
     ensures { Gives view result (simulate_in (rows_of (found_of matches.now))) }
 {
@@ -43,12 +46,18 @@ fn simulate_in(alloc: Global, matches: &ArgMatches<'_>) -> Result<Command, Words
     let rule = rule_in(alloc, matches)?;
     let settings = settings_in(alloc, matches)?;
     let seeks = optional_file_name(alloc, matches, "seeks")?;
+    let live = optional_number(matches, "live", 0, MOST_LIVE)?;
+    let abandon = is_given(matches, "abandon");
+    if !at_most_one(&[live.is_some(), abandon || seeks.is_some()]) {
+        return Err(WordsErr::Usage);
+    }
     Ok(Command {
         manifest,
         traces: vec![in alloc; trace]?,
         rules: vec![in alloc; rule]?,
-        abandon: is_given(matches, "abandon"),
+        abandon,
         seeks,
+        live,
         ..settings.command(alloc, Verb::Simulate)
     })
 }

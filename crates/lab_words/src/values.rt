@@ -4,7 +4,7 @@ ghost use Rattle.std.specs.Prelude.{◌≡◌, map, option_map, string_bytes};
 ghost use Rattle.std.specs.List.{list_any};
 ghost use Rattle.clap.specs.Words.{all_of, first_of, found_of, rows_of};
 ghost use Rattle.lab_words.specs.Command.{named};
-ghost use Rattle.lab_words.specs.Values.{Gives, either_view, is_given, is_stray, number_in, one_of, optional, required, rule_in, several, some_plain};
+ghost use Rattle.lab_words.specs.Values.{Gives, at_most_one, either_view, is_given, is_stray, number_in, one_of, optional, optional_number, required, rule_in, several, some_plain};
 
 use crate::numbers::number_of;
 use crate::rules::rule_of;
@@ -102,6 +102,26 @@ pub(crate) fn optional_file_name(
     }
 }
 
+/// The number of an option from `least` to `most`, if it is given.
+#[tactic(auto, unfolding(crate::specs::Values::optional_number))]
+pub(crate) fn optional_number(
+    matches: &ArgMatches<'_>,
+    name: &str,
+    least: u32,
+    most: u32,
+) -> Result<Option<u32>, WordsErr>
+    ensures { Gives (λ number. number) result
+        (optional_number least most name.now (rows_of (found_of matches.now))) }
+{
+    match optional(matches, name)? {
+        Some(text) => match number_of(text, least, most) {
+            Some(number) => Ok(Some(number)),
+            None => Err(WordsErr::Usage),
+        },
+        None => Ok(None),
+    }
+}
+
 /// The number of an option from `least` to `most`, or its default where it isn't given.
 #[tactic(auto, unfolding(crate::specs::Values::number_in))]
 pub(crate) fn number_in(
@@ -114,10 +134,7 @@ pub(crate) fn number_in(
     ensures { Gives (λ number. number) result
         (number_in default least most name.now (rows_of (found_of matches.now))) }
 {
-    match optional(matches, name)? {
-        Some(text) => number_of(text, least, most).ok_or(WordsErr::Usage),
-        None => Ok(default),
-    }
+    Ok(optional_number(matches, name, least, most)?.unwrap_or(default))
 }
 
 fn all_of<'m, 'a>(matches: &'m ArgMatches<'a>, name: &str) -> Option<&'m [&'a str]>
@@ -174,6 +191,13 @@ pub(crate) fn is_given(matches: &ArgMatches<'_>, name: &str) -> bool
         Some(text) => text == "true",
         None => false,
     }
+}
+
+/// Whether at most one of the tests holds.
+pub(crate) fn at_most_one(tests: &[bool]) -> bool
+    ensures { result ≡ at_most_one tests.now }
+{
+    tests.iter().filter(|test| **test).count() <= 1
 }
 
 /// The rule and its word.

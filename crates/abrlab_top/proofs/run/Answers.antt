@@ -1,6 +1,6 @@
 use Rattle.std.proofs.Common.{map, string_bytes}
-use Rattle.abrlab_top.specs.Runs.{world}
-use Rattle.abrlab_top.proofs.Proved.{plans_the_best, says_yes_soundly, simulates}
+use Rattle.abrlab_top.specs.Runs.{Runs, world}
+use Rattle.abrlab_top.proofs.Proved.{headline, plans_the_best, says_yes_soundly, simulates}
 use Rattle.abrlab_top.proofs.run.Goals as goal
 
 pub returns-clause-runs : goal.returns-clause-runs
@@ -24,3 +24,13 @@ returns-clause-checks g c =
     says_yes_soundly (map string_bytes c.args.words.now) (world (g.F.Shelf.shelved c.args.shelf.now) (g.O.Sink.seen c.args.out.now) (g.E.Sink.seen c.args.err.now))
     (world (g.F.Shelf.shelved c.run_command-ending.new.shelf) (g.O.Sink.seen c.run_command-ending.new.out) (g.E.Sink.seen c.tell.new.err)) c.run_command-ending.result c.status.result
     (record { words = c.run_command-ending.ensures.words; ends = c.run_command-ending.ensures.ends; err = c.tell.ensures }) c.status.ensures
+
+pub returns-clause-headline : goal.returns-clause-headline
+returns-clause-headline g c =
+    let line = map string_bytes c.args.words.now in
+    let old = world (g.F.Shelf.shelved c.args.shelf.now) (g.O.Sink.seen c.args.out.now) (g.E.Sink.seen c.args.err.now) in
+    let new = world (g.F.Shelf.shelved c.run_command-ending.new.shelf) (g.O.Sink.seen c.run_command-ending.new.out) (g.E.Sink.seen c.tell.new.err) in
+    let e = c.run_command-ending.result in
+    let runs : Runs line old e new = record { words = c.run_command-ending.ensures.words; ends = c.run_command-ending.ensures.ends; err = c.tell.ensures } in
+    headline line old new c.status.result (simulates line old new e c.status.result runs c.status.ensures) (plans_the_best line old new e c.status.result runs c.status.ensures)
+    (says_yes_soundly line old new e c.status.result runs c.status.ensures)

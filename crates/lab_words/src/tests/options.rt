@@ -26,6 +26,82 @@ const UTILITIES: [(&str, &str); 6] = [
     ("check --manifest m --trace t --certificate c", "Usage"),
 ];
 
+/// Media ahead.
+const LIVE: [(&str, &str); 7] = [
+    (
+        "simulate --manifest m --trace t --rule fixed:1 --utilities 0 --live 120000000",
+        "number: 0, live: Some(120000000)",
+    ),
+    (
+        "plan --manifest m --trace t --utilities 0 --live=0",
+        "number: 0, live: Some(0)",
+    ),
+    (
+        "check --manifest m --trace t --utilities 0 --certificate c --live 8000",
+        "number: 0, live: Some(8000)",
+    ),
+    (
+        "plan --manifest m --trace t --utilities 0 --live 120000001",
+        "Usage",
+    ),
+    (
+        "compare --manifest m --rules fixed:1 --utilities 0 --live 5 t",
+        "Usage",
+    ),
+    (
+        "simulate --manifest m --trace t --rule fixed:1 --utilities 0 --live 0 --abandon",
+        "Usage",
+    ),
+    (
+        "simulate --manifest m --trace t --rule fixed:1 --utilities 0 --seeks s --live 5",
+        "Usage",
+    ),
+];
+
+/// Coarse plans and their certificates.
+const COARSE: [(&str, &str); 10] = [
+    (
+        "plan --manifest m --trace t --utilities 0 --coarse 10,200",
+        "live: None, coarse_time: 10, coarse_value: 200, gap: false",
+    ),
+    (
+        "plan --manifest m --trace t --utilities 0 --coarse=10000,1000000",
+        "coarse_time: 10000, coarse_value: 1000000",
+    ),
+    (
+        "check --manifest m --trace t --utilities 0 --certificate c --gap",
+        "coarse_value: 0, gap: true",
+    ),
+    (
+        "plan --manifest m --trace t --utilities 0 --coarse 10",
+        "Usage",
+    ),
+    (
+        "plan --manifest m --trace t --utilities 0 --coarse 1,2,3",
+        "Usage",
+    ),
+    (
+        "plan --manifest m --trace t --utilities 0 --coarse 0,5",
+        "Usage",
+    ),
+    (
+        "plan --manifest m --trace t --utilities 0 --coarse 10001,5",
+        "Usage",
+    ),
+    (
+        "plan --manifest m --trace t --utilities 0 --coarse 5,1000001",
+        "Usage",
+    ),
+    (
+        "plan --manifest m --trace t --utilities 0 --coarse 1,1 --live 0",
+        "Usage",
+    ),
+    (
+        "check --manifest m --trace t --utilities 0 --certificate c --live 0 --gap",
+        "Usage",
+    ),
+];
+
 /// What the words of a line ask for, or why not.
 fn told(alloc: Global, line: &str) -> Result<String, Fail> {
     let words = words_of(alloc, line)?;
@@ -45,5 +121,7 @@ fn shows(rt: &impl Abort, alloc: Global, lines: &[(&str, &str)]) -> Result<(), F
 
 #[test]
 fn options(rt: HostRuntime) -> Result<(), Fail> {
-    shows(&rt, rt.alloc(), &UTILITIES)
+    shows(&rt, rt.alloc(), &UTILITIES)?;
+    shows(&rt, rt.alloc(), &LIVE)?;
+    shows(&rt, rt.alloc(), &COARSE)
 }

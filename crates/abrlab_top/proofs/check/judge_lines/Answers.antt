@@ -9,19 +9,20 @@ use Rattle.abrlab_top.proofs.Plans.{task_is}
 use Rattle.abrlab_top.proofs.check.judge_lines.Goals as goal
 
 pub returns-in_err-clock : goal.returns-in_err-clock
-returns-in_err-clock c = judging_wants c.args.inputs.now c.from_residual.result c.from_residual.ensures.1
+returns-in_err-clock c = judging_wants c.args.gap c.args.inputs.now c.from_residual.result c.from_residual.ensures.1
 
 pub returns-in-Ok : goal.returns-in-Ok
 returns-in-Ok c =
     let i = c.args.inputs.now in
-    let score = c.score-score.result in
-    let small : SFits w128 score = search rules in
-    verdict_judged i (network_of c.args.network.now) _ c.args.lines (record { score = _; verdict = c.in-Ok.verdict }) c.requires.network c.requires.settled
-    (task_is i c.args.network.now.trace c.in_ok-clock.clock c.manifest.result.now c.setup.result.now c.manifest.ensures c.in_ok-clock.ensures.clock c.setup.ensures)
-    c.requires.certificate (to_z-of_z w128 score small ∙ c.score-score.ensures) (c.in-Ok.ensures.verdict i.certificate c.requires.certificate)
+    let score = to_z-of_z w128 c.score-score.result (search rules) ∙ c.score-score.ensures in
+    let bound = to_z-of_z w128 c.bound-bound.result (search rules) ∙ c.bound-bound.ensures in
+    verdict_judged c.args.gap i (network_of c.args.network.now) _ c.args.lines (record { score = _; bound = _; verdict = c.in-Ok.verdict }) c.requires.network c.requires.settled
+    (task_is i c.args.network.now.trace c.in_ok-clock.clock c.manifest-film.result.now c.setup-setup.result.now c.media_ahead.result c.manifest-film.ensures c.in_ok-clock.ensures.clock c.setup-setup.ensures c.media_ahead.ensures.value)
+    c.requires.certificate score bound _ bound (c.in-Ok.ensures.verdict i.certificate) (c.in-Ok.ensures.gap i.certificate)
 
 pub returns : goal.returns
 returns c =
     let i = c.args.inputs.now in
-    subst (λ h. Judges i (Err h)) (sym c.bad_line.ensures)
-    (bad_judged i (network_of c.args.network.now) c.in-Err.fault c.requires.network (verdict_fails _ i.certificate c.in-Err.fault (c.in-Err.ensures.verdict i.certificate c.requires.certificate)))
+    subst (λ h. Judges c.args.gap i (Err h)) (sym c.bad_line.ensures)
+    (bad_judged c.args.gap i (network_of c.args.network.now) c.in-Err.fault c.requires.network
+    (verdict_fails c.args.gap _ i.certificate _ c.args.lines c.in-Err.fault c.requires.certificate (c.in-Err.ensures.verdict i.certificate) (c.in-Err.ensures.gap i.certificate)))

@@ -33,8 +33,8 @@ returns-in_err-clock g c = exit at_the_end (simulate c.args.inputs.now) _ _ c.fr
 pub returns-in_err-rule : goal.returns-in_err-rule
 returns-in_err-rule g c = exit at_the_end (simulate c.args.inputs.now) _ _ c.from_residual-in_err-rule.result _ c.from_residual-in_err-rule.ensures.1 (wanting at_the_end (simulate c.args.inputs.now) _)
 
-pub play-requires-clause-rule : goal.play-requires-clause-rule
-play-requires-clause-rule g c =
+pub play_from-requires-clause-rule : goal.play_from-requires-clause-rule
+play_from-requires-clause-rule g c =
     let i = c.args.inputs.now in
     let rule : slice_get i.rules 0 ≡ Some (named c.in-Some-rule.rule.now) = some_there _ _ _ _ c.in-Some-rule.is c.rule.ensures.value in
     rule_fits i c.manifest.result.now (kind_of c.in_ok-rule.rule) _ rule (all_settled i c.fit.result _ c.in_ok-fit.was c.fit.ensures).1.rules c.in_ok-rule.ensures.kind c.manifest.ensures
@@ -48,8 +48,8 @@ returns-in_err-write_session g c =
     let network : slice_get i.networks 0 ≡ Some (network_of c.in-Some.network.now) = some_there _ _ _ _ c.in-Some.is c.network.ensures in
     let rule : slice_get i.rules 0 ≡ Some (named c.in-Some-rule.rule.now) = some_there _ _ _ _ c.in-Some-rule.is c.rule.ensures.value in
     let fits = all_settled i c.fit.result _ c.in_ok-fit.was c.fit.ensures in
-    let text = played i c.in-Some.network.now.trace c.in_ok-clock.clock c.manifest.result.now c.setup.result.now c.seeks.result.now (kind_of c.in_ok-rule.rule) (spoken c.in-Some-rule.rule.now.rule) (shown c.in_ok-session.session) c.setup-2.result.now
-    c.in_ok-session.ensures.session c.manifest.ensures c.in_ok-clock.ensures.clock c.setup.ensures c.seeks.ensures.value c.in_ok-rule.ensures.kind c.setup-2.ensures in
+    let text = played i c.in-Some.network.now.trace c.in_ok-clock.clock c.manifest.result.now c.setup.result.now c.seeks.result.now c.media_ahead.result (kind_of c.in_ok-rule.rule) (spoken c.in-Some-rule.rule.now.rule) (shown c.in_ok-session.session) c.setup-2.result.now
+    c.in_ok-session.ensures.session c.manifest.ensures c.in_ok-clock.ensures.clock c.setup.ensures c.seeks.ensures.value c.media_ahead.ensures.value c.in_ok-rule.ensures.kind c.setup-2.ensures in
     exit at_the_end (simulate i) _ _ c.from_residual-in_err-write_session.result _ c.from_residual-in_err-write_session.ensures.1
     (put_failed at_the_end (simulate i) (printed (session_on i c.in-Some.network.now.trace (spoken c.in-Some-rule.rule.now.rule))) _ _ c.write_session.result _ (simulated i _ _ network rule fits.0) tt c.in_err-write_session.was (puts_as _ _ _ _ _ text c.write_session.ensures))
 
@@ -59,6 +59,6 @@ returns g c =
     let network : slice_get i.networks 0 ≡ Some (network_of c.in-Some.network.now) = some_there _ _ _ _ c.in-Some.is c.network.ensures in
     let rule : slice_get i.rules 0 ≡ Some (named c.in-Some-rule.rule.now) = some_there _ _ _ _ c.in-Some-rule.is c.rule.ensures.value in
     let fits = all_settled i c.fit.result _ c.in_ok-fit.was c.fit.ensures in
-    let text = played i c.in-Some.network.now.trace c.in_ok-clock.clock c.manifest.result.now c.setup.result.now c.seeks.result.now (kind_of c.in_ok-rule.rule) (spoken c.in-Some-rule.rule.now.rule) (shown c.in_ok-session.session) c.setup-2.result.now
-    c.in_ok-session.ensures.session c.manifest.ensures c.in_ok-clock.ensures.clock c.setup.ensures c.seeks.ensures.value c.in_ok-rule.ensures.kind c.setup-2.ensures in
+    let text = played i c.in-Some.network.now.trace c.in_ok-clock.clock c.manifest.result.now c.setup.result.now c.seeks.result.now c.media_ahead.result (kind_of c.in_ok-rule.rule) (spoken c.in-Some-rule.rule.now.rule) (shown c.in_ok-session.session) c.setup-2.result.now
+    c.in_ok-session.ensures.session c.manifest.ensures c.in_ok-clock.ensures.clock c.setup.ensures c.seeks.ensures.value c.media_ahead.ensures.value c.in_ok-rule.ensures.kind c.setup-2.ensures in
     put_done at_the_end (simulate i) (session_on i c.in-Some.network.now.trace (spoken c.in-Some-rule.rule.now.rule)) _ _ c.write_session.result _ (simulated i _ _ network rule fits.0) c.in_ok-write_session.was (puts_as _ _ _ _ _ text c.write_session.ensures)

@@ -1,0 +1,493 @@
+// Whole runs with options of further reach: live sessions, and plans with a certified gap.
+use super::Text::{Ends, Is};
+use super::files::{FALLING, SHORT, SLOW, STEADY, UNEVEN, WAVES};
+use super::{Answer, Case, File, NO_FILE, NONE, Text, assert_answer, run_words};
+use std::alloc::{AllocError, Global};
+use std::test::Fail;
+
+// Two films on networks that change.
+const LONGER: [File; 2] = [("m", WAVES), ("t", FALLING)];
+
+const SHORTER: [File; 2] = [("m", SHORT), ("t", UNEVEN)];
+
+// Live sessions.
+#[rattlefmt::skip]
+static SESSIONS: [Case; 9] = [
+    Case {
+        name: "live edge",
+        words: "simulate --manifest m --trace t --utilities 0,10 --buffer 10000 --rule fixed:1 --live 0",
+        file: NO_FILE,
+        files: &STEADY,
+        status: 0,
+        out: Is("1000 request 0 1\n2000 arrive 0 1 first 1000 rate 2000000\n2000 request 1 1\n2000 play 0 1\n3000 arrive 1 1 first 2000 rate 2000000\n3000 request 2 1\n3000 play 1 1\n4000 arrive 2 1 first 3000 rate 2000000\n4000 play 2 1\n5000 end\nstartup 2000\nstall 0\nstalls 0\nseeking 0\nwasted 0\nend 5000\nscore 28000\n"),
+        err: "",
+    },
+    Case {
+        name: "live edge on the low rung",
+        words: "simulate --manifest m --trace t --utilities 0,10 --buffer 10000 --rule fixed:0 --live 0",
+        file: NO_FILE,
+        files: &STEADY,
+        status: 0,
+        out: Ends("startup 1500\nstall 0\nstalls 0\nseeking 0\nwasted 0\nend 4500\nscore -1500\n"),
+        err: "",
+    },
+    Case {
+        name: "live behind",
+        words: "simulate --manifest m --trace t --utilities 0,10 --buffer 10000 --rule fixed:1 --live 3000",
+        file: NO_FILE,
+        files: &STEADY,
+        status: 0,
+        out: Is("0 request 0 1\n1000 arrive 0 1 first 0 rate 2000000\n1000 request 1 1\n1000 play 0 1\n2000 arrive 1 1 first 1000 rate 2000000\n2000 request 2 1\n2000 play 1 1\n3000 arrive 2 1 first 2000 rate 2000000\n3000 play 2 1\n4000 end\nstartup 1000\nstall 0\nstalls 0\nseeking 0\nwasted 0\nend 4000\nscore 29000\n"),
+        err: "",
+    },
+    Case {
+        name: "live in mid-segment",
+        words: "simulate --manifest m --trace t --utilities 0,10,25 --buffer 4000 --switch 7 --stall 11 --startup 13 --rule mpc:3 --live 1700",
+        file: NO_FILE,
+        files: &SHORTER,
+        status: 0,
+        out: Ends("startup 295\nstall 2194\nstalls 1\nseeking 0\nwasted 0\nend 8489\nscore 41611\n"),
+        err: "",
+    },
+    Case {
+        name: "live with the film over",
+        words: "simulate --manifest m --trace t --utilities 0,10,25 --buffer 4000 --switch 7 --stall 11 --startup 13 --rule throughput:3,5 --live 120000000",
+        file: NO_FILE,
+        files: &SHORTER,
+        status: 0,
+        out: Ends("startup 295\nstall 834\nstalls 2\nseeking 0\nwasted 0\nend 7129\nscore 36921\n"),
+        err: "",
+    },
+    Case {
+        name: "live at the edge",
+        words: "simulate --manifest m --trace t --utilities 0,5,5,20 --buffer 12000 --switch 3 --rule bola:5 --live 2000",
+        file: NO_FILE,
+        files: &LONGER,
+        status: 0,
+        out: Ends("startup 192\nstall 5711\nstalls 4\nseeking 0\nwasted 0\nend 25903\nscore -536397\n"),
+        err: "",
+    },
+    Case {
+        name: "live and abandoning",
+        words: "simulate --manifest m --trace t --utilities 0,10 --buffer 10000 --rule fixed:1 --live 0 --abandon",
+        file: NO_FILE,
+        files: &STEADY,
+        status: 2,
+        out: Is(""),
+        err: "abrlab: usage: simulate, compare, plan, check, demo\n",
+    },
+    Case {
+        name: "live and seeking",
+        words: "simulate --manifest m --trace t --utilities 0,10 --buffer 10000 --rule fixed:1 --live 0 --seeks s",
+        file: NO_FILE,
+        files: &STEADY,
+        status: 2,
+        out: Is(""),
+        err: "abrlab: usage: simulate, compare, plan, check, demo\n",
+    },
+    Case {
+        name: "more ahead than may be",
+        words: "simulate --manifest m --trace t --utilities 0,10 --buffer 10000 --rule fixed:1 --live 120000001",
+        file: NO_FILE,
+        files: &STEADY,
+        status: 2,
+        out: Is(""),
+        err: "abrlab: usage: simulate, compare, plan, check, demo\n",
+    },
+];
+
+// Plans of live sessions, and plans on a grid.
+#[rattlefmt::skip]
+static PLANS: [Case; 12] = [
+    Case {
+        name: "live edge",
+        words: "plan --manifest m --trace t --utilities 0,10 --buffer 10000 --live 0",
+        file: NO_FILE,
+        files: &STEADY,
+        status: 0,
+        out: Is("score 28000\nlabels 8\nplan 1 1 1\n"),
+        err: "",
+    },
+    Case {
+        name: "live behind",
+        words: "plan --manifest m --trace t --utilities 0,10 --buffer 10000 --live 0 --budget 7",
+        file: NO_FILE,
+        files: &STEADY,
+        status: 6,
+        out: Is(""),
+        err: "abrlab: budget spent at segment 2\n",
+    },
+    Case {
+        name: "live in mid-segment",
+        words: "plan --manifest m --trace t --utilities 0,10,25 --buffer 4000 --switch 7 --stall 11 --startup 13 --live 1700",
+        file: NO_FILE,
+        files: &SHORTER,
+        status: 0,
+        out: Is("score 70265\nlabels 152\nplan 1 2 1 2 2 2\n"),
+        err: "",
+    },
+    Case {
+        name: "live at the edge",
+        words: "plan --manifest m --trace t --utilities 0,5,5,20 --buffer 12000 --switch 3 --live 2000",
+        file: NO_FILE,
+        files: &LONGER,
+        status: 0,
+        out: Is("score -10605\nlabels 478\nplan 3 3 3 3 1 0 0 0 1 1\n"),
+        err: "",
+    },
+    Case {
+        name: "live and coarse",
+        words: "plan --manifest m --trace t --utilities 0,10 --buffer 10000 --live 0 --coarse 1,1",
+        file: NO_FILE,
+        files: &STEADY,
+        status: 2,
+        out: Is(""),
+        err: "abrlab: usage: simulate, compare, plan, check, demo\n",
+    },
+    Case {
+        name: "fine grid",
+        words: "plan --manifest m --trace t --utilities 0,10 --buffer 10000 --coarse 1,1",
+        file: NO_FILE,
+        files: &SLOW,
+        status: 0,
+        out: Is("score -194000\nbound -194000\nlabels 12\nplan 1 0 0\n"),
+        err: "",
+    },
+    Case {
+        name: "coarse grid",
+        words: "plan --manifest m --trace t --utilities 0,10 --buffer 10000 --coarse 4000,1",
+        file: NO_FILE,
+        files: &SLOW,
+        status: 0,
+        out: Is("score -392000\nbound 208000\nlabels 12\nplan 0 0 1\n"),
+        err: "",
+    },
+    Case {
+        name: "coarse grid and its budget",
+        words: "plan --manifest m --trace t --utilities 0,10 --buffer 10000 --coarse 4000,1 --budget 11",
+        file: NO_FILE,
+        files: &SLOW,
+        status: 6,
+        out: Is(""),
+        err: "abrlab: budget spent at segment 2\n",
+    },
+    Case {
+        name: "no step of time",
+        words: "plan --manifest m --trace t --utilities 0,10 --buffer 10000 --coarse 0,1",
+        file: NO_FILE,
+        files: &SLOW,
+        status: 2,
+        out: Is(""),
+        err: "abrlab: usage: simulate, compare, plan, check, demo\n",
+    },
+    Case {
+        name: "a coarser grid",
+        words: "plan --manifest m --trace t --utilities 0,10,25 --buffer 4000 --switch 7 --stall 11 --startup 13 --coarse 100,1000",
+        file: NO_FILE,
+        files: &SHORTER,
+        status: 0,
+        out: Is("score 58444\nbound 76600\nlabels 150\nplan 0 2 2 2 2 2\n"),
+        err: "",
+    },
+    Case {
+        name: "the coarsest grid",
+        words: "plan --manifest m --trace t --utilities 0,5,5,20 --buffer 12000 --switch 3 --coarse 10000,1000000",
+        file: NO_FILE,
+        files: &LONGER,
+        status: 0,
+        out: Is("score 44793\nbound 10000000\nlabels 40\nplan 0 1 1 1 1 1 1 1 1 1\n"),
+        err: "",
+    },
+    Case {
+        name: "a fine grid of values",
+        words: "plan --manifest m --trace t --utilities 0,5,5,20 --buffer 12000 --switch 3 --coarse 1,250",
+        file: NO_FILE,
+        files: &LONGER,
+        status: 0,
+        out: Is("score 148670\nbound 149000\nlabels 1123\nplan 3 3 3 3 1 3 0 3 1 3\n"),
+        err: "",
+    },
+];
+
+#[test]
+fn sessions(rt: HostRuntime) -> Result<(), Fail> {
+    for case in &SESSIONS {
+        assert_answer(&rt, rt.alloc(), case)?;
+    }
+    Ok(())
+}
+
+#[test]
+fn plans(rt: HostRuntime) -> Result<(), Fail> {
+    for case in &PLANS {
+        assert_answer(&rt, rt.alloc(), case)?;
+    }
+    Ok(())
+}
+
+// A plan as a certificate, the check of what it printed, and what that answers.
+struct Round {
+    plan: &'static str,
+    check: &'static str,
+    files: &'static [File],
+    status: u8,
+    out: Text,
+    err: &'static str,
+}
+
+#[rattlefmt::skip]
+static ROUNDS: [Round; 12] = [
+    // Live edge.
+    Round {
+        plan: "plan --manifest m --trace t --utilities 0,10 --buffer 10000 --live 0 --as-certificate",
+        check: "check --manifest m --trace t --utilities 0,10 --buffer 10000 --live 0 --certificate c",
+        files: &STEADY,
+        status: 0,
+        out: Is("yes score 28000\n"),
+        err: "",
+    },
+    // Another edge.
+    Round {
+        plan: "plan --manifest m --trace t --utilities 0,10 --buffer 10000 --live 0 --as-certificate",
+        check: "check --manifest m --trace t --utilities 0,10 --buffer 10000 --live 1 --certificate c",
+        files: &STEADY,
+        status: 1,
+        out: Is("no V3 segment 0 rung 0 label 0\n"),
+        err: "",
+    },
+    // Live for on demand.
+    Round {
+        plan: "plan --manifest m --trace t --utilities 0,10 --buffer 10000 --as-certificate",
+        check: "check --manifest m --trace t --utilities 0,10 --buffer 10000 --live 0 --certificate c",
+        files: &STEADY,
+        status: 1,
+        out: Is("no V3 segment 0 rung 0 label 0\n"),
+        err: "",
+    },
+    // On demand for live.
+    Round {
+        plan: "plan --manifest m --trace t --utilities 0,10 --buffer 10000 --live 0 --as-certificate",
+        check: "check --manifest m --trace t --utilities 0,10 --buffer 10000 --certificate c",
+        files: &STEADY,
+        status: 1,
+        out: Is("no V3 segment 0 rung 0 label 0\n"),
+        err: "",
+    },
+    // Live in mid-segment.
+    Round {
+        plan: "plan --manifest m --trace t --utilities 0,10,25 --buffer 4000 --switch 7 --stall 11 --startup 13 --live 1700 --as-certificate",
+        check: "check --manifest m --trace t --utilities 0,10,25 --buffer 4000 --switch 7 --stall 11 --startup 13 --live 1700 --certificate c",
+        files: &SHORTER,
+        status: 0,
+        out: Is("yes score 70265\n"),
+        err: "",
+    },
+    // Live at the edge.
+    Round {
+        plan: "plan --manifest m --trace t --utilities 0,5,5,20 --buffer 12000 --switch 3 --live 2000 --as-certificate",
+        check: "check --manifest m --trace t --utilities 0,5,5,20 --buffer 12000 --switch 3 --live 2000 --certificate c",
+        files: &LONGER,
+        status: 0,
+        out: Is("yes score -10605\n"),
+        err: "",
+    },
+    // Coarse grid.
+    Round {
+        plan: "plan --manifest m --trace t --utilities 0,10 --buffer 10000 --coarse 4000,1 --as-certificate",
+        check: "check --manifest m --trace t --utilities 0,10 --buffer 10000 --gap --certificate c",
+        files: &SLOW,
+        status: 0,
+        out: Is("yes score -392000 bound 208000\n"),
+        err: "",
+    },
+    // Fine grid.
+    Round {
+        plan: "plan --manifest m --trace t --utilities 0,10 --buffer 10000 --coarse 1,1 --as-certificate",
+        check: "check --manifest m --trace t --utilities 0,10 --buffer 10000 --gap --certificate c",
+        files: &SLOW,
+        status: 0,
+        out: Is("yes score -194000 bound -194000\n"),
+        err: "",
+    },
+    // A gap certificate for a plain one.
+    Round {
+        plan: "plan --manifest m --trace t --utilities 0,10 --buffer 10000 --coarse 4000,1 --as-certificate",
+        check: "check --manifest m --trace t --utilities 0,10 --buffer 10000 --certificate c",
+        files: &SLOW,
+        status: 3,
+        out: Is(""),
+        err: "abrlab: certificate file: bad-line at line row 1 column 0\n",
+    },
+    // A plain certificate for one with a gap.
+    Round {
+        plan: "plan --manifest m --trace t --utilities 0,10 --buffer 10000 --as-certificate",
+        check: "check --manifest m --trace t --utilities 0,10 --buffer 10000 --gap --certificate c",
+        files: &SLOW,
+        status: 3,
+        out: Is(""),
+        err: "abrlab: certificate file: bad-line at line row 1 column 0\n",
+    },
+    // A coarser grid.
+    Round {
+        plan: "plan --manifest m --trace t --utilities 0,10,25 --buffer 4000 --switch 7 --stall 11 --startup 13 --coarse 100,1000 --as-certificate",
+        check: "check --manifest m --trace t --utilities 0,10,25 --buffer 4000 --switch 7 --stall 11 --startup 13 --gap --certificate c",
+        files: &SHORTER,
+        status: 0,
+        out: Is("yes score 58444 bound 76600\n"),
+        err: "",
+    },
+    // A fine grid of values.
+    Round {
+        plan: "plan --manifest m --trace t --utilities 0,5,5,20 --buffer 12000 --switch 3 --coarse 1,250 --as-certificate",
+        check: "check --manifest m --trace t --utilities 0,5,5,20 --buffer 12000 --switch 3 --gap --certificate c",
+        files: &LONGER,
+        status: 0,
+        out: Is("yes score 148670 bound 149000\n"),
+        err: "",
+    },
+];
+
+// What `check` answers to what `plan` printed.
+fn checked(alloc: Global, round: &Round) -> Result<Answer, Fail> {
+    let plan = run_words(alloc, round.plan, round.files, NONE)?;
+    let mut files = Vec::from_slice(alloc, round.files)?;
+    files.push(("c", str::from_utf8(plan.out.written())?))?;
+    Ok(run_words(alloc, round.check, &files, NONE)?)
+}
+
+#[test]
+fn rounds(rt: HostRuntime) -> Result<(), Fail> {
+    for round in &ROUNDS {
+        let answer = checked(rt.alloc(), round)?;
+        assert!(rt;
+            answer.is(round.status, &round.out, round.err),
+            "{}",
+            round.plan
+        );
+    }
+    Ok(())
+}
+
+// The gap certificate of the example coarse-grid.
+const COARSE_GRID: &str = "abrlab gap 1
+bound 208000
+abrlab certificate 1
+segments 3
+rungs 2
+score -392000
+plan 0 0 1
+start 0 0
+layer 0 0 1
+0 0 198000 0 0
+layer 0 1 1
+4000 4000 406000 1 1
+layer 1 0 2
+0 0 198000 0 0
+4000 4000 406000 1 1
+layer 1 1 2
+4000 0 208000 1 1
+8000 4000 416000 2 2
+layer 2 0 3
+0 0 198000
+4000 4000 406000
+8000 8000 416000
+layer 2 1 3
+4000 0 208000
+8000 4000 416000
+12000 8000 426000
+end
+";
+
+const CHECK_GAP: &str =
+    "check --manifest m --trace t --utilities 0,10 --buffer 10000 --gap --certificate c";
+
+// A line of it in another form, and what `check --gap` answers.
+struct Spoiled {
+    row: usize,
+    line: &'static str,
+    status: u8,
+    out: Text,
+    err: &'static str,
+}
+
+#[rattlefmt::skip]
+static HEADS: [Spoiled; 15] = [
+    Spoiled { row: 1, line: "abrlab gap 2", status: 3, out: Is(""), err: "abrlab: certificate file: bad-line at line row 1 column 0\n" },
+    Spoiled { row: 1, line: "abrlab certificate 1", status: 3, out: Is(""), err: "abrlab: certificate file: bad-line at line row 1 column 0\n" },
+    Spoiled { row: 2, line: "bound 207999", status: 1, out: Is("no V5 segment 2 rung 1 label 0\n"), err: "" },
+    Spoiled { row: 2, line: "bound 208001", status: 0, out: Is("yes score -392000 bound 208001\n"), err: "" },
+    Spoiled { row: 2, line: "bound 0208000", status: 3, out: Is(""), err: "abrlab: certificate file: bad-line at line row 2 column 0\n" },
+    Spoiled { row: 2, line: "bound  208000", status: 3, out: Is(""), err: "abrlab: certificate file: bad-line at line row 2 column 0\n" },
+    Spoiled { row: 2, line: "bound -0", status: 3, out: Is(""), err: "abrlab: certificate file: bad-line at line row 2 column 0\n" },
+    Spoiled { row: 2, line: "bound 999999999999999999999999", status: 0, out: Is("yes score -392000 bound 999999999999999999999999\n"), err: "" },
+    Spoiled { row: 2, line: "bound 1000000000000000000000000", status: 3, out: Is(""), err: "abrlab: certificate file: bad-line at line row 2 column 0\n" },
+    Spoiled { row: 2, line: "bound -208000", status: 1, out: Is("no V5 segment 2 rung 0 label 0\n"), err: "" },
+    Spoiled { row: 2, line: "score 208000", status: 3, out: Is(""), err: "abrlab: certificate file: bad-line at line row 2 column 0\n" },
+    Spoiled { row: 3, line: "abrlab certificate 2", status: 3, out: Is(""), err: "abrlab: certificate file: bad-line at line row 6 column 0\n" },
+    Spoiled { row: 3, line: "abrlab gap 1", status: 3, out: Is(""), err: "abrlab: certificate file: bad-line at line row 3 column 0\n" },
+    Spoiled { row: 4, line: "segments 2", status: 3, out: Is(""), err: "abrlab: certificate file: bad-line at line row 7 column 0\n" },
+    Spoiled { row: 5, line: "rungs 3", status: 3, out: Is(""), err: "abrlab: certificate file: bad-line at line row 8 column 0\n" },
+];
+
+#[rattlefmt::skip]
+static BODIES: [Spoiled; 15] = [
+    Spoiled { row: 6, line: "score -391999", status: 1, out: Is("no V6 segment 0 rung 0 label 0\n"), err: "" },
+    Spoiled { row: 6, line: "score 208000", status: 1, out: Is("no V6 segment 0 rung 0 label 0\n"), err: "" },
+    Spoiled { row: 7, line: "plan 0 0 2", status: 1, out: Is("no V2 segment 2 rung 0 label 0\n"), err: "" },
+    Spoiled { row: 7, line: "plan 0 0 0", status: 1, out: Is("no V6 segment 0 rung 0 label 0\n"), err: "" },
+    Spoiled { row: 8, line: "start 0 1", status: 1, out: Is("no V2 segment 0 rung 1 label 0\n"), err: "" },
+    Spoiled { row: 9, line: "layer 0 0 2", status: 3, out: Is(""), err: "abrlab: certificate file: bad-line at line row 11 column 0\n" },
+    Spoiled { row: 10, line: "0 0 198000 0 1", status: 1, out: Is("no V4 segment 0 rung 0 label 0\n"), err: "" },
+    Spoiled { row: 10, line: "4001 0 198000 0 0", status: 1, out: Is("no V3 segment 0 rung 0 label 0\n"), err: "" },
+    Spoiled { row: 10, line: "0 0 197999 0 0", status: 1, out: Is("no V3 segment 0 rung 0 label 0\n"), err: "" },
+    Spoiled { row: 12, line: "8001 4000 406000 1 1", status: 1, out: Is("no V3 segment 0 rung 1 label 0\n"), err: "" },
+    Spoiled { row: 12, line: "4000 4000 405999 1 1", status: 1, out: Is("no V3 segment 0 rung 1 label 0\n"), err: "" },
+    Spoiled { row: 14, line: "0 1 198000 0 0", status: 0, out: Is("yes score -392000 bound 208000\n"), err: "" },
+    Spoiled { row: 15, line: "4000 4000 406000 1 3", status: 1, out: Is("no V2 segment 1 rung 0 label 1\n"), err: "" },
+    Spoiled { row: 21, line: "01 0 198000", status: 3, out: Is(""), err: "abrlab: certificate file: bad-line at line row 21 column 0\n" },
+    Spoiled { row: 27, line: "END", status: 3, out: Is(""), err: "abrlab: certificate file: bad-line at line row 27 column 0\n" },
+];
+
+// The gap certificate with another line at a row.
+fn with_line(alloc: Global, row: usize, other: &str) -> Result<String, AllocError> {
+    let mut text = String::new(alloc);
+    for (index, line) in COARSE_GRID.lines().enumerate() {
+        text.push_str(if index + 1 == row { other } else { line })?;
+        text.push('\n')?;
+    }
+    Ok(text)
+}
+
+// What `check --gap` answers to it.
+fn spoiled_answer(alloc: Global, spoiled: &Spoiled) -> Result<Answer, AllocError> {
+    let text = with_line(alloc, spoiled.row, spoiled.line)?;
+    let [manifest, trace] = SLOW;
+    let files = [("c", text.as_str()), manifest, trace];
+    run_words(alloc, CHECK_GAP, &files, NONE)
+}
+
+#[test]
+fn spoiled_heads(rt: HostRuntime) -> Result<(), Fail> {
+    for spoiled in &HEADS {
+        let answer = spoiled_answer(rt.alloc(), spoiled)?;
+        assert!(rt;
+            answer.is(spoiled.status, &spoiled.out, spoiled.err),
+            "{}",
+            spoiled.line
+        );
+    }
+    Ok(())
+}
+
+#[test]
+fn spoiled_bodies(rt: HostRuntime) -> Result<(), Fail> {
+    for spoiled in &BODIES {
+        let answer = spoiled_answer(rt.alloc(), spoiled)?;
+        assert!(rt;
+            answer.is(spoiled.status, &spoiled.out, spoiled.err),
+            "{}",
+            spoiled.line
+        );
+    }
+    Ok(())
+}
