@@ -173,7 +173,7 @@ is_task c files i n limits film r one = record {
   trace = first_trace r.contents.networks n (sym (ap (λ (j : InputValues). j.networks) r.inputs) ∙ one) r.within.networks;
   setup = r.fits.setup;
   weights = subst (λ (s : Setup). IsWeighing s.weights) (sym (ap (λ (j : InputValues). j.setup) r.inputs))
-  (weights_are c.table c.utilities r.contents.table (rungs_of r.contents.film) c.switch c.stall c.startup (limits.weights film) r.within.table);
+      (weights_are c.table c.utilities r.contents.table (rungs_of r.contents.film) c.switch c.stall c.startup (limits.weights film) r.within.table);
   ahead = subst (λ o. ahead_of o ≤ 120000000) (sym (ap (λ (j : InputValues). j.live) r.inputs)) (ahead_fits c.live limits.live);
 }
 
@@ -322,11 +322,11 @@ headline line old new r simulates plans checks = record {
   plans = λ c files asked v plain t s.
       plainly c files old new _ _ plain.on_demand (plans c files asked v t s)
       (λ i periods text none h.
-          subst (λ grid. (p : IsBest (task_of i.film periods i.setup all_ahead) grid c.as_certificate text) × (p.bound ≡ p.best.score)) (no_grid c.coarse_time c.coarse_value plain.exact)
-          (subst (λ live. (p : IsBest (task_of i.film periods i.setup (ahead_of live)) (grid_in c.coarse_time c.coarse_value) c.as_certificate text) × (p.bound ≡ p.best.score)) none (h.0, h.1 plain.exact)));
+      subst (λ grid. (p : IsBest (task_of i.film periods i.setup all_ahead) grid c.as_certificate text) × (p.bound ≡ p.best.score)) (no_grid c.coarse_time c.coarse_value plain.exact)
+      (subst (λ live. (p : IsBest (task_of i.film periods i.setup (ahead_of live)) (grid_in c.coarse_time c.coarse_value) c.as_certificate text) × (p.bound ≡ p.best.score)) none (h.0, h.1 plain.exact)));
   checks = λ c files asked v plain t s.
       plainly c files old new _ _ plain.on_demand (checks c files asked v t s)
       (λ i periods text none h.
-          subst (λ gap. (p : IsYes (task_of i.film periods i.setup all_ahead) gap i.certificate text) × (p.claim.bound ≡ p.claim.inner.score)) plain.no_gap
-          (subst (λ live. (p : IsYes (task_of i.film periods i.setup (ahead_of live)) c.gap i.certificate text) × (p.claim.bound ≡ p.claim.inner.score)) none (h.0, h.1 plain.no_gap)));
+      subst (λ gap. (p : IsYes (task_of i.film periods i.setup all_ahead) gap i.certificate text) × (p.claim.bound ≡ p.claim.inner.score)) plain.no_gap
+      (subst (λ live. (p : IsYes (task_of i.film periods i.setup (ahead_of live)) c.gap i.certificate text) × (p.claim.bound ≡ p.claim.inner.score)) none (h.0, h.1 plain.no_gap)));
 }

@@ -110,12 +110,7 @@ fn misfit_behind(gap: bool, lines: Lines<'_>, why: Stop) -> Ending
 }
 
 /// The verdict on the certificate, on this network.
-fn judge(
-    alloc: Global,
-    inputs: &Inputs,
-    network: &Network,
-    gap: bool,
-) -> Result<Judgement, Ending>
+fn judge(alloc: Global, inputs: &Inputs, network: &Network, gap: bool) -> Result<Judgement, Ending>
     requires network { slice_get inputs.now.networks 0 ≡ Some (network_of network.now) }
     ensures { Judges gap inputs.now result }
 {
@@ -230,7 +225,8 @@ pub(crate) fn check<F: Shelf, O: Sink>(
 ) -> Result<(), Ending>
     requires limits { IsWithinLimits (view command) }
     requires verb { (view command).verb ≡ verb.Check }
-    ensures { Ends (film_files (view command)) of_a_check (about (check (view command).gap) (view command))
+    ensures { Ends (film_files (view command)) of_a_check
+        (about (check (view command).gap) (view command))
         (F.shelved shelf.old) (O.seen out.old) (ended result)
         (F.shelved shelf.new) (O.seen out.new) }
 {

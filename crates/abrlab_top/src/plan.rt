@@ -17,7 +17,7 @@ ghost use Rattle.gap_plan.specs.Gap.{plan_gap};
 ghost use Rattle.lab_inputs.specs.Roles.{film_files};
 ghost use Rattle.abrlab_top.specs.Ending.{ended};
 ghost use Rattle.abrlab_top.specs.Outcome.{about};
-ghost use Rattle.abrlab_top.specs.Plan.{AreOptions, IsPlanned, bound_line, coarse_lines, options_of, parts_text, plan, plan_lines, steps_of};
+ghost use Rattle.abrlab_top.specs.Plan.{AreOptions, IsPlanned, bound_line, coarse_lines, grid_in, options_of, parts_text, plan, plan_lines, steps_of};
 ghost use Rattle.abrlab_top.specs.Runs.{Ends};
 ghost use Rattle.abrlab_top.specs.Stages.{Writes, at_the_end};
 
@@ -48,6 +48,17 @@ pub(crate) struct PlanOptions {
     pub as_certificate: bool,
 }
 
+/// The grid with these steps, none where there are none.
+fn grid_in(time: u32, value: u32) -> Option<Grid>
+    ensures { result ≡ grid_in time value }
+{
+    if time == 0 {
+        None
+    } else {
+        Some(Grid { time, value })
+    }
+}
+
 impl PlanOptions {
     /// What a command asks for.
     fn of(command: &Command) -> PlanOptions
@@ -56,14 +67,8 @@ impl PlanOptions {
         ensures value { result ≡ options_of (view command.now) }
         ensures within { AreOptions result }
     {
-        let (time, value) = (command.coarse_time, command.coarse_value);
-        let grid = if time == 0 {
-            None
-        } else {
-            Some(Grid { time, value })
-        };
         PlanOptions {
-            grid,
+            grid: grid_in(command.coarse_time, command.coarse_value),
             budget: command.budget,
             as_certificate: command.as_certificate,
         }
@@ -128,7 +133,7 @@ fn put_exact<O: Sink>(
     requires form { IsGapCertificate (plan_gap m.now planned.now) }
     ensures { Puts (O.seen out.old)
         (parts_text None as_certificate (plan_parts m.now planned.now.plan)
-            planned.now.bound planned.now.plan.labels)
+        planned.now.bound planned.now.plan.labels)
         (O.seen out.new) result }
 {
     if as_certificate {
@@ -148,7 +153,7 @@ fn put_coarse<O: Sink>(
     requires form { IsGapCertificate (plan_gap m.now planned.now) }
     ensures { (d : Grid) → Puts (O.seen out.old)
         (parts_text (Some d) as_certificate (plan_parts m.now planned.now.plan)
-            planned.now.bound planned.now.plan.labels)
+        planned.now.bound planned.now.plan.labels)
         (O.seen out.new) result }
 {
     if as_certificate {
@@ -168,7 +173,7 @@ fn put_answer<O: Sink>(
     requires form { IsGapCertificate (plan_gap m.now planned.now) }
     ensures { Puts (O.seen out.old)
         (parts_text options.grid options.as_certificate (plan_parts m.now planned.now.plan)
-            planned.now.bound planned.now.plan.labels)
+        planned.now.bound planned.now.plan.labels)
         (O.seen out.new) result }
 {
     match options.grid {

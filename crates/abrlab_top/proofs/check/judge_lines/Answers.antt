@@ -17,8 +17,8 @@ returns-in-Ok c =
     let score = to_z-of_z w128 c.score-score.result (search rules) ∙ c.score-score.ensures in
     let bound = to_z-of_z w128 c.bound-bound.result (search rules) ∙ c.bound-bound.ensures in
     verdict_judged c.args.gap i (network_of c.args.network.now) _ c.args.lines (record { score = _; bound = _; verdict = c.in-Ok.verdict }) c.requires.network c.requires.settled
-    (task_is i c.args.network.now.trace c.in_ok-clock.clock c.manifest.result.now c.setup.result.now c.media_ahead.result c.manifest.ensures c.in_ok-clock.ensures.clock c.setup.ensures c.media_ahead.ensures.value)
-    c.requires.certificate score bound (c.in-Ok.ensures.verdict i.certificate) (c.in-Ok.ensures.gap i.certificate)
+    (task_is i c.args.network.now.trace c.in_ok-clock.clock c.manifest-film.result.now c.setup-setup.result.now c.media_ahead.result c.manifest-film.ensures c.in_ok-clock.ensures.clock c.setup-setup.ensures c.media_ahead.ensures.value)
+    c.requires.certificate score bound _ bound (c.in-Ok.ensures.verdict i.certificate) (c.in-Ok.ensures.gap i.certificate)
 
 pub returns : goal.returns
 returns c =

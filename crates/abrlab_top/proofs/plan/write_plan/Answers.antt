@@ -25,7 +25,7 @@ returns-in_err-planned g c =
     let i = c.args.inputs.now in
     let network : slice_get i.networks 0 ≡ Some (network_of c.in-Some.network.now) = some_there _ _ _ _ c.in-Some.is c.network.ensures in
     let fits = all_settled i c.fit.result _ c.in_ok-fit.was c.fit.ensures in
-    let task = task_is i c.in-Some.network.now.trace c.in_ok-clock.clock c.manifest.result.now c.setup.result.now c.media_ahead.result c.manifest.ensures c.in_ok-clock.ensures.clock c.setup.ensures c.media_ahead.ensures.value in
+    let task = task_is i c.in-Some.network.now.trace c.in_ok-clock.clock c.manifest-film.result.now c.setup-setup.result.now c.media_ahead.result c.manifest-film.ensures c.in_ok-clock.ensures.clock c.setup-setup.ensures c.media_ahead.ensures.value in
     exit at_the_end (plan c.args.options i) _ _ c.from_residual-in_err-planned.result _ c.from_residual-in_err-planned.ensures.1
     (plan_failed c.args.options i _ _ _ c.plan_on.result _ network fits.0 task c.in_err-planned.was c.plan_on.ensures.answer)
 
@@ -34,16 +34,16 @@ put_answer-requires g c =
     let i = c.args.inputs.now in
     let network : slice_get i.networks 0 ≡ Some (network_of c.in-Some.network.now) = some_there _ _ _ _ c.in-Some.is c.network.ensures in
     let fits = all_settled i c.fit.result _ c.in_ok-fit.was c.fit.ensures in
-    let task = task_is i c.in-Some.network.now.trace c.in_ok-clock.clock c.manifest.result.now c.setup.result.now c.media_ahead.result c.manifest.ensures c.in_ok-clock.ensures.clock c.setup.ensures c.media_ahead.ensures.value in
-    record { form = (planned_whole c.args.options i _ c.manifest.result.now _ c.in_ok-planned.planned network fits.0 task c.manifest.ensures (plan_given c.args.options _ c.plan_on.result _ c.in_ok-planned.was c.plan_on.ensures.answer)).0 }
+    let task = task_is i c.in-Some.network.now.trace c.in_ok-clock.clock c.manifest-film.result.now c.setup-setup.result.now c.media_ahead.result c.manifest-film.ensures c.in_ok-clock.ensures.clock c.setup-setup.ensures c.media_ahead.ensures.value in
+    record { form = (planned_whole c.args.options i _ c.manifest-film.result.now _ c.in_ok-planned.planned network fits.0 task c.manifest-film.ensures (plan_given c.args.options _ c.plan_on.result _ c.in_ok-planned.was c.plan_on.ensures.answer)).0 }
 
 pub returns-in_err-put_answer : goal.returns-in_err-put_answer
 returns-in_err-put_answer g c =
     let i = c.args.inputs.now in
     let network : slice_get i.networks 0 ≡ Some (network_of c.in-Some.network.now) = some_there _ _ _ _ c.in-Some.is c.network.ensures in
     let fits = all_settled i c.fit.result _ c.in_ok-fit.was c.fit.ensures in
-    let task = task_is i c.in-Some.network.now.trace c.in_ok-clock.clock c.manifest.result.now c.setup.result.now c.media_ahead.result c.manifest.ensures c.in_ok-clock.ensures.clock c.setup.ensures c.media_ahead.ensures.value in
-    let whole = planned_whole c.args.options i _ c.manifest.result.now _ c.in_ok-planned.planned network fits.0 task c.manifest.ensures (plan_given c.args.options _ c.plan_on.result _ c.in_ok-planned.was c.plan_on.ensures.answer) in
+    let task = task_is i c.in-Some.network.now.trace c.in_ok-clock.clock c.manifest-film.result.now c.setup-setup.result.now c.media_ahead.result c.manifest-film.ensures c.in_ok-clock.ensures.clock c.setup-setup.ensures c.media_ahead.ensures.value in
+    let whole = planned_whole c.args.options i _ c.manifest-film.result.now _ c.in_ok-planned.planned network fits.0 task c.manifest-film.ensures (plan_given c.args.options _ c.plan_on.result _ c.in_ok-planned.was c.plan_on.ensures.answer) in
     exit at_the_end (plan c.args.options i) _ _ c.from_residual-in_err-put_answer.result _ c.from_residual-in_err-put_answer.ensures.1
     (put_failed at_the_end (plan c.args.options i) _ _ _ c.put_answer.result _ whole.1 tt c.in_err-put_answer.was c.put_answer.ensures)
 
@@ -52,6 +52,6 @@ returns g c =
     let i = c.args.inputs.now in
     let network : slice_get i.networks 0 ≡ Some (network_of c.in-Some.network.now) = some_there _ _ _ _ c.in-Some.is c.network.ensures in
     let fits = all_settled i c.fit.result _ c.in_ok-fit.was c.fit.ensures in
-    let task = task_is i c.in-Some.network.now.trace c.in_ok-clock.clock c.manifest.result.now c.setup.result.now c.media_ahead.result c.manifest.ensures c.in_ok-clock.ensures.clock c.setup.ensures c.media_ahead.ensures.value in
-    let whole = planned_whole c.args.options i _ c.manifest.result.now _ c.in_ok-planned.planned network fits.0 task c.manifest.ensures (plan_given c.args.options _ c.plan_on.result _ c.in_ok-planned.was c.plan_on.ensures.answer) in
+    let task = task_is i c.in-Some.network.now.trace c.in_ok-clock.clock c.manifest-film.result.now c.setup-setup.result.now c.media_ahead.result c.manifest-film.ensures c.in_ok-clock.ensures.clock c.setup-setup.ensures c.media_ahead.ensures.value in
+    let whole = planned_whole c.args.options i _ c.manifest-film.result.now _ c.in_ok-planned.planned network fits.0 task c.manifest-film.ensures (plan_given c.args.options _ c.plan_on.result _ c.in_ok-planned.was c.plan_on.ensures.answer) in
     put_done at_the_end (plan c.args.options i) _ _ _ c.put_answer.result _ whole.1 c.in_ok-put_answer.was c.put_answer.ensures
