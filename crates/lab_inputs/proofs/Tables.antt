@@ -26,10 +26,10 @@ zeros : (n : ℕ) → IsRow (replicate n 0)
 zeros n = record {
   limits = All-replicate (λ (u : ℕ). u ≤ 1000000) n 0 (omega arith);
   rise = λ rung low.
-  let count = length-replicate {A = ℕ} n 0 in
-  let here = get_or-replicate {A = ℕ} n rung 0 0 (omega (arith, low, count)) in
-  let next = get_or-replicate {A = ℕ} n (rung + 1) 0 0 (omega (arith, low, count)) in
-  omega (arith, here, next);
+      let count = length-replicate {A = ℕ} n 0 in
+      let here = get_or-replicate {A = ℕ} n rung 0 0 (omega (arith, low, count)) in
+      let next = get_or-replicate {A = ℕ} n (rung + 1) 0 0 (omega (arith, low, count)) in
+      omega (arith, here, next);
 }
 
 one_row : (n : ℕ) → IsWithin 1 most_rungs n → AreUtilities (replicate n 0) n 1

@@ -42,11 +42,8 @@ impl Role {
         ensures { result ≡ (row_of self).limit }
     {
         match self {
-            Role::Manifest
-            | Role::Utilities
-            | Role::Trace
-            | Role::TraceAt(_)
-            | Role::Seeks => 67_108_864,
+            Role::Manifest | Role::Utilities | Role::Trace | Role::TraceAt(_) | Role::Seeks =>
+                67_108_864,
             Role::Certificate => 536_870_912,
         }
     }
