@@ -1,11 +1,10 @@
 //! The rule BOLA (INFOCOM 2016), in this project's whole numbers: it chooses by the level of the buffer alone.
 #![tactic(auto)]
 
-ghost use Rattle.std.specs.Prelude.{◌≡◌, ◌-◌, ◌<◌, ◌≤◌, ◌^◌, IfNone, IfSome, find, ℤ, pos, ◌≤ℤ◌, ◌-ℤ◌};
-ghost use Rattle.lab_model.specs.Bola.{bola_at_most, bola_gain, bola_is_best};
-ghost use Rattle.lab_model.specs.Film.{IsFilm, IsWithin, rungs_of, segments_of};
+ghost use Rattle.std.specs.Prelude.{◌≡◌, ◌-◌, ◌<◌, ◌≤◌, ◌^◌, IfNone, IfSome, ℤ, pos, ◌≤ℤ◌, ◌-ℤ◌};
+ghost use Rattle.lab_model.specs.Bola.{bola_at_most, bola_choice, bola_gain};
+ghost use Rattle.lab_model.specs.Film.{IsWithin, rungs_of, segments_of};
 ghost use Rattle.lab_model.specs.Fit.{SetupFits};
-ghost use Rattle.lab_model.specs.Ladder.{rungs_below};
 ghost use Rattle.lab_model.specs.Number.{IsNear};
 ghost use Rattle.lab_model.specs.Rules.{bola};
 
@@ -80,27 +79,21 @@ impl Bola {
         cmp_fraction(other_gain, other_divisor, gain, divisor).is_le()
     }
 
-    /// Whether no rung's score exceeds that of this one.
-    fn is_best(&self, m: &Manifest, set: &Setup, c: &Context, rung: u8) -> bool
-        requires setup { SetupFits set.now m.now }
-        requires segment { c.now.next < segments_of m.now }
-        requires level { c.now.level ≤ set.now.buffer_ms - m.now.seg_ms }
-        requires rung { rung < rungs_of m.now }
-        ensures { result ≡ bola_is_best self.now m.now set.now c.now rung }
-    {
-        (0..m.rungs()).all(|other| self.is_at_most(m, set, c, other, rung))
-    }
-
     /// The least rung whose score no other exceeds.
-    fn best(&self, m: &Manifest, set: &Setup, c: &Context) -> Option<u8>
+    fn best(&self, m: &Manifest, set: &Setup, c: &Context) -> u8
         requires setup { SetupFits set.now m.now }
         requires segment { c.now.next < segments_of m.now }
         requires level { c.now.level ≤ set.now.buffer_ms - m.now.seg_ms }
-        ensures value { result ≡
-            find (bola_is_best self.now m.now set.now c.now) (rungs_below (rungs_of m.now)) }
-        ensures film { IsFilm m.now }
+        ensures choice { result ≡ bola_choice self.now m.now set.now c.now }
+        ensures rung { result < rungs_of m.now }
     {
-        (0..m.rungs()).find(|rung| self.is_best(m, set, c, *rung))
+        let mut best = 0;
+        for rung in 1..m.rungs() {
+            if !self.is_at_most(m, set, c, rung, best) {
+                best = rung;
+            }
+        }
+        best
     }
 }
 
@@ -119,6 +112,6 @@ impl Rule for Bola {
     }
 
     fn choose(&self, m: &Manifest, set: &Setup, c: &Context) -> u8 {
-        self.best(m, set, c).unwrap_or(0)
+        self.best(m, set, c)
     }
 }
