@@ -1,6 +1,6 @@
 //! What a command is about, as one value.
 
-ghost use Rattle.std.specs.Prelude.{◌≡◌, IfSome, map, option_map};
+ghost use Rattle.std.specs.Prelude.{◌≡◌, ◌≤◌, IfOk, IfSome, length, map, option_map};
 ghost use Rattle.std.specs.List.{All, slice_get};
 ghost use Rattle.lab_model.specs.Film.{segments_of};
 ghost use Rattle.lab_model.specs.Seeks.{SeeksFit};
@@ -23,8 +23,8 @@ use std::marker::Model;
 
 /// What a command is about: what its files hold, with the setup and the rules of its words.
 ///
-/// The seeks are always within the film, and the numbers of the rules within their limits. Whether the setup and the rules
-/// fit the film is for `fit` to say.
+/// There are at most 64 networks, the seeks are always within the film, and the numbers of the rules within their limits.
+/// Whether the setup and the rules fit the film is for `fit` to say.
 #[derive(Drop)]
 pub struct Inputs {
     manifest: Manifest,
@@ -36,7 +36,7 @@ pub struct Inputs {
 }
 
 impl Model for Inputs {
-    ghost use Rattle.std.specs.Prelude.{map};
+    ghost use Rattle.std.specs.Prelude.{◌≤◌, length, map};
     ghost use Rattle.lab_words.specs.Command.{named};
     ghost use Rattle.std.specs.List.{All};
     ghost use Rattle.lab_model.specs.Film.{segments_of};
@@ -57,7 +57,8 @@ impl Model for Inputs {
     } };
 
     ghost invariant = { λ i. SeeksFit i.seeks.items (segments_of i.manifest)
-        × All (λ r. IsRuleWithin r.1) (map named i.rules.items) };
+        × All (λ r. IsRuleWithin r.1) (map named i.rules.items)
+        × (length i.networks.items ≤ 64) };
 }
 
 impl Inputs {
@@ -65,6 +66,7 @@ impl Inputs {
     fn of(command: Command, contents: Contents) -> Inputs
         requires limits { IsWithinLimits (view command) }
         requires film { HasFilm (view command).verb }
+        requires count { length contents.networks ≡ length (view command).traces }
         ensures { result ≡ inputs_on (view command) contents }
     {
         let Some(weights) = Weights::from_parts(
@@ -105,7 +107,8 @@ impl Inputs {
 
     /// The networks, in the order of their names.
     pub fn networks(&self) -> &[Network]
-        ensures { map network_of result.now ≡ self.now.networks }
+        ensures value { map network_of result.now ≡ self.now.networks }
+        ensures few { length result.now ≤ 64 }
     {
         &self.networks
     }
@@ -170,8 +173,9 @@ impl Inputs {
 pub fn read_inputs<F: Shelf>(alloc: Global, shelf: &mut F, command: Command) -> Result<Inputs, Halt>
     requires limits { IsWithinLimits (view command) }
     requires film { HasFilm (view command).verb }
-    ensures { Comes (film_files (view command)) (λ i. i) (inputs_of (view command))
+    ensures comes { Comes (film_files (view command)) (λ i. i) (inputs_of (view command))
         (F.shelved shelf.old) result (F.shelved shelf.new) }
+    ensures abandon { IfOk result (λ i. i.setup.abandon ≡ command.abandon) }
 {
     let contents = read_contents(alloc, shelf, &command)?;
     Ok(Inputs::of(command, contents))
