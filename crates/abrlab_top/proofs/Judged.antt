@@ -105,7 +105,7 @@ judged_failed i old ending.Done h = absurd h
 judged_failed i old ending.Invalid h = absurd h
 judged_failed i old ending.Usage h = absurd h
 judged_failed i old (ending.Stopped why) h = (h.0, h.1, refl)
-judged_failed i old (ending.Spent segment) h = absurd h
+judged_failed i old (ending.Spent trace segment) h = absurd h
 judged_failed i old ending.OutputFailed h = absurd h
 judged_failed i old ending.NoMemory h = wanting of_a_check (check i) old
 

@@ -35,13 +35,15 @@ use Rattle.abrlab_top.proofs.Whole.{wanting}
 before_within : (g : Task) (j s : ℕ) → j ≤ s → labels_before g (frontier g) j ≤ labels_before g (frontier g) s
 before_within g j s low = subst (λ n. labels_before g (frontier g) j ≤ labels_before g (frontier g) n) (omega (arith, low)) (before_beyond g (frontier g) j (s - j))
 
-spent_at : (g : Task) (budget s : ℕ) → SpentAt g (frontier g) budget s → spent_on g budget ≡ Some s
+-- the first segment whose labels are above the budget is the one that is told
+pub spent_at : (g : Task) (budget s : ℕ) → SpentAt g (frontier g) budget s → spent_on g budget ≡ Some s
 unfolding spent_on
 spent_at g budget s h =
     found_from (λ i. nat_lt budget (labels_before g (frontier g) (suc i))) 0 (segments_of g.film) s (omega arith) (let inside = h.inside in omega (arith, inside))
     (λ j low before. let up = before_within g (suc j) s (omega (arith, before)) in let most = h.before in le-ltb budget (labels_before g (frontier g) (suc j)) (omega (arith, up, most))) (lt-ltb budget (labels_before g (frontier g) (suc s)) h.above)
 
-never_spent : (g : Task) (budget : ℕ) → labels_in g (frontier g) ≤ budget → spent_on g budget ≡ None
+-- a budget that is enough is never spent
+pub never_spent : (g : Task) (budget : ℕ) → labels_in g (frontier g) ≤ budget → spent_on g budget ≡ None
 unfolding spent_on
 never_spent g budget h =
     none_from (λ i. nat_lt budget (labels_before g (frontier g) (suc i))) 0 (segments_of g.film)
@@ -80,7 +82,7 @@ planned_whole budget as_certificate i n film g p e h same f is of = by_task (tas
         )
 
 -- the frontiers spend the budget
-pub planned_spent : (budget : ℕ) (as_certificate : Bool) (i : InputValues) (n : Text × List Period) (g : Task) (s : ℕ) → slice_get i.networks 0 ≡ Some n → settled i ≡ Ok i → g ≡ task_on i n.1 → SpentAt g (frontier g) budget s → plan budget as_certificate i ≡ Err (ending.Spent s)
+pub planned_spent : (budget : ℕ) (as_certificate : Bool) (i : InputValues) (n : Text × List Period) (g : Task) (s : ℕ) → slice_get i.networks 0 ≡ Some n → settled i ≡ Ok i → g ≡ task_on i n.1 → SpentAt g (frontier g) budget s → plan budget as_certificate i ≡ Err (ending.Spent None s)
 planned_spent budget as_certificate i n g s e h same at =
     one_planned budget as_certificate i n e h ∙ ap (unless_spent as_certificate (task_on i n.1)) (spent_at (task_on i n.1) budget s (subst (λ t. SpentAt t (frontier t) budget s) same at))
 

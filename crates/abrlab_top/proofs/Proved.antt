@@ -107,7 +107,8 @@ one_of (x ∷ y ∷ xs) e = absurd (omega arith)
 pub counts_of : (c : CommandWords) (v : Verb) → IsWithinLimits c → c.verb ≡ v → AreCounted v (length c.traces) (length c.rules)
 counts_of c v limits e = subst (λ w. AreCounted w (length c.traces) (length c.rules)) e limits.counts
 
-ready_by : (c : CommandWords) (files : Files) (i : InputValues) → inputs_of c files ≡ Ok i → settled i ≡ Ok i → ready_of c files ≡ Ok i
+-- what is read and settled is ready
+pub ready_by : (c : CommandWords) (files : Files) (i : InputValues) → inputs_of c files ≡ Ok i → settled i ≡ Ok i → ready_of c files ≡ Ok i
 unfolding ready_of
 ready_by c files i e h = rw e h
 
@@ -148,15 +149,20 @@ simulates line old new e r h k c files asked v t s =
 first_trace : (networks : List (Text × List Period)) (n : Text × List Period) → networks ≡ n ∷ [] → All (λ (m : Text × List Period). IsTrace m.1) networks → IsTrace n.1
 first_trace networks n e h = let k : All (λ (m : Text × List Period). IsTrace m.1) (n ∷ []) = subst (All (λ (m : Text × List Period). IsTrace m.1)) e h in k 0 n (omega arith)
 
--- what is ready is a task for the planner
-pub is_task : (c : CommandWords) (files : Files) (i : InputValues) (n : Text × List Period) → IsWithinLimits c → HasFilm c.verb → IsReady c files i → i.networks ≡ n ∷ [] → IsTask (task_on i n.1)
-is_task c files i n limits film r one = record {
+-- what is ready is a task for the planner on each trace
+pub task_with : (c : CommandWords) (files : Files) (i : InputValues) (periods : List Period) → IsWithinLimits c → HasFilm c.verb → IsReady c files i → IsTrace periods → IsTask (task_on i periods)
+task_with c files i periods limits film r trace = record {
   film = subst IsFilm (sym (ap (λ (j : InputValues). j.film) r.inputs)) r.within.film;
-  trace = first_trace r.contents.networks n (sym (ap (λ (j : InputValues). j.networks) r.inputs) ∙ one) r.within.networks;
+  trace = trace;
   setup = r.fits.setup;
   weights = subst (λ (s : Setup). IsWeighing s.weights) (sym (ap (λ (j : InputValues). j.setup) r.inputs)) (limits.weights film);
   ahead = omega arith;
 }
+
+-- what is ready is a task for the planner
+pub is_task : (c : CommandWords) (files : Files) (i : InputValues) (n : Text × List Period) → IsWithinLimits c → HasFilm c.verb → IsReady c files i → i.networks ≡ n ∷ [] → IsTask (task_on i n.1)
+is_task c files i n limits film r one =
+    task_with c files i n.1 limits film r (first_trace r.contents.networks n (sym (ap (λ (j : InputValues). j.networks) r.inputs) ∙ one) r.within.networks)
 
 -- ---- plan
 

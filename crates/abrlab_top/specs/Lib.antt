@@ -1,5 +1,6 @@
 pub mod Ending
 pub mod Answer
+pub mod Regret
 pub mod Rows
 pub mod Simulate
 pub mod Compare

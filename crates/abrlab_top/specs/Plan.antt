@@ -53,7 +53,7 @@ plan_text as_certificate g = parts_text as_certificate (certificate_on g) (label
 -- the plan of a task, unless its frontiers spend the budget
 abbrev pub unless_spent : Bool → Task → Option ℕ → Outcome
 unless_spent as_certificate g None = Ok (printed (plan_text as_certificate g))
-unless_spent as_certificate g (Some segment) = Err (ending.Spent segment)
+unless_spent as_certificate g (Some segment) = Err (ending.Spent None segment)
 
 -- the answer on this network; a command line of `plan` names one
 abbrev pub plan_on : ℕ → Bool → InputValues → Option (Text × List Period) → Outcome

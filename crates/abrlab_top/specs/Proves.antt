@@ -1,5 +1,6 @@
 -- THE HEADLINE: what the text of each command proves, at the task that words and files give.
-use Rattle.std.specs.Prelude.{◌≡◌, ◌≤◌, ℕ, ℤ, Bool, List, [], ◌∷◌, length, Some, Ok}
+use Rattle.std.specs.Prelude.{◌≡◌, ◌≤◌, ◌≤ℤ◌, ℕ, ℤ, pos, Bool, true, List, [], ◌∷◌, length, Some, Ok}
+use Rattle.std.specs.List.{All}
 use Rattle.lab_io.specs.Sink.{Text, Grew}
 use Rattle.lab_model.specs.declared.trace.Period.{Period}
 use Rattle.lab_model.specs.Rules.{RuleKind}
@@ -21,9 +22,11 @@ use Rattle.labels.specs.declared.verdict.Verdict.TheVariants.{Yes}
 use Rattle.labels.specs.Form.{IsCertificate}
 use Rattle.certificate_text.specs.Reading.{certificate_of}
 use Rattle.certificate_text.specs.Spelling.{spelling}
+use Rattle.session_report.specs.Regret.{total_of}
 use Rattle.session_report.specs.Session.{session_text}
 use Rattle.abrlab_top.specs.Check.{verdict_text}
 use Rattle.abrlab_top.specs.Plan.{parts_text, task_on}
+use Rattle.abrlab_top.specs.Regret.{best_on, regret_text, score_on, scores_over}
 use Rattle.abrlab_top.specs.Runs.{World}
 use Rattle.abrlab_top.specs.Simulate.{case_on}
 
@@ -85,3 +88,31 @@ PlansTheBest = WhereDone verb.Plan (λ c i periods text. (p : IsBest (task_on i 
 -- of `check`: a yes, and the certificate's score is the bound
 abbrev pub SaysYesSoundly : List Text → World → ℕ → World → Type 0
 SaysYesSoundly = WhereDone verb.Check (λ c i periods text. (p : IsYes (task_on i periods) i.certificate text) × (p.bound ≡ p.certificate.score))
+
+-- ---- regrets
+
+-- the list has this value, and no rung list has a greater one
+abbrev pub IsGreatest : Task → ℤ → Type 0
+IsGreatest g best = (rungs : List ℕ) × Settles g rungs best best
+
+-- no session of a rule scores more than the best, on these networks; nor is a sum of its regrets below 0, or the worst of them
+pub record IsBehind (i : InputValues) (rule : RuleKind) : Type 0 where
+  pub scores : All (λ n. score_on i n.1 rule ≤ℤ best_on i n.1) i.networks
+  pub regret : pos 0 ≤ℤ (total_of (scores_over i i.networks rule)).regret
+  pub worst : pos 0 ≤ℤ (total_of (scores_over i i.networks rule)).worst
+
+-- the files of the command were read and its settings fit. `out` has grown by exactly the text of regrets: each score is that of the
+-- session of the rule with an empty history, each best is the greatest value of all rung lists on its network, the sums and the worst
+-- are theirs; and no regret is negative
+pub record ProvesRegrets (c : CommandWords) (files : Files) (old new : World) : Type 0 where
+  pub inputs : InputValues
+  pub read : ready_of c files ≡ Ok inputs
+  pub bests : All (λ n. IsGreatest (task_on inputs n.1) (best_on inputs n.1)) inputs.networks
+  pub behind : All (λ rule. IsBehind inputs rule.1) inputs.rules
+  pub out : Grew old.out.written (regret_text inputs) new.out.written
+  pub err : new.err ≡ old.err
+
+-- of `compare --regret`: where the run answers 0, over told files it proves this
+abbrev pub TellsRegrets : List Text → World → ℕ → World → Type 0
+TellsRegrets line old result new =
+    (c : CommandWords) (files : Files) → command_of line ≡ Some c → c.verb ≡ verb.Compare → c.regret ≡ true → Tells old.shelf files → result ≡ 0 → ProvesRegrets c files old new

@@ -1,12 +1,13 @@
 //! The command that the words ask for, and what became of it.
 
 ghost use Rattle.std.specs.Prelude.{◌≡◌, map, string_bytes};
+ghost use Rattle.lab_words.specs.declared.Verb.TheVariants as verb;
 ghost use Rattle.lab_words.specs.Command.{view};
 ghost use Rattle.lab_words.specs.Limits.{IsWithinLimits};
 ghost use Rattle.lab_words.specs.Words.{command_of};
-ghost use Rattle.lab_inputs.specs.Roles.{files_of};
+ghost use Rattle.lab_inputs.specs.Roles.{film_files, files_of};
 ghost use Rattle.abrlab_top.specs.Ending.{ended};
-ghost use Rattle.abrlab_top.specs.Outcome.{answer_of, manner_in, manner_of, named_files, outcome};
+ghost use Rattle.abrlab_top.specs.Outcome.{about, answer_of, comparing, comparison, manner_in, manner_of, named_files, outcome};
 ghost use Rattle.abrlab_top.specs.Runs.{Admits, Ends};
 
 use crate::check::check;
@@ -14,10 +15,32 @@ use crate::compare::compare;
 use crate::demo::demo;
 use crate::ending::Ending;
 use crate::plan::plan;
+use crate::regret::regret;
 use crate::simulate::simulate;
 use lab_io::{Shelf, Sink};
 use lab_words::{Command, Verb, WordsErr, read_words};
 use std::alloc::Global;
+
+/// Puts rules side by side, with regrets where they are asked for.
+fn compare_rules<F: Shelf, O: Sink>(
+    alloc: Global,
+    command: Command,
+    shelf: &mut F,
+    out: &mut O,
+) -> Result<(), Ending>
+    requires limits { IsWithinLimits (view command) }
+    requires verb { (view command).verb ≡ verb.Compare }
+    ensures { Ends (film_files (view command)) (comparing (view command).regret)
+        (about (comparison (view command).regret (view command).budget) (view command))
+        (F.shelved shelf.old) (O.seen out.old) (ended result)
+        (F.shelved shelf.new) (O.seen out.new) }
+{
+    if command.regret {
+        regret(alloc, command, shelf, out)
+    } else {
+        compare(alloc, command, shelf, out)
+    }
+}
 
 /// Reads what a command needs, and writes what it answers.
 fn answer_command<F: Shelf, O: Sink>(
@@ -33,7 +56,7 @@ fn answer_command<F: Shelf, O: Sink>(
 {
     match command.verb {
         Verb::Simulate => simulate(alloc, command, shelf, out),
-        Verb::Compare => compare(alloc, command, shelf, out),
+        Verb::Compare => compare_rules(alloc, command, shelf, out),
         Verb::Plan => plan(alloc, command, shelf, out),
         Verb::Check => check(alloc, command, shelf, out),
         Verb::Demo => demo(alloc, command.number, out),

@@ -70,7 +70,7 @@ fn put_answer<O: Sink>(
 }
 
 /// The plan of a film on demand.
-fn plan_on(
+pub(crate) fn plan_on(
     alloc: Global,
     m: &Manifest,
     clock: &Clock,

@@ -1,5 +1,6 @@
 use Rattle.std.proofs.Common.{map, string_bytes}
 use Rattle.abrlab_top.specs.Runs.{world}
+use Rattle.abrlab_top.proofs.Regretted.{tells_regrets}
 use Rattle.abrlab_top.proofs.Proved.{plans_the_best, says_yes_soundly, simulates}
 use Rattle.abrlab_top.proofs.run.Goals as goal
 
@@ -22,5 +23,11 @@ returns-clause-plans g c =
 pub returns-clause-checks : goal.returns-clause-checks
 returns-clause-checks g c =
     says_yes_soundly (map string_bytes c.args.words.now) (world (g.F.Shelf.shelved c.args.shelf.now) (g.O.Sink.seen c.args.out.now) (g.E.Sink.seen c.args.err.now))
+    (world (g.F.Shelf.shelved c.run_command-ending.new.shelf) (g.O.Sink.seen c.run_command-ending.new.out) (g.E.Sink.seen c.tell.new.err)) c.run_command-ending.result c.status.result
+    (record { words = c.run_command-ending.ensures.words; ends = c.run_command-ending.ensures.ends; err = c.tell.ensures }) c.status.ensures
+
+pub returns-clause-regrets : goal.returns-clause-regrets
+returns-clause-regrets g c =
+    tells_regrets (map string_bytes c.args.words.now) (world (g.F.Shelf.shelved c.args.shelf.now) (g.O.Sink.seen c.args.out.now) (g.E.Sink.seen c.args.err.now))
     (world (g.F.Shelf.shelved c.run_command-ending.new.shelf) (g.O.Sink.seen c.run_command-ending.new.out) (g.E.Sink.seen c.tell.new.err)) c.run_command-ending.result c.status.result
     (record { words = c.run_command-ending.ensures.words; ends = c.run_command-ending.ensures.ends; err = c.tell.ensures }) c.status.ensures

@@ -11,7 +11,7 @@ pub returns-in-Simulate : goal.returns-in-Simulate
 returns-in-Simulate g c = ends_by verb.Simulate (view c.args.command) _ _ _ _ _ c.in-Simulate.is c.simulate.ensures
 
 pub returns-in-Compare : goal.returns-in-Compare
-returns-in-Compare g c = ends_by verb.Compare (view c.args.command) _ _ _ _ _ c.in-Compare.is c.compare.ensures
+returns-in-Compare g c = ends_by verb.Compare (view c.args.command) _ _ _ _ _ c.in-Compare.is c.compare_rules.ensures
 
 pub returns-in-Plan : goal.returns-in-Plan
 returns-in-Plan g c = ends_by verb.Plan (view c.args.command) _ _ _ _ _ c.in-Plan.is c.plan.ensures
