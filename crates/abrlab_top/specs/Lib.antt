@@ -2,6 +2,7 @@ pub mod Ending
 pub mod Answer
 pub mod Rows
 pub mod Simulate
+pub mod Players
 pub mod Compare
 pub mod Plan
 pub mod Check

@@ -1,5 +1,5 @@
 -- THE HEADLINE: what the text of each command proves, at the task that words and files give.
-use Rattle.std.specs.Prelude.{◌≡◌, ◌≤◌, ℕ, ℤ, Bool, List, [], ◌∷◌, length, Some, Ok}
+use Rattle.std.specs.Prelude.{◌≡◌, ◌≤◌, ◌++◌, ℕ, ℤ, Bool, true, false, List, [], ◌∷◌, length, Some, Ok}
 use Rattle.lab_io.specs.Sink.{Text, Grew}
 use Rattle.lab_model.specs.declared.trace.Period.{Period}
 use Rattle.lab_model.specs.Rules.{RuleKind}
@@ -11,7 +11,8 @@ use Rattle.lab_inputs.specs.Files.{Files}
 use Rattle.lab_inputs.specs.Inputs.{InputValues}
 use Rattle.lab_inputs.specs.Settings.{ready_of}
 use Rattle.lab_inputs.specs.Stages.{Tells}
-use Rattle.player_core.specs.State.{Case}
+use Rattle.player_core.specs.Available.{all_ahead}
+use Rattle.player_core.specs.State.{Case, case_of}
 use Rattle.player_core.specs.Session.{session_of}
 use Rattle.labels.specs.Best.{Settles}
 use Rattle.player_core.specs.Scene.{Task}
@@ -22,16 +23,25 @@ use Rattle.labels.specs.Form.{IsCertificate}
 use Rattle.certificate_text.specs.Reading.{certificate_of}
 use Rattle.certificate_text.specs.Spelling.{spelling}
 use Rattle.session_report.specs.Session.{session_text}
+use Rattle.shared_link.specs.Joint.{IsJoint, JointCase}
 use Rattle.abrlab_top.specs.Check.{verdict_text}
 use Rattle.abrlab_top.specs.Plan.{parts_text, task_on}
+use Rattle.abrlab_top.specs.Players.{joint_on, joint_text, player_line}
 use Rattle.abrlab_top.specs.Runs.{World}
 use Rattle.abrlab_top.specs.Simulate.{case_on}
 
--- ---- the three sentences, each at its case or task
+-- ---- the sentences, each at its case or task
 
 -- the text is the session that the millisecond player has on this case, with its score
 abbrev pub IsSession : Case → Text → Type 0
 IsSession case text = text ≡ session_text (session_of case) case.setup.weights
+
+-- the text is the joint session of this case, which is within the limits: of each player in order its line, and the session that it shows
+-- on the link which all share. Of one rule this is the session of the millisecond player under that rule, which has the link for itself
+pub record IsJointSession (j : JointCase) (text : Text) : Type 0 where
+  pub within : IsJoint j
+  pub is : text ≡ joint_text j
+  pub alone : (rule : RuleKind) → j.rules ≡ rule ∷ [] → text ≡ player_line 1 ++ session_text (session_of (case_of j.film j.periods j.setup [] all_ahead rule)) j.setup.weights
 
 -- the text is a rung list with its score, or the list's certificate. The list has that score for its value: the score of the session in
 -- which the millisecond player of the task plays it; no rung list has a value above the bound; the certificate proves it, and a file
@@ -74,9 +84,13 @@ abbrev pub WhereDone : Verb → (CommandWords → InputValues → List Period �
 WhereDone v OfText line old result new =
     (c : CommandWords) (files : Files) → command_of line ≡ Some c → c.verb ≡ v → Tells old.shelf files → result ≡ 0 → Proves c files (OfText c) old new
 
--- of `simulate`: the session under the one rule of the words
+-- of `simulate` without `--players`: the session under the one rule of the words
 abbrev pub Simulates : List Text → World → ℕ → World → Type 0
-Simulates = WhereDone verb.Simulate (λ c i periods text. (rule : Text × RuleKind) × (i.rules ≡ rule ∷ []) × IsSession (case_on i periods rule.1) text)
+Simulates = WhereDone verb.Simulate (λ c i periods text. c.players ≡ false → (rule : Text × RuleKind) × (i.rules ≡ rule ∷ []) × IsSession (case_on i periods rule.1) text)
+
+-- of `simulate --players`: the joint session under the rules of the words, in order
+abbrev pub PlaysJointly : List Text → World → ℕ → World → Type 0
+PlaysJointly = WhereDone verb.Simulate (λ c i periods text. c.players ≡ true → (i.rules ≡ c.rules) × IsJointSession (joint_on i periods) text)
 
 -- of `plan`: the best rung list, whose score is the bound
 abbrev pub PlansTheBest : List Text → World → ℕ → World → Type 0

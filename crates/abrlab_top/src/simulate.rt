@@ -1,15 +1,19 @@
-//! `simulate`: the session of one network and one rule.
+//! `simulate`: the session of one network and one rule, or the joint session of several players.
 
+ghost use Rattle.std.specs.Prelude.{◌≡◌, true};
+ghost use Rattle.lab_words.specs.declared.Verb.TheVariants as verb;
 ghost use Rattle.lab_words.specs.Command.{view};
-ghost use Rattle.lab_words.specs.Limits.{HasFilm, IsWithinLimits};
+ghost use Rattle.lab_words.specs.Limits.{IsWithinLimits};
 ghost use Rattle.lab_inputs.specs.Roles.{film_files};
 ghost use Rattle.abrlab_top.specs.Ending.{ended};
 ghost use Rattle.abrlab_top.specs.Outcome.{about};
+ghost use Rattle.abrlab_top.specs.Players.{CanShare, simulate_by};
 ghost use Rattle.abrlab_top.specs.Runs.{Ends};
 ghost use Rattle.abrlab_top.specs.Simulate.{simulate};
 ghost use Rattle.abrlab_top.specs.Stages.{Writes, at_the_end};
 
 use crate::ending::Ending;
+use crate::players::write_joint_session;
 use crate::rule::any_rule;
 use lab_inputs::{Inputs, read_inputs};
 use lab_io::{Shelf, Sink};
@@ -44,7 +48,25 @@ fn write_simulation<O: Sink>(alloc: Global, inputs: &Inputs, out: &mut O) -> Res
     Ok(write_session(&session, &inputs.setup().weights, out)?)
 }
 
-/// Reads the files, plays the session and writes its text.
+/// Plays the session, or the joint session of several players, and writes its text.
+fn write_sessions<O: Sink>(
+    alloc: Global,
+    inputs: &Inputs,
+    several: bool,
+    out: &mut O,
+) -> Result<(), Ending>
+    requires sharing { several ≡ true → CanShare inputs.now }
+    ensures { Writes at_the_end (simulate_by several inputs.now)
+        (O.seen out.old) (ended result) (O.seen out.new) }
+{
+    if several {
+        write_joint_session(alloc, inputs, out)
+    } else {
+        write_simulation(alloc, inputs, out)
+    }
+}
+
+/// Reads the files, plays the session or the joint session of several players, and writes its text.
 pub(crate) fn simulate<F: Shelf, O: Sink>(
     alloc: Global,
     command: Command,
@@ -52,11 +74,13 @@ pub(crate) fn simulate<F: Shelf, O: Sink>(
     out: &mut O,
 ) -> Result<(), Ending>
     requires limits { IsWithinLimits (view command) }
-    requires film { HasFilm (view command).verb }
-    ensures { Ends (film_files (view command)) at_the_end (about simulate (view command))
+    requires verb { (view command).verb ≡ verb.Simulate }
+    ensures { Ends (film_files (view command)) at_the_end
+        (about (simulate_by (view command).players) (view command))
         (F.shelved shelf.old) (O.seen out.old) (ended result)
         (F.shelved shelf.new) (O.seen out.new) }
 {
+    let several = command.players;
     let inputs = read_inputs(alloc, shelf, command)?;
-    write_simulation(alloc, &inputs, out)
+    write_sessions(alloc, &inputs, several, out)
 }
