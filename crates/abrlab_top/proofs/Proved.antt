@@ -1,17 +1,21 @@
 -- The headline of each command, from a run that answered 0.
-use Rattle.std.proofs.Common.{◌≡◌, ◌∙◌, ℕ, ◌≤◌, Bool, List, [], ◌∷◌, length, Option, Some, None, Result, Ok, Err, ap, sym, refl, subst, arith}
+use Rattle.std.proofs.Common.{◌≡◌, ◌∙◌, ℕ, ◌≤◌, ◌++◌, ◌||◌, ◌&&◌, not, nat_le, is_some, Bool, true, false, List, [], ◌∷◌, length, get_or, map, Option, Some, None, Result, Ok, Err, ap, sym, refl, subst, arith}
 use Rattle.std.specs.List.{All, slice_get}
+use Rattle.std.proofs.lemmas.Bool.Decides.{nat_tests}
+use Rattle.std.proofs.lemmas.List.{length-map}
+use Rattle.std.proofs.lemmas.List.Elements.{All-map}
 use Rattle.lab_io.specs.Sink.{Text, Grew}
 use Rattle.lab_model.specs.declared.setup.Setup.{Setup}
 use Rattle.lab_model.specs.declared.trace.Period.{Period}
 use Rattle.lab_model.specs.Cycle.{IsTrace}
-use Rattle.lab_model.specs.Film.{IsFilm}
-use Rattle.lab_model.specs.Rules.{RuleKind}
+use Rattle.lab_model.specs.Film.{IsFilm, IsWithin}
+use Rattle.lab_model.specs.Rules.{KindFits, RuleKind, fixed}
 use Rattle.lab_model.specs.Weighing.{IsWeighing}
 use Rattle.lab_words.specs.declared.Verb.{Verb}
 use Rattle.lab_words.specs.declared.Verb.TheVariants as verb
 use Rattle.lab_words.specs.Command.{CommandWords}
-use Rattle.lab_words.specs.Limits.{AreCounted, HasFilm, HasItsOwn, IsWithinLimits}
+use Rattle.lab_words.specs.Limits.{AreCounted, HasFilm, HasItsOwn, IsWithinLimits, agrees}
+use Rattle.lab_words.specs.Values.{at_most_one}
 use Rattle.lab_words.specs.Words.{command_of}
 use Rattle.lab_words.proofs.LimitLemmas.{command_within}
 use Rattle.lab_inputs.specs.declared.role.Role.TheVariants as role
@@ -19,13 +23,20 @@ use Rattle.lab_inputs.specs.declared.stop.Stop.{Stop}
 use Rattle.lab_model.specs.Steps.{◌>>=◌}
 use Rattle.lab_model.proofs.Steps.{then_ok}
 use Rattle.lab_inputs.specs.Files.{Files, at_role, read_as}
-use Rattle.lab_inputs.specs.Inputs.{InputValues, inputs_of}
+use Rattle.lab_inputs.specs.Contents.{ContentValues}
+use Rattle.lab_inputs.specs.Inputs.{InputValues, inputs_of, inputs_on}
 use Rattle.lab_inputs.specs.Settings.{ready_of, settled}
 use Rattle.lab_inputs.specs.Stages.{Tells}
 use Rattle.lab_inputs.proofs.Steps.{ok_same, read_ok, role_ok}
-use Rattle.lab_inputs.proofs.Within.{IsReady, inputs_counted, is_ready, settled_fits}
+use Rattle.lab_inputs.proofs.Within.{IsReady, inputs_counted, inputs_held, is_ready, settled_fits}
 use Rattle.labels.specs.Frontier.{frontier}
+use Rattle.player_core.specs.Available.{all_ahead}
 use Rattle.player_core.specs.Scene.{IsTask, Task}
+use Rattle.player_core.specs.Session.{Shown, session_of}
+use Rattle.player_core.specs.State.{case_of}
+use Rattle.session_report.specs.Session.{session_text}
+use Rattle.shared_link.specs.Joint.{IsJoint, JointCase, joint_session, players_of}
+use Rattle.shared_link.proofs.Own.{alone_is_lone}
 use Rattle.labels.specs.Parts.{CertificateParts}
 use Rattle.labels.specs.Read.{labels_in}
 use Rattle.labels.proofs.Sound.{plan_accepted, plan_settles, sound}
@@ -43,9 +54,11 @@ use Rattle.abrlab_top.specs.Check.{certificate_in, check, check_on, told_verdict
 use Rattle.abrlab_top.specs.Ending.{status_of}
 use Rattle.abrlab_top.specs.Outcome.{about, answer_by, answer_of, named_files, outcome, outcome_by}
 use Rattle.abrlab_top.specs.Plan.{certificate_on, labels_on, plan, plan_on, plan_text, spent_on, task_on, unless_spent}
-use Rattle.abrlab_top.specs.Proves.{IsBest, IsYes, PlansTheBest, Proves, SaysYesSoundly, Simulates}
+use Rattle.abrlab_top.specs.Players.{can_share, joint_on, joint_text, play_jointly, play_jointly_on, player_line, players_text, simulate_by}
+use Rattle.abrlab_top.specs.Proves.{IsBest, IsYes, PlansTheBest, PlaysJointly, Proves, SaysYesSoundly, Simulates}
 use Rattle.abrlab_top.specs.Runs.{Runs, World}
 use Rattle.abrlab_top.specs.Simulate.{case_on, session_on, simulate, simulate_on}
+use Rattle.abrlab_top.proofs.Jointly.{shared_by}
 use Rattle.abrlab_top.proofs.Certified.{has_text, within_budget}
 use Rattle.abrlab_top.proofs.Statuses.{statuses, tells_named}
 
@@ -124,25 +137,104 @@ simulated_ok i n rule a e h k =
     let s = settled_ok i x.0 x.1 in
     (s.0, ap (λ (j : InputValues). printed (session_on j n.1 rule.1)) s.1 ∙ ok_same _ _ a refl x.2)
 
+-- what `simulate --players` went through to its answer
+jointly_ok : (i : InputValues) (n : Text × List Period) (a : Answer) → i.networks ≡ n ∷ [] → can_share i ≡ true → play_jointly i ≡ Ok a → (settled i ≡ Ok i) × (printed (joint_text (joint_on i n.1)) ≡ a)
+unfolding play_jointly
+jointly_ok i n a e b k =
+    let named = ap (λ ns. play_jointly_on i (can_share i) (slice_get ns 0)) e ∙ ap (λ test. play_jointly_on i test (Some n)) b in
+    let whole : (unless_stopped (settled i) >>= λ ready. Ok (printed (joint_text (joint_on ready n.1)))) ≡ Ok a = sym named ∙ k in
+    let x = then_ok (unless_stopped (settled i)) (λ ready. Ok (printed (joint_text (joint_on ready n.1)))) a whole in
+    let s = settled_ok i x.0 x.1 in
+    (s.0, ap (λ (j : InputValues). printed (joint_text (joint_on j n.1))) s.1 ∙ ok_same _ _ a refl x.2)
+
+-- a run of `simulate` that answered: its inputs, its one network and its text
+record SimulatedBy (c : CommandWords) (files : Files) (old new : World) : Type 0 where
+  inputs : InputValues
+  ready : IsReady c files inputs
+  fits : settled inputs ≡ Ok inputs
+  rules : inputs.rules ≡ c.rules
+  network : Text × List Period
+  one_network : inputs.networks ≡ network ∷ []
+  text : Text
+  plain : c.players ≡ false → (rule : Text × RuleKind) × (inputs.rules ≡ rule ∷ []) × (text ≡ session_on inputs network.1 rule.1)
+  jointly : c.players ≡ true → (can_share inputs ≡ true) × (text ≡ joint_text (joint_on inputs network.1))
+  out : Grew old.out.written text new.out.written
+  err : new.err ≡ old.err
+
+-- nobody gives a download up on a shared link
+no_abandon : (live players abandon seeks : Bool) → at_most_one (live ∷ players ∷ (abandon || seeks) ∷ []) ≡ true → players ≡ true → abandon ≡ false
+no_abandon live players false seeks e h = refl
+no_abandon true true true seeks e h = cc
+no_abandon false true true seeks e h = cc
+no_abandon live false true seeks e h = cc
+
+-- the rules of several players can share a link
+shares : (c : CommandWords) (i : InputValues) (v : ContentValues) → IsWithinLimits c → c.verb ≡ verb.Simulate → c.players ≡ true → i ≡ inputs_on c v → can_share i ≡ true
+shares c i v limits e several is =
+    let counts = (counts_of c verb.Simulate limits e).1 in
+    let keeps = no_abandon (is_some c.live) c.players c.abandon (is_some c.seeks) (subst (λ w. agrees w c ≡ true) e limits.agreed) several in
+    rw (is, keeps) (grind (arith, nat_tests, counts))
+
+-- what a run of `simulate` went through
+simulated_by : (c : CommandWords) (files : Files) (old new : World) → c.verb ≡ verb.Simulate → DoneBy c files old new → SimulatedBy c files old new
+simulated_by c files old new v d = by_players c.players refl
+  where
+    read : (i : InputValues) × (inputs_of c files ≡ Ok i) × (simulate_by c.players i ≡ Ok d.answer)
+    read = about_ok (simulate_by c.players) c files d.answer (by_verb verb.Simulate c files d.answer v d.gives)
+
+    held : (length read.0.networks ≡ length c.traces) × (read.0.rules ≡ c.rules)
+    held = inputs_counted c files read.0 read.1
+
+    network : (n : Text × List Period) × (read.0.networks ≡ n ∷ [])
+    network = one_of read.0.networks (held.0 ∙ (counts_of c verb.Simulate d.limits v).0)
+
+    by_players : (several : Bool) → c.players ≡ several → SimulatedBy c files old new
+    by_players false e =
+        let rule = one_of read.0.rules (ap length held.1 ∙ subst (λ w. HasItsOwn w c) v d.limits.own e) in
+        let y = simulated_ok read.0 network.0 rule.0 d.answer network.1 rule.1 (subst (λ several. simulate_by several read.0 ≡ Ok d.answer) e read.2) in
+        record {
+          inputs = read.0;
+          ready = is_ready c files read.0 read.0 read.1 y.0;
+          fits = y.0;
+          rules = held.1;
+          network = network.0;
+          one_network = network.1;
+          text = d.answer.text;
+          plain = λ h. (rule.0, rule.1, sym (ap (λ (a : Answer). a.text) y.1));
+          jointly = λ h. cc;
+          out = d.out;
+          err = d.err;
+        }
+    by_players true e =
+        let shared = shares c read.0 (inputs_held c files read.0 read.1).0 d.limits v e (inputs_held c files read.0 read.1).1 in
+        let y = jointly_ok read.0 network.0 d.answer network.1 shared (subst (λ several. simulate_by several read.0 ≡ Ok d.answer) e read.2) in
+        record {
+          inputs = read.0;
+          ready = is_ready c files read.0 read.0 read.1 y.0;
+          fits = y.0;
+          rules = held.1;
+          network = network.0;
+          one_network = network.1;
+          text = d.answer.text;
+          plain = λ h. cc;
+          jointly = λ h. (shared, sym (ap (λ (a : Answer). a.text) y.1));
+          out = d.out;
+          err = d.err;
+        }
+
 -- the headline of `simulate`
 pub simulates : (line : List Text) (old new : World) (e : Ending) (r : ℕ) → Runs line old e new → r ≡ status_of e → Simulates line old r new
 simulates line old new e r h k c files asked v t s =
-    let d = done_by line old new e h (sym k ∙ s) c files asked t in
-    let x = about_ok simulate c files d.answer (by_verb verb.Simulate c files d.answer v d.gives) in
-    let counts = counts_of c verb.Simulate d.limits v in
-    let held = inputs_counted c files x.0 x.1 in
-    let network = one_of x.0.networks (held.0 ∙ counts.0) in
-    let rule = one_of x.0.rules (ap length held.1 ∙ counts.1) in
-    let y = simulated_ok x.0 network.0 rule.0 d.answer network.1 rule.1 x.2 in
+    let x = simulated_by c files old new v (done_by line old new e h (sym k ∙ s) c files asked t) in
     record {
-      inputs = x.0;
-      read = ready_by c files x.0 x.1 y.0;
-      network = network.0;
-      one_network = network.1;
-      text = session_on x.0 network.0.1 rule.0.1;
-      proves = (rule.0, rule.1, refl);
-      out = subst (λ (a : Answer). Grew old.out.written a.text new.out.written) (sym y.1) d.out;
-      err = d.err;
+      inputs = x.inputs;
+      read = ready_by c files x.inputs x.ready.read x.fits;
+      network = x.network;
+      one_network = x.one_network;
+      text = x.text;
+      proves = x.plain;
+      out = x.out;
+      err = x.err;
     }
 
 -- ---- tasks
@@ -159,6 +251,47 @@ is_task c files i n limits film r one = record {
   weights = subst (λ (s : Setup). IsWeighing s.weights) (sym (ap (λ (j : InputValues). j.setup) r.inputs)) (limits.weights film);
   ahead = omega arith;
 }
+
+-- ---- several players
+
+-- what is ready is a joint case within the limits
+is_joint : (c : CommandWords) (files : Files) (i : InputValues) (n : Text × List Period) → IsReady c files i → i.networks ≡ n ∷ [] → can_share i ≡ true → IsJoint (joint_on i n.1)
+is_joint c files i n r one shared =
+    let players = shared_by i shared in
+    record {
+      film = subst IsFilm (sym (ap (λ (j : InputValues). j.film) r.inputs)) r.within.film;
+      trace = first_trace r.contents.networks n (sym (ap (λ (j : InputValues). j.networks) r.inputs) ∙ one) r.within.networks;
+      setup = r.fits.setup;
+      keeps = players.1;
+      players = subst (IsWithin 1 8) (sym (length-map i.rules (λ (q : Text × RuleKind). q.1))) players.0;
+      rules = All-map (λ k. KindFits k i.film) (λ (q : Text × RuleKind). q.1) i.rules r.fits.rules;
+    }
+
+-- the joint session of one rule is the session of that rule
+one_alone : (j : JointCase) (rule : RuleKind) → IsJoint j → j.rules ≡ rule ∷ [] → joint_text j ≡ player_line 1 ++ session_text (session_of (case_of j.film j.periods j.setup [] all_ahead rule)) j.setup.weights
+unfolding players_text
+one_alone j rule is one =
+    let count : players_of j ≡ 1 = ap length one in
+    let lone : joint_session j 0 ≡ session_of (case_of j.film j.periods j.setup [] all_ahead rule) = alone_is_lone j is count ∙ ap (λ rules. session_of (case_of j.film j.periods j.setup [] all_ahead (get_or rules 0 (fixed 0)))) one in
+    ap (players_text (joint_session j) j.setup.weights) count ∙ ap (λ (s : Shown). player_line 1 ++ session_text s j.setup.weights) lone
+
+-- the sentence of `simulate --players`
+pub plays_jointly : (line : List Text) (old new : World) (e : Ending) (r : ℕ) → Runs line old e new → r ≡ status_of e → PlaysJointly line old r new
+plays_jointly line old new e r h k c files asked v t s =
+    let x = simulated_by c files old new v (done_by line old new e h (sym k ∙ s) c files asked t) in
+    record {
+      inputs = x.inputs;
+      read = ready_by c files x.inputs x.ready.read x.fits;
+      network = x.network;
+      one_network = x.one_network;
+      text = x.text;
+      proves = λ several.
+          let y = x.jointly several in
+          let is = is_joint c files x.inputs x.network x.ready x.one_network y.0 in
+          (x.rules, record { within = is; is = y.1; alone = λ rule one. y.1 ∙ one_alone (joint_on x.inputs x.network.1) rule is one });
+      out = x.out;
+      err = x.err;
+    }
 
 -- ---- plan
 

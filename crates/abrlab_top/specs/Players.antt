@@ -1,11 +1,10 @@
 -- What `simulate --players` answers: the joint session of one network, with a text for each player.
-use Rattle.std.specs.Prelude.{◌≡◌, ℕ, zero, suc, ◌+◌, ◌<◌, ◌++◌, List, [], ◌∷◌, Bool, true, false, Option, Some, None, Ok, codes, get_or, length, map}
+use Rattle.std.specs.Prelude.{◌≡◌, ℕ, zero, suc, ◌+◌, ◌<◌, ◌++◌, ◌&&◌, not, nat_le, List, [], ◌∷◌, Bool, true, false, Option, Some, None, Ok, codes, get_or, length, map}
 use Rattle.std.specs.Fmt.{decimal}
 use Rattle.std.specs.List.{slice_get}
 use Rattle.lab_io.specs.Piece.{fields_line}
 use Rattle.lab_io.specs.Sink.{Text}
 use Rattle.lab_model.specs.declared.trace.Period.{Period}
-use Rattle.lab_model.specs.Film.{IsWithin}
 use Rattle.lab_model.specs.Steps.{◌>>=◌}
 use Rattle.lab_model.specs.Weighing.{Weighing}
 use Rattle.lab_inputs.specs.Inputs.{InputValues}
@@ -38,21 +37,21 @@ joint_text j = players_text (joint_session j) j.setup.weights (players_of j)
 abbrev pub joint_on : InputValues → List Period → JointCase
 joint_on i periods = joint_of i.film periods i.setup (map (λ rule. rule.1) i.rules)
 
--- the answer on this network; a command line of `simulate` names one
-abbrev pub play_jointly_on : InputValues → Option (Text × List Period) → Outcome
-play_jointly_on i (Some network) = do
+-- whether the rules can be those of players on one link: they are 1 to 8, and nobody gives a download up
+abbrev pub can_share : InputValues → Bool
+can_share i = nat_le 1 (length i.rules) && nat_le (length i.rules) 8 && not i.setup.abandon
+
+-- the answer on this network, where the rules can share it; a command line of `simulate --players` names one, and its rules can
+abbrev pub play_jointly_on : InputValues → Bool → Option (Text × List Period) → Outcome
+play_jointly_on i true (Some network) = do
   ready ← unless_stopped (settled i)
   Ok (printed (joint_text (joint_on ready network.1)))
-play_jointly_on i None = Ok (printed [])
-
--- the rules of a command line can be those of players on one link: they are 1 to 8, and nobody gives a download up
-pub record CanShare (i : InputValues) : Type 0 where
-  pub players : IsWithin 1 8 (length i.rules)
-  pub keeps : i.setup.abandon ≡ false
+play_jointly_on i true None = Ok (printed [])
+play_jointly_on i false network = Ok (printed [])
 
 -- what `simulate --players` answers, by its inputs
 unfoldable pub play_jointly : InputValues → Outcome
-play_jointly i = play_jointly_on i (slice_get i.networks 0)
+play_jointly i = play_jointly_on i (can_share i) (slice_get i.networks 0)
 
 -- what `simulate` answers, by whether its rules are those of several players
 abbrev pub simulate_by : Bool → InputValues → Outcome

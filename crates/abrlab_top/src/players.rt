@@ -1,12 +1,12 @@
 //! `simulate --players`: the joint session of several players on one network.
 
-ghost use Rattle.std.specs.Prelude.{◌+◌, ℕ, length};
+ghost use Rattle.std.specs.Prelude.{◌≡◌, ◌+◌, ℕ, length};
 ghost use Rattle.std.specs.List.{All};
 ghost use Rattle.lab_io.specs.Sink.{Puts};
 ghost use Rattle.player_core.specs.Session.{Shown, shown};
 ghost use Rattle.session_report.specs.Session.{CanReport};
 ghost use Rattle.abrlab_top.specs.Ending.{ended};
-ghost use Rattle.abrlab_top.specs.Players.{AreOf, CanShare, play_jointly, player_line, players_text};
+ghost use Rattle.abrlab_top.specs.Players.{AreOf, can_share, play_jointly, player_line, players_text};
 ghost use Rattle.abrlab_top.specs.Stages.{Writes, at_the_end};
 
 use crate::ending::Ending;
@@ -17,7 +17,7 @@ use lab_io::{PutErr, Sink, put_fields};
 use lab_model::Weights;
 use player_core::Session;
 use session_report::write_session;
-use shared_link::play_shared;
+use shared_link::{MOST_PLAYERS, play_shared};
 use std::alloc::Global;
 
 /// Writes the line of a player, whose place is counted from 0.
@@ -44,19 +44,29 @@ fn write_players<O: Sink>(
     Ok(())
 }
 
+/// Whether the rules can be those of players on one link: there are 1 to 8, and nobody gives a download up.
+fn can_share(inputs: &Inputs) -> bool
+    ensures { result ≡ can_share inputs.now }
+{
+    let count = inputs.rules().len();
+    count >= 1 && count <= MOST_PLAYERS && !inputs.setup().abandon
+}
+
 /// Plays the joint session and writes the text of each player.
 pub(crate) fn write_joint_session<O: Sink>(
     alloc: Global,
     inputs: &Inputs,
     out: &mut O,
 ) -> Result<(), Ending>
-    requires { CanShare inputs.now }
     ensures { Writes at_the_end (play_jointly inputs.now)
         (O.seen out.old) (ended result) (O.seen out.new) }
 {
     let Some(network) = inputs.network() else {
         return Ok(());
     };
+    if !can_share(inputs) {
+        return Ok(());
+    }
     inputs.fit()?;
     let rules = any_rules(alloc, inputs.rules())?;
     let joint = play_shared(alloc, inputs.manifest(), &network.trace, inputs.setup(), rules)?;

@@ -1,13 +1,11 @@
 //! `simulate`: the session of one network and one rule, or the joint session of several players.
 
-ghost use Rattle.std.specs.Prelude.{◌≡◌, true};
-ghost use Rattle.lab_words.specs.declared.Verb.TheVariants as verb;
 ghost use Rattle.lab_words.specs.Command.{view};
-ghost use Rattle.lab_words.specs.Limits.{IsWithinLimits};
+ghost use Rattle.lab_words.specs.Limits.{HasFilm, IsWithinLimits};
 ghost use Rattle.lab_inputs.specs.Roles.{film_files};
 ghost use Rattle.abrlab_top.specs.Ending.{ended};
 ghost use Rattle.abrlab_top.specs.Outcome.{about};
-ghost use Rattle.abrlab_top.specs.Players.{CanShare, simulate_by};
+ghost use Rattle.abrlab_top.specs.Players.{simulate_by};
 ghost use Rattle.abrlab_top.specs.Runs.{Ends};
 ghost use Rattle.abrlab_top.specs.Simulate.{simulate};
 ghost use Rattle.abrlab_top.specs.Stages.{Writes, at_the_end};
@@ -55,7 +53,6 @@ fn write_sessions<O: Sink>(
     several: bool,
     out: &mut O,
 ) -> Result<(), Ending>
-    requires sharing { several ≡ true → CanShare inputs.now }
     ensures { Writes at_the_end (simulate_by several inputs.now)
         (O.seen out.old) (ended result) (O.seen out.new) }
 {
@@ -74,7 +71,7 @@ pub(crate) fn simulate<F: Shelf, O: Sink>(
     out: &mut O,
 ) -> Result<(), Ending>
     requires limits { IsWithinLimits (view command) }
-    requires verb { (view command).verb ≡ verb.Simulate }
+    requires film { HasFilm (view command).verb }
     ensures { Ends (film_files (view command)) at_the_end
         (about (simulate_by (view command).players) (view command))
         (F.shelved shelf.old) (O.seen out.old) (ended result)

@@ -1,5 +1,5 @@
 -- What a command is about, as one value: what its files hold, with the setup and the rules of its words.
-use Rattle.std.specs.Prelude.{◌≡◌, List, Result}
+use Rattle.std.specs.Prelude.{List, Result}
 use Rattle.lab_io.specs.Sink.{Text}
 use Rattle.lab_model.specs.declared.context.Seek.{Seek}
 use Rattle.lab_model.specs.declared.setup.Setup.{Setup}
@@ -31,11 +31,6 @@ setup_of c = record { buffer_ms = c.buffer_ms; weights = weighing c.utilities c.
 -- what a command is about whose files hold this
 abbrev pub inputs_on : CommandWords → ContentValues → InputValues
 inputs_on c v = record { film = v.film; setup = setup_of c; networks = v.networks; seeks = v.seeks; certificate = v.certificate; rules = c.rules }
-
--- inputs have the setup and the rules of the words of a command
-pub record HaveWords (c : CommandWords) (i : InputValues) : Type 0 where
-  pub setup : i.setup ≡ setup_of c
-  pub rules : i.rules ≡ c.rules
 
 -- what the files of a command hold
 abbrev pub contents_of : CommandWords → Files → Result ContentValues Stop

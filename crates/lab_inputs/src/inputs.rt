@@ -1,13 +1,13 @@
 //! What a command is about, as one value.
 
-ghost use Rattle.std.specs.Prelude.{◌≡◌, IfOk, IfSome, map, option_map};
+ghost use Rattle.std.specs.Prelude.{◌≡◌, IfSome, map, option_map};
 ghost use Rattle.std.specs.List.{All, slice_get};
 ghost use Rattle.lab_model.specs.Film.{segments_of};
 ghost use Rattle.lab_model.specs.Seeks.{SeeksFit};
 ghost use Rattle.lab_words.specs.Command.{named, view};
 ghost use Rattle.lab_words.specs.Limits.{HasFilm, IsRuleWithin, IsWithinLimits};
 ghost use Rattle.lab_words.specs.Rules.{spoken};
-ghost use Rattle.lab_inputs.specs.Inputs.{HaveWords, inputs_of, inputs_on};
+ghost use Rattle.lab_inputs.specs.Inputs.{inputs_of, inputs_on};
 ghost use Rattle.lab_inputs.specs.Roles.{film_files};
 ghost use Rattle.lab_inputs.specs.Settings.{Fits, misfit};
 ghost use Rattle.lab_inputs.specs.Stages.{Comes, IsSettled, network_of};
@@ -170,9 +170,8 @@ impl Inputs {
 pub fn read_inputs<F: Shelf>(alloc: Global, shelf: &mut F, command: Command) -> Result<Inputs, Halt>
     requires limits { IsWithinLimits (view command) }
     requires film { HasFilm (view command).verb }
-    ensures comes { Comes (film_files (view command)) (λ i. i) (inputs_of (view command))
+    ensures { Comes (film_files (view command)) (λ i. i) (inputs_of (view command))
         (F.shelved shelf.old) result (F.shelved shelf.new) }
-    ensures words { IfOk result (λ i. HaveWords (view command) i) }
 {
     let contents = read_contents(alloc, shelf, &command)?;
     Ok(Inputs::of(command, contents))
