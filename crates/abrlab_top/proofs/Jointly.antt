@@ -75,12 +75,12 @@ played_jointly i n e b h = rw (e, b, h) refl
 module _ (shows : ℕ → Shown) (w : Weighing) where
   rest_of : (i k : ℕ) → (rest : Text) × (players_text shows w (i + k) ≡ players_text shows w i ++ rest)
   unfolding players_text
-  rest_of i zero = ([], let same : i + 0 ≡ i = omega arith in rw same (sym (append-nil (players_text shows w i))))
+  rest_of i zero = ([], let same : i + 0 ≡ i = omega arith in ap (players_text shows w) same ∙ sym (append-nil (players_text shows w i)))
   rest_of i (suc k) =
       let x = rest_of i k in
       let said = player_line (i + k + 1) ++ session_text (shows (i + k)) w in
       let next : i + suc k ≡ suc (i + k) = omega arith in
-      (x.0 ++ said, rw next (ap (λ t. t ++ said) x.1 ∙ append_assoc (players_text shows w i) x.0 said))
+      (x.0 ++ said, ap (players_text shows w) next ∙ ap (λ t. t ++ said) x.1 ∙ append_assoc (players_text shows w i) x.0 said)
 
   -- the text of a player, between those of the players before and behind it
   split_at : (i n : ℕ) → i < n → (rest : Text) × (players_text shows w n ≡ players_text shows w i ++ (player_line (i + 1) ++ (session_text (shows i) w ++ rest)))
@@ -107,7 +107,9 @@ module _ (shows : ℕ → Shown) (w : Weighing) where
         puts_more b c d (player_line (i + 1)) (session_text (shows i) w) r q u e y (puts_as c d _ _ q (ap (λ (x : Shown). session_text x w) k) z) in
       let both : Puts a (players_text shows w i ++ (player_line (i + 1) ++ session_text (shows i) w)) d q =
         puts_more a b d (players_text shows w i) (player_line (i + 1) ++ session_text (shows i) w) (Ok tt) q tt refl x said in
-      rw (add-one) (subst (λ r. Puts a (players_text shows w i ++ (player_line (i + 1) ++ session_text (shows i) w)) d r) h both)
+      let next : suc i ≡ i + 1 = omega arith in
+      let whole : Puts a (players_text shows w (suc i)) d (Ok v) = subst (λ r. Puts a (players_text shows w (suc i)) d r) h both in
+      subst (λ m. Puts a (players_text shows w m) d (Ok tt)) next whole
 
   -- a player's line did not go out
   pub line_cut : (a b c : Seen) (i n : ℕ) (r q : Result (Unit {0}) PutErr) (e : PutErr) → i < n → r ≡ Err e → IsErrAnd q (λ y. y ≡ e)

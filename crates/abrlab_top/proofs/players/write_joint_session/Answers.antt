@@ -15,15 +15,15 @@ use Rattle.abrlab_top.proofs.players.write_joint_session.Goals as goal
 pub returns-in_default : goal.returns-in_default
 returns-in_default g c = nothing_printed at_the_end (play_jointly c.args.inputs.now) (g.O.Sink.seen c.args.out.now) (no_network c.args.inputs.now (none_there _ _ _ c.in_default.is c.network.ensures))
 
-pub returns-in_then : goal.returns-in_then
-returns-in_then g c = nothing_printed at_the_end (play_jointly c.args.inputs.now) (g.O.Sink.seen c.args.out.now) (cannot_share c.args.inputs.now (sym c.can_share.ensures ∙ c.in_then.test))
+pub returns-then-not-can_share : goal.returns-then-not-can_share
+returns-then-not-can_share g c = nothing_printed at_the_end (play_jointly c.args.inputs.now) (g.O.Sink.seen c.args.out.now) (cannot_share c.args.inputs.now (sym c.can_share.ensures ∙ c.if-not-can_share.true))
 
 pub returns-in_err-fit : goal.returns-in_err-fit
 returns-in_err-fit g c =
     let i = c.args.inputs.now in
     let stop = unsettled i c.fit.result _ c.in_err-fit.was c.fit.ensures in
     exit at_the_end (play_jointly i) _ _ c.from_residual.result _ c.from_residual.ensures.1
-    (settings_stop at_the_end i (play_jointly i) _ _ stop (jointly_stopped i _ _ (some_there _ _ _ _ c.in-Some.is c.network.ensures) (sym c.can_share.ensures ∙ c.in_else.test) stop))
+    (settings_stop at_the_end i (play_jointly i) _ _ stop (jointly_stopped i _ _ (some_there _ _ _ _ c.in-Some.is c.network.ensures) (sym c.can_share.ensures ∙ c.if-not-can_share.false) stop))
 
 pub any_rules-requires : goal.any_rules-requires
 any_rules-requires g c = rules_within c.args.inputs.now c.rules.result.now c.rules.ensures.value c.rules.ensures.within
@@ -34,10 +34,10 @@ returns-in_err-rules g c = exit at_the_end (play_jointly c.args.inputs.now) _ _ 
 pub play_shared-requires-clause-players : goal.play_shared-requires-clause-players
 play_shared-requires-clause-players g c =
     let i = c.args.inputs.now in
-    as_many i c.in_ok-rules.rules.items (kinds_are i c.rules.result.now c.in_ok-rules.rules.items c.rules.ensures.value c.in_ok-rules.ensures.kinds) (shared_by i (sym c.can_share.ensures ∙ c.in_else.test)).0
+    as_many i c.in_ok-rules.rules.items (kinds_are i c.rules.result.now c.in_ok-rules.rules.items c.rules.ensures.value c.in_ok-rules.ensures.kinds) (shared_by i (sym c.can_share.ensures ∙ c.if-not-can_share.false)).0
 
 pub play_shared-requires-clause-keeps : goal.play_shared-requires-clause-keeps
-play_shared-requires-clause-keeps g c = rw c.setup.ensures (shared_by c.args.inputs.now (sym c.can_share.ensures ∙ c.in_else.test)).1
+play_shared-requires-clause-keeps g c = rw c.setup.ensures (shared_by c.args.inputs.now (sym c.can_share.ensures ∙ c.if-not-can_share.false)).1
 
 pub play_shared-requires-clause-rules : goal.play_shared-requires-clause-rules
 play_shared-requires-clause-rules g c =
@@ -62,7 +62,7 @@ returns-in_err-write_players g c =
     let case = case_is i c.in-Some.network.now.trace c.in-Some.network.now.trace c.manifest.result.now c.setup.result.now c.in_ok-rules.rules.items kinds c.manifest.ensures refl c.setup.ensures in
     let text = texts_are i c.in-Some.network.now.trace j c.in_ok-joint.joint.sessions.items c.setup-2.result.now case c.setup-2.ensures c.in_ok-joint.ensures.sessions in
     exit at_the_end (play_jointly i) _ _ c.from_residual-in_err-write_players.result _ c.from_residual-in_err-write_players.ensures.1
-    (put_failed at_the_end (play_jointly i) (printed (joint_text (joint_on i c.in-Some.network.now.trace))) _ _ c.write_players.result _ (played_jointly i _ network (sym c.can_share.ensures ∙ c.in_else.test) fits.0) tt c.in_err-write_players.was
+    (put_failed at_the_end (play_jointly i) (printed (joint_text (joint_on i c.in-Some.network.now.trace))) _ _ c.write_players.result _ (played_jointly i _ network (sym c.can_share.ensures ∙ c.if-not-can_share.false) fits.0) tt c.in_err-write_players.was
     (puts_as _ _ _ _ _ text (c.write_players.ensures (joint_session j) (are_of j c.in_ok-joint.joint.sessions.items c.in_ok-joint.ensures.sessions))))
 
 pub returns : goal.returns
@@ -74,5 +74,5 @@ returns g c =
     let j = joint_of c.manifest.result.now c.in-Some.network.now.trace c.setup.result.now (map kind_of c.in_ok-rules.rules.items) in
     let case = case_is i c.in-Some.network.now.trace c.in-Some.network.now.trace c.manifest.result.now c.setup.result.now c.in_ok-rules.rules.items kinds c.manifest.ensures refl c.setup.ensures in
     let text = texts_are i c.in-Some.network.now.trace j c.in_ok-joint.joint.sessions.items c.setup-2.result.now case c.setup-2.ensures c.in_ok-joint.ensures.sessions in
-    put_done at_the_end (play_jointly i) (joint_text (joint_on i c.in-Some.network.now.trace)) _ _ c.write_players.result _ (played_jointly i _ network (sym c.can_share.ensures ∙ c.in_else.test) fits.0) c.in_ok-write_players.was
+    put_done at_the_end (play_jointly i) (joint_text (joint_on i c.in-Some.network.now.trace)) _ _ c.write_players.result _ (played_jointly i _ network (sym c.can_share.ensures ∙ c.if-not-can_share.false) fits.0) c.in_ok-write_players.was
     (puts_as _ _ _ _ _ text (c.write_players.ensures (joint_session j) (are_of j c.in_ok-joint.joint.sessions.items c.in_ok-joint.ensures.sessions)))
