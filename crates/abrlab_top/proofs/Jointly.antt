@@ -55,11 +55,28 @@ jointly_stopped i n why e b h = rw (e, b, h) refl
 
 -- rules that can share a link are 1 to 8
 pub shared_by : (i : InputValues) → can_share i ≡ true → IsWithin 1 8 (length i.rules) × (i.setup.abandon ≡ false)
-shared_by i e = by_tests (length i.rules) i.setup.abandon e
+shared_by i e =
+    let t = three (nat_le 1 (length i.rules)) (nat_le (length i.rules) 8) i.setup.abandon e in
+    (within (length i.rules) t.0 t.1, t.2)
   where
-    by_tests : (n : ℕ) (abandon : Bool) → (nat_le 1 n && nat_le n 8 && not abandon) ≡ true → IsWithin 1 8 n × (abandon ≡ false)
-    by_tests n true e = grind (arith, nat_tests)
-    by_tests n false e = grind (arith, nat_tests)
+    three : (a b c : Bool) → (a && b && not c) ≡ true → (a ≡ true) × (b ≡ true) × (c ≡ false)
+    three true true false e = (refl, refl, refl)
+    three false b c e = cc
+    three true false c e = cc
+    three true true true e = cc
+
+    within : (n : ℕ) → nat_le 1 n ≡ true → nat_le n 8 ≡ true → IsWithin 1 8 n
+    within n low high = (grind (arith, nat_tests, low), grind (arith, nat_tests, high))
+
+-- 1 to 8 rules can, where nobody gives a download up
+pub can_share_by : (i : InputValues) → IsWithin 1 8 (length i.rules) → i.setup.abandon ≡ false → can_share i ≡ true
+can_share_by i h k = by_tests (nat_le 1 (length i.rules)) (nat_le (length i.rules) 8) i.setup.abandon (let low = h.0 in grind (arith, nat_tests, low)) (let high = h.1 in grind (arith, nat_tests, high)) k
+  where
+    by_tests : (a b c : Bool) → a ≡ true → b ≡ true → c ≡ false → (a && b && not c) ≡ true
+    by_tests true true false e h k = refl
+    by_tests true true true e h k = cc
+    by_tests true false c e h k = cc
+    by_tests false b c e h k = cc
 
 -- the test of so many rules
 pub sharing_is : (i : InputValues) (seen : List NamedRule) (set : Setup) → map named seen ≡ i.rules → set ≡ i.setup → (nat_le 1 (length seen) && nat_le (length seen) 8 && not set.abandon) ≡ can_share i

@@ -1,7 +1,6 @@
 -- The headline of each command, from a run that answered 0.
-use Rattle.std.proofs.Common.{◌≡◌, ◌∙◌, ℕ, ◌≤◌, ◌++◌, ◌||◌, ◌&&◌, not, nat_le, is_some, Bool, true, false, List, [], ◌∷◌, length, get_or, map, Option, Some, None, Result, Ok, Err, ap, sym, refl, subst, arith}
+use Rattle.std.proofs.Common.{◌≡◌, ◌∙◌, ℕ, ◌≤◌, ◌++◌, ◌||◌, is_some, Bool, true, false, List, [], ◌∷◌, length, get_or, map, Option, Some, None, Result, Ok, Err, ap, sym, refl, subst, arith}
 use Rattle.std.specs.List.{All, slice_get}
-use Rattle.std.proofs.lemmas.Bool.Decides.{nat_tests}
 use Rattle.std.proofs.lemmas.List.{length-map}
 use Rattle.std.proofs.lemmas.List.Elements.{All-map}
 use Rattle.lab_io.specs.Sink.{Text, Grew}
@@ -58,7 +57,7 @@ use Rattle.abrlab_top.specs.Players.{can_share, joint_on, joint_text, play_joint
 use Rattle.abrlab_top.specs.Proves.{IsBest, IsYes, PlansTheBest, PlaysJointly, Proves, SaysYesSoundly, Simulates}
 use Rattle.abrlab_top.specs.Runs.{Runs, World}
 use Rattle.abrlab_top.specs.Simulate.{case_on, session_on, simulate, simulate_on}
-use Rattle.abrlab_top.proofs.Jointly.{shared_by}
+use Rattle.abrlab_top.proofs.Jointly.{can_share_by, shared_by}
 use Rattle.abrlab_top.proofs.Certified.{has_text, within_budget}
 use Rattle.abrlab_top.proofs.Statuses.{statuses, tells_named}
 
@@ -173,7 +172,7 @@ shares : (c : CommandWords) (i : InputValues) (v : ContentValues) → IsWithinLi
 shares c i v limits e several is =
     let counts = (counts_of c verb.Simulate limits e).1 in
     let keeps = no_abandon (is_some c.live) c.players c.abandon (is_some c.seeks) (subst (λ w. agrees w c ≡ true) e limits.agreed) several in
-    rw (is, keeps) (grind (arith, nat_tests, counts))
+    subst (λ x. can_share x ≡ true) (sym is) (can_share_by (inputs_on c v) counts keeps)
 
 -- what a run of `simulate` went through
 simulated_by : (c : CommandWords) (files : Files) (old new : World) → c.verb ≡ verb.Simulate → DoneBy c files old new → SimulatedBy c files old new
