@@ -121,9 +121,9 @@ module _ (shows : ℕ → Shown) (w : Weighing) where
   unfolding players_text
   players_more a b c d i s r q u v e h k x y z =
       let said : Puts b (player_line (i + 1) ++ session_text (shows i) w) d q =
-        puts_more b c d (player_line (i + 1)) (session_text (shows i) w) r q u e y (puts_as c d _ _ q (ap (λ (x : Shown). session_text x w) k) z) in
+      puts_more b c d (player_line (i + 1)) (session_text (shows i) w) r q u e y (puts_as c d _ _ q (ap (λ (x : Shown). session_text x w) k) z) in
       let both : Puts a (players_text shows w i ++ (player_line (i + 1) ++ session_text (shows i) w)) d q =
-        puts_more a b d (players_text shows w i) (player_line (i + 1) ++ session_text (shows i) w) (Ok tt) q tt refl x said in
+      puts_more a b d (players_text shows w i) (player_line (i + 1) ++ session_text (shows i) w) (Ok tt) q tt refl x said in
       let next : suc i ≡ i + 1 = omega arith in
       let whole : Puts a (players_text shows w (suc i)) d (Ok v) = subst (λ r. Puts a (players_text shows w (suc i)) d r) h both in
       subst (λ m. Puts a (players_text shows w m) d (Ok tt)) next whole

@@ -69,6 +69,12 @@ pub(crate) fn write_joint_session<O: Sink>(
     }
     inputs.fit()?;
     let rules = any_rules(alloc, inputs.rules())?;
-    let joint = play_shared(alloc, inputs.manifest(), &network.trace, inputs.setup(), rules)?;
+    let joint = play_shared(
+        alloc,
+        inputs.manifest(),
+        &network.trace,
+        inputs.setup(),
+        rules,
+    )?;
     Ok(write_players(&joint.sessions, &inputs.setup().weights, out)?)
 }

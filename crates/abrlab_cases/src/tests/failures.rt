@@ -77,7 +77,7 @@ static FRAGILE: [Fragile; 5] = [
         status: 0,
         text: EQUAL_TEXT,
         fetches: &["abrlab: manifest file: not read\n", "abrlab: trace file: not read\n"],
-        puts: 40,
+        puts: 41,
     },
     Fragile {
         words: PAIR,

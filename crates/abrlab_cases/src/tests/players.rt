@@ -143,9 +143,11 @@ end 7258
 score -85565
 ";
 
-const NINE: &str = "simulate --manifest m --trace t --players fixed:1/fixed:1/fixed:1/fixed:1/fixed:1/fixed:1/fixed:1/fixed:1/fixed:1 --utilities 0,10 --buffer 10000";
+const NINE: &str =
+    "simulate --manifest m --trace t --players fixed:1/fixed:1/fixed:1/fixed:1/fixed:1/fixed:1/fixed:1/fixed:1/fixed:1 --utilities 0,10 --buffer 10000";
 
-const CROWD_WORDS: &str = "simulate --manifest m --trace t --players fixed:1/list:0,1,2,1,0,2/throughput:2,5/bola:5/mpc:3/fixed:1/mpc:5/throughput:1 --utilities 1,2,3 --buffer 3000";
+const CROWD_WORDS: &str =
+    "simulate --manifest m --trace t --players fixed:1/list:0,1,2,1,0,2/throughput:2,5/bola:5/mpc:3/fixed:1/mpc:5/throughput:1 --utilities 1,2,3 --buffer 3000";
 
 const USAGE: &str = "abrlab: usage: simulate, compare, plan, check, demo\n";
 
