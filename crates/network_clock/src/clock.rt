@@ -2,7 +2,7 @@
 
 ghost use Rattle.std.specs.Prelude.{◌≡◌, ℕ, ◌+◌, ◌-◌, ◌*◌, ◌<◌, ◌≤◌, IfOk};
 ghost use Rattle.lab_model.specs.Cycle.{IsTrace};
-ghost use Rattle.network_clock.specs.Flow.{IsPaced, Opens, Touches, delay_in, delay_of, used_in};
+ghost use Rattle.network_clock.specs.Flow.{IsPaced, Opens, Touches, carried_in, delay_in, delay_of, flow, used_in};
 ghost use Rattle.network_clock.specs.Network.{done_at, first_at, job_after, period_at};
 
 use crate::job::{Job, Landing};
@@ -173,6 +173,14 @@ impl Clock {
         ensures trace { IsTrace self.now }
     {
         self.bits.period_of(self.bits.place_at(instant))
+    }
+
+    /// What the network carries before an instant, in thousandths of a bit, where every millisecond is spent on bits.
+    pub fn carried_before(&self, instant: u64) -> u128
+        ensures value { result ≡ flow carried_in self.now instant }
+        ensures trace { IsTrace self.now }
+    {
+        self.bits.carried_before(instant)
     }
 
     /// The job after the milliseconds `from` to `to - 1`, at most 2 * 10^15.
