@@ -13,7 +13,7 @@ use Rattle.lab_model.specs.Rules.{RuleKind, fixed, listed, throughput, bola, mpc
 use Rattle.lab_model.proofs.Rows.{weighing_within}
 use Rattle.lab_model.specs.Row.{AreWeights}
 use Rattle.lab_model.specs.Weighing.{IsWeighing, weighing}
-use Rattle.lab_words.specs.Limits.{AreWeighed, IsGrid, IsRuleWithin, IsWithinLimits}
+use Rattle.lab_words.specs.Limits.{AreWeighed, IsBudget, IsGrid, IsRuleWithin, IsWithinLimits}
 use Rattle.lab_words.specs.Rules.{has_colon, rule_of, rule_of_kind}
 use Rattle.lab_words.specs.Spelling.{Text, all_numbers, grid_by, grid_of, has_comma, in_range, is_number, never_falls, number_of, numbers_of, pieces_of, unless_falling, utilities_of}
 use Rattle.lab_words.specs.Check.{check_agrees, check_app, check_in}
@@ -21,12 +21,12 @@ use Rattle.lab_words.specs.Command.{CommandWords, blank, view}
 use Rattle.lab_words.specs.Demo.{demo_app, demo_in}
 use Rattle.lab_words.specs.Plan.{grid_if, grid_in, plan_agrees, plan_app, plan_in}
 use Rattle.lab_words.specs.Settings.{SettingsWords, UtilitiesWords, settings_in, utilities_by, utilities_in, with_settings}
-use Rattle.lab_words.specs.Compare.{at_most, compare_app, compare_in, distinct, few, named_rule, named_rules, rules_in, traces_in}
+use Rattle.lab_words.specs.Compare.{at_most, budget_in, compare_agrees, compare_app, compare_in, distinct, few, named_rule, named_rules, rules_in, traces_in}
 use Rattle.lab_words.specs.Simulate.{simulate_agrees, simulate_app, simulate_in}
 use Rattle.lab_words.specs.Table.{accepted}
 use Rattle.lab_model.specs.OptionSteps.{◌>>=◌}
 use Rattle.lab_model.proofs.OptionSteps.{then_some}
-use Rattle.lab_words.specs.Values.{Either, first, second, Gives, if_agreed, is_given, one_of, is_stray, several, some_plain, number_in, number_if, optional, optional_number, required, rule_in}
+use Rattle.lab_words.specs.Values.{Either, first, second, Gives, if_agreed, is_given, one_of, is_stray, several, some_plain, number_in, number_if, number_unless, unless_barred, optional, optional_number, required, rule_in}
 use Rattle.lab_words.specs.Words.{asked_of, command_of, has_dashes, verb_of}
 use Rattle.lab_words.specs.declared.Command.{Command}
 use Rattle.lab_words.specs.declared.Verb.{Verb}
@@ -202,6 +202,34 @@ live_within rows live h = below live (optional_within 0 120000000 (codes "live")
     below : (o : Option ℕ) → IfSome o (IsWithin 0 120000000) → IfSome o (λ ms. ms ≤ 120000000)
     below None w = tt
     below (Some ms) w = w.1
+
+unless_within : (barred : Bool) (default least most : ℕ) (name : Text) (rows : List Row) (n : ℕ) → IsWithin least most default → number_unless barred default least most name rows ≡ Some n → IsWithin least most n
+unfolding number_unless
+unless_within barred default least most name rows n d h =
+    let given = went (unless_barred barred default) (optional_number least most name rows) n h in
+    by_given given.0 (optional_within least most name rows given.0 given.1) given.2
+  where
+    by_given : (o : Option ℕ) → IfSome o (IsWithin least most) → unless_barred barred default o ≡ Some n → IsWithin least most n
+    by_given None w e =
+        let same : default ≡ n = cc ((chosen _ (Some default) n e).1) in
+        subst (IsWithin least most) same d
+    by_given (Some m) w e =
+        let same : m ≡ n = cc ((chosen _ (Some m) n e).1) in
+        subst (IsWithin least most) same w
+
+barred_default : (default least most : ℕ) (name : Text) (rows : List Row) (n : ℕ) → number_unless true default least most name rows ≡ Some n → default ≡ n
+unfolding number_unless
+barred_default default least most name rows n h =
+    let given = went (unless_barred true default) (optional_number least most name rows) n h in
+    by_given given.0 given.2
+  where
+    by_given : (o : Option ℕ) → unless_barred true default o ≡ Some n → default ≡ n
+    by_given None e = cc
+    by_given (Some m) e = cc
+
+budget_within : (regret : Bool) (rows : List Row) (n : ℕ) → budget_in regret rows ≡ Some n → IsBudget regret n
+budget_within true rows n h = unless_within false 200000 1 1000000 (codes "budget") rows n (lit≤ tt, lit≤ tt) h
+budget_within false rows n h = sym (barred_default 0 1 1000000 (codes "budget") rows n h)
 
 grid_by_within : (time value : Text) (g : ℕ × ℕ) → grid_by time value ≡ Some g → IsGrid g.0 g.1
 grid_by_within time value g h =
@@ -380,7 +408,8 @@ compare_within rows c h =
     let rules = then_some (rules_in rows) _ c manifest.2 in
     let settings = then_some (settings_in rows) _ c rules.2 in
     let seeks = then_some (optional (codes "seeks") rows) _ c settings.2 in
-    let traces = then_some (traces_in rows) _ c seeks.2 in
+    let budget = then_some (budget_in (is_given (codes "regret") rows) rows) _ c seeks.2 in
+    let traces = then_some (traces_in rows) _ c budget.2 in
     let within = settings_within rows settings.0 settings.1 in
     let named' = rules_within rows rules.0 rules.1 in
     let made : CommandWords = record (with_settings settings.0 (blank verb.Compare)) {
@@ -389,17 +418,20 @@ compare_within rows c h =
       rules = rules.0;
       abandon = is_given (codes "abandon") rows;
       seeks = seeks.0;
+      budget = budget.0;
+      regret = is_given (codes "regret") rows;
     } in
-    let same : made ≡ c = cc (traces.2) in
+    let agreed = were_agreed compare_agrees made c traces.2 in
+    let same : made ≡ c = agreed.1 in
     subst IsWithinLimits same (record {
       counts = (traces_within rows traces.0 traces.1, named'.0);
       spoken = named'.1;
       buffer = λ film. within.buffer;
       weights = λ film. within.weights;
-      own = tt;
+      own = budget_within (is_given (codes "regret") rows) rows budget.0 budget.1;
       live = tt;
       grid = inl (refl, refl);
-      agreed = refl;
+      agreed = agreed.0;
     })
 
 no_rules : All (λ (r : Text × RuleKind). IsRuleWithin r.1) []

@@ -29,6 +29,7 @@ pub record CommandWords : Type 0 where
   pub coarse_time : ℕ
   pub coarse_value : ℕ
   pub gap : Bool
+  pub regret : Bool
 
 -- a command that asks for nothing yet
 abbrev pub blank : Verb → CommandWords
@@ -53,6 +54,7 @@ blank verb = record {
   coarse_time = 0;
   coarse_value = 0;
   gap = false;
+  regret = false;
 }
 
 -- a rule and its word, without where they lie in memory
@@ -82,4 +84,5 @@ view c = record {
   coarse_time = c.coarse_time;
   coarse_value = c.coarse_value;
   gap = c.gap;
+  regret = c.regret;
 }

@@ -1,5 +1,5 @@
 -- The command `compare`: its words and what they ask for. Equal rules and equal traces count once, at their first place.
-use Rattle.std.specs.Prelude.{ℕ, ◌==◌, List, [], ◌∷◌, length, nat_le, Option, Some, None, option_map, option_and_then, codes, if◌then◌else◌}
+use Rattle.std.specs.Prelude.{ℕ, ◌==◌, ◌||◌, Bool, not, is_some, List, [], ◌∷◌, length, nat_le, Option, Some, None, option_map, option_and_then, codes, if◌then◌else◌}
 use Rattle.std.specs.List.{slice_split}
 use Rattle.std.specs.Str.{bytes_eq}
 use Rattle.clap.specs.Simple.{App}
@@ -12,7 +12,7 @@ use Rattle.lab_words.specs.Settings.{settings_in, settings_words, with_settings}
 use Rattle.lab_words.specs.Spelling.{Text}
 use Rattle.lab_words.specs.Table.{table_app}
 use Rattle.lab_model.specs.OptionSteps.{◌>>=◌}
-use Rattle.lab_words.specs.Values.{is_given, optional, required, several}
+use Rattle.lab_words.specs.Values.{at_most_one, if_agreed, is_given, number_unless, optional, required, several}
 use Rattle.lab_words.specs.declared.Verb.TheVariants as verb
 use Rattle.lab_words.specs.declared.table.Kind.{Kind}
 use Rattle.lab_words.specs.declared.table.Kind.TheVariants as kind
@@ -23,6 +23,8 @@ compare_words = (codes "manifest", kind.Required)
     ∷ (codes "rules", kind.Required)
     ∷ (codes "abandon", kind.Flag)
     ∷ (codes "seeks", kind.Optional)
+    ∷ (codes "regret", kind.Flag)
+    ∷ (codes "budget", kind.Optional)
     ∷ (codes "trace", kind.Several)
     ∷ []
 
@@ -62,6 +64,14 @@ rules_in rows = do
 unfoldable pub traces_in : List Row → Option (List Text)
 traces_in rows = option_and_then (few 64) (several (codes "trace") rows)
 
+-- the budget, which is for regrets alone
+abbrev pub budget_in : Bool → List Row → Option ℕ
+budget_in regret rows = number_unless (not regret) (if regret then 200000 else 0) 1 1000000 (codes "budget") rows
+
+-- not both asked for: regrets, and a viewer who gives downloads up or seeks
+abbrev pub compare_agrees : CommandWords → Bool
+compare_agrees c = at_most_one (c.regret ∷ (c.abandon || is_some c.seeks) ∷ [])
+
 -- what `compare` is asked for, by the values of its options
 unfoldable pub compare_in : List Row → Option CommandWords
 compare_in rows = do
@@ -69,11 +79,14 @@ compare_in rows = do
   rules ← rules_in rows
   settings ← settings_in rows
   seeks ← optional (codes "seeks") rows
+  budget ← budget_in (is_given (codes "regret") rows) rows
   traces ← traces_in rows
-  Some (record (with_settings settings (blank verb.Compare)) {
+  if_agreed compare_agrees (record (with_settings settings (blank verb.Compare)) {
     manifest = manifest;
     traces = traces;
     rules = rules;
     abandon = is_given (codes "abandon") rows;
     seeks = seeks;
+    budget = budget;
+    regret = is_given (codes "regret") rows;
   })

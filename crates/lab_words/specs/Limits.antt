@@ -1,5 +1,5 @@
 -- The limits that what a command line asks for keeps.
-use Rattle.std.specs.Prelude.{◌≡◌, ◌≤◌, ◌⊎◌, ℕ, Bool, true, IfSome, IsSome, List, [], Option, Some, None, length}
+use Rattle.std.specs.Prelude.{◌≡◌, ◌≤◌, ◌⊎◌, ℕ, Bool, true, false, IfSome, IsSome, List, [], Option, Some, None, length}
 use Rattle.std.specs.List.{All}
 use Rattle.lab_model.specs.Film.{IsWithin}
 use Rattle.lab_model.specs.Rules.{RuleKind, fixed, listed, throughput, bola, mpc}
@@ -7,6 +7,7 @@ use Rattle.lab_model.specs.Row.{AreWeights}
 use Rattle.lab_model.specs.Weighing.{IsWeighing, weighing}
 use Rattle.lab_words.specs.Check.{check_agrees}
 use Rattle.lab_words.specs.Command.{CommandWords}
+use Rattle.lab_words.specs.Compare.{compare_agrees}
 use Rattle.lab_words.specs.Plan.{plan_agrees}
 use Rattle.lab_words.specs.Simulate.{simulate_agrees}
 use Rattle.lab_words.specs.Spelling.{Text}
@@ -42,10 +43,15 @@ abbrev pub AreWeighed : Option Text → List ℕ → ℕ → ℕ → ℕ → Typ
 AreWeighed None utilities switch stall startup = IsWeighing (weighing utilities switch stall startup)
 AreWeighed (Some table) utilities switch stall startup = (utilities ≡ []) × AreWeights switch stall startup
 
--- what one command alone has: the budget of `plan`, the certificate of `check`, the number of `demo`
+-- the budget of a comparison: within its limits for regrets, and 0 else
+abbrev pub IsBudget : Bool → ℕ → Type 0
+IsBudget true budget = IsWithin 1 1000000 budget
+IsBudget false budget = budget ≡ 0
+
+-- what one command alone has: the budgets of `compare` and `plan`, the certificate of `check`, the number of `demo`
 abbrev pub HasItsOwn : Verb → CommandWords → Type 0
 HasItsOwn Simulate c = Unit {0}
-HasItsOwn Compare c = Unit {0}
+HasItsOwn Compare c = IsBudget c.regret c.budget
 HasItsOwn Plan c = IsWithin 1 1000000 c.budget
 HasItsOwn Check c = IsSome c.certificate
 HasItsOwn Demo c = c.number ≤ 2147483647
@@ -57,7 +63,7 @@ IsGrid time value = ((time ≡ 0) × (value ≡ 0)) ⊎ (IsWithin 1 10000 time �
 -- no two options exclude each other
 abbrev pub agrees : Verb → CommandWords → Bool
 agrees Simulate c = simulate_agrees c
-agrees Compare c = true
+agrees Compare c = compare_agrees c
 agrees Plan c = plan_agrees c
 agrees Check c = check_agrees c
 agrees Demo c = true

@@ -1,5 +1,5 @@
 -- The values of a command's options, by the rows of `clap`'s matches: optional or required, one of two, numbers, flags and rules; and options that exclude each other.
-use Rattle.std.specs.Prelude.{◌≡◌, ℕ, ◌==◌, Bool, true, List, [], ◌∷◌, Option, Some, None, Result, Ok, Err, codes, count_by, nat_le, option_and_then, option_map, unwrap_or, if◌then◌else◌}
+use Rattle.std.specs.Prelude.{◌≡◌, ℕ, ◌==◌, Bool, true, List, [], ◌∷◌, Option, Some, None, Result, Ok, Err, codes, count_by, is_some, nat_le, option_and_then, option_map, unwrap_or, if◌then◌else◌}
 use Rattle.std.specs.List.{list_any}
 use Rattle.std.specs.Str.{bytes_eq}
 use Rattle.clap.specs.Walk.{Row, all_of, first_of}
@@ -93,6 +93,14 @@ is_given name rows = bytes_eq (unwrap_or (first_of name rows) []) (codes "true")
 -- at most one of the tests holds
 abbrev pub at_most_one : List Bool → Bool
 at_most_one tests = nat_le (count_by (λ test. test) tests) 1
+
+-- the number that is given or its default; refused where one is given and barred
+abbrev pub unless_barred : Bool → ℕ → Option ℕ → Option ℕ
+unless_barred barred default given = if at_most_one (barred ∷ is_some given ∷ []) then Some (unwrap_or given default) else None
+
+-- the number of an option from `least` to `most`, which must not be given where it is barred, or its default
+unfoldable pub number_unless : Bool → ℕ → ℕ → ℕ → Text → List Row → Option ℕ
+number_unless barred default least most name rows = option_and_then (unless_barred barred default) (optional_number least most name rows)
 
 -- what was read, where no two options of it exclude each other
 abbrev pub if_agreed : {X : Type 0} → (X → Bool) → X → Option X

@@ -4,7 +4,7 @@ ghost use Rattle.std.specs.Prelude.{◌≡◌, ◌==◌, IfOk, map, string_bytes
 ghost use Rattle.std.specs.List.{slice_split};
 ghost use Rattle.clap.specs.Words.{found_of, rows_of};
 ghost use Rattle.lab_words.specs.Command.{named, view};
-ghost use Rattle.lab_words.specs.Compare.{compare_app, compare_in, distinct, few, named_rule, named_rules, rules_in, traces_in};
+ghost use Rattle.lab_words.specs.Compare.{budget_in, compare_app, compare_in, distinct, few, named_rule, named_rules, rules_in, traces_in};
 ghost use Rattle.lab_words.specs.Table.{accepted};
 ghost use Rattle.lab_words.specs.Values.{Gives};
 ghost use Rattle.lab_words.specs.Words.{asked_of};
@@ -12,7 +12,9 @@ ghost use Rattle.lab_words.specs.Words.{asked_of};
 use crate::rules::rule_of;
 use crate::settings::{SETTINGS, settings_in};
 use crate::table::{Kind, Word, table_matches};
-use crate::values::{file_name, is_given, optional_file_name, required, several};
+use crate::values::{
+    at_most_one, file_name, is_given, number_unless, optional_file_name, required, several,
+};
 use crate::{Command, NamedRule, Verb, WordsErr};
 use clap::ArgMatches;
 use indexmap::IndexSet;
@@ -20,11 +22,13 @@ use std::alloc::{AllocError, AllocFailed, Global};
 
 /// The words of `compare` alone.
 #[rattlefmt::skip]
-static COMPARE: [Word; 5] = [
+static COMPARE: [Word; 7] = [
     Word { name: "manifest", kind: Kind::Required },
     Word { name: "rules", kind: Kind::Required },
     Word { name: "abandon", kind: Kind::Flag },
     Word { name: "seeks", kind: Kind::Optional },
+    Word { name: "regret", kind: Kind::Flag },
+    Word { name: "budget", kind: Kind::Optional },
     Word { name: "trace", kind: Kind::Several },
 ];
 
@@ -130,8 +134,16 @@ fn traces_in(alloc: Global, matches: &ArgMatches<'_>) -> Result<Vec<String>, Wor
     Ok(owned(alloc, names.as_slice())?)
 }
 
+/// The budget, which is for regrets alone.
+fn budget_in(matches: &ArgMatches<'_>, regret: bool) -> Result<u32, WordsErr>
+    ensures { Gives (λ number. number) result (budget_in regret (rows_of (found_of matches.now))) }
+{
+    let default = if regret { 200_000 } else { 0 };
+    number_unless(matches, "budget", !regret, default, 1, 1_000_000)
+}
+
 /// What `compare` is asked for, by the values of its options.
-#[tactic(auto, unfolding(crate::specs::Compare::compare_in))]
+#[tactic(auto, using(crate::proofs::Options::some_map), unfolding(crate::specs::Compare::compare_in))]
 fn compare_in(alloc: Global, matches: &ArgMatches<'_>) -> Result<Command, WordsErr>
     ensures { Gives view result (compare_in (rows_of (found_of matches.now))) }
 {
@@ -139,13 +151,21 @@ fn compare_in(alloc: Global, matches: &ArgMatches<'_>) -> Result<Command, WordsE
     let rules = rules_in(alloc, matches)?;
     let settings = settings_in(alloc, matches)?;
     let seeks = optional_file_name(alloc, matches, "seeks")?;
+    let regret = is_given(matches, "regret");
+    let budget = budget_in(matches, regret)?;
     let traces = traces_in(alloc, matches)?;
+    let abandon = is_given(matches, "abandon");
+    if !at_most_one(&[regret, abandon || seeks.is_some()]) {
+        return Err(WordsErr::Usage);
+    }
     Ok(Command {
         manifest,
         traces,
         rules,
-        abandon: is_given(matches, "abandon"),
+        abandon,
         seeks,
+        budget,
+        regret,
         ..settings.command(alloc, Verb::Compare)
     })
 }

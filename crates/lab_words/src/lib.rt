@@ -91,7 +91,7 @@ pub struct Command {
     pub abandon: bool,
     /// The seek script's file name.
     pub seeks: Option<String>,
-    /// How many labels a plan may have, from 1 to 1000000.
+    /// How many labels a plan may have, from 1 to 1000000; 0 where a comparison has no regrets.
     pub budget: u32,
     /// Whether the plan's certificate is asked for.
     pub as_certificate: bool,
@@ -107,6 +107,8 @@ pub struct Command {
     pub coarse_value: u32,
     /// Whether the certificate is one of a coarse plan, with its bound.
     pub gap: bool,
+    /// Whether each rule's regret is asked for.
+    pub regret: bool,
 }
 
 impl Command {
@@ -135,6 +137,7 @@ impl Command {
             coarse_time: 0,
             coarse_value: 0,
             gap: false,
+            regret: false,
         }
     }
 }

@@ -4,7 +4,7 @@ ghost use Rattle.std.specs.Prelude.{◌≡◌, map, option_map, string_bytes};
 ghost use Rattle.std.specs.List.{list_any};
 ghost use Rattle.clap.specs.Words.{all_of, first_of, found_of, rows_of};
 ghost use Rattle.lab_words.specs.Command.{named};
-ghost use Rattle.lab_words.specs.Values.{Gives, at_most_one, either_view, is_given, is_stray, number_in, one_of, optional, optional_number, required, rule_in, several, some_plain};
+ghost use Rattle.lab_words.specs.Values.{Gives, at_most_one, either_view, is_given, is_stray, number_in, number_unless, one_of, optional, optional_number, required, rule_in, several, some_plain};
 
 use crate::numbers::number_of;
 use crate::rules::rule_of;
@@ -198,6 +198,27 @@ pub(crate) fn at_most_one(tests: &[bool]) -> bool
     ensures { result ≡ at_most_one tests.now }
 {
     tests.iter().filter(|test| **test).count() <= 1
+}
+
+/// The number of an option from `least` to `most`, which must not be given where it is barred, or its
+/// default.
+#[tactic(auto, unfolding(crate::specs::Values::number_unless))]
+pub(crate) fn number_unless(
+    matches: &ArgMatches<'_>,
+    name: &str,
+    barred: bool,
+    default: u32,
+    least: u32,
+    most: u32,
+) -> Result<u32, WordsErr>
+    ensures { Gives (λ number. number) result
+        (number_unless barred default least most name.now (rows_of (found_of matches.now))) }
+{
+    let given = optional_number(matches, name, least, most)?;
+    if !at_most_one(&[barred, given.is_some()]) {
+        return Err(WordsErr::Usage);
+    }
+    Ok(given.unwrap_or(default))
 }
 
 /// The rule and its word.

@@ -102,6 +102,46 @@ const COARSE: [(&str, &str); 10] = [
     ),
 ];
 
+/// Regrets and their budget.
+const REGRET: [(&str, &str); 9] = [
+    (
+        "compare --manifest m --rules fixed:1 --utilities 0 t",
+        "budget: 0, as_certificate: false, certificate: None",
+    ),
+    (
+        "compare --manifest m --rules fixed:1 --utilities 0 --regret t",
+        "budget: 200000, as_certificate",
+    ),
+    (
+        "compare --manifest m --rules fixed:1 --utilities 0 --regret --budget 7 t",
+        "budget: 7, as_certificate",
+    ),
+    (
+        "compare t --manifest m --rules fixed:1 --utilities 0 --regret",
+        "gap: false, regret: true",
+    ),
+    (
+        "compare --manifest m --rules fixed:1 --utilities 0 --budget 7 t",
+        "Usage",
+    ),
+    (
+        "compare --manifest m --rules fixed:1 --utilities 0 --budget 0 --regret t",
+        "Usage",
+    ),
+    (
+        "compare --manifest m --rules fixed:1 --utilities 0 --regret --abandon t",
+        "Usage",
+    ),
+    (
+        "compare --manifest m --rules fixed:1 --utilities 0 --seeks s --regret t",
+        "Usage",
+    ),
+    (
+        "simulate --manifest m --trace t --rule fixed:1 --utilities 0 --regret",
+        "Usage",
+    ),
+];
+
 /// What the words of a line ask for, or why not.
 fn told(alloc: Global, line: &str) -> Result<String, Fail> {
     let words = words_of(alloc, line)?;
@@ -123,5 +163,6 @@ fn shows(rt: &impl Abort, alloc: Global, lines: &[(&str, &str)]) -> Result<(), F
 fn options(rt: HostRuntime) -> Result<(), Fail> {
     shows(&rt, rt.alloc(), &UTILITIES)?;
     shows(&rt, rt.alloc(), &LIVE)?;
-    shows(&rt, rt.alloc(), &COARSE)
+    shows(&rt, rt.alloc(), &COARSE)?;
+    shows(&rt, rt.alloc(), &REGRET)
 }
