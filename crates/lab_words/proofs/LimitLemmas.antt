@@ -14,19 +14,19 @@ use Rattle.lab_model.proofs.Rows.{weighing_within}
 use Rattle.lab_model.specs.Row.{AreWeights}
 use Rattle.lab_model.specs.Weighing.{IsWeighing, weighing}
 use Rattle.lab_words.specs.Limits.{AreWeighed, IsBudget, IsGrid, IsRuleWithin, IsWithinLimits}
-use Rattle.lab_words.specs.Rules.{has_colon, rule_of, rule_of_kind}
-use Rattle.lab_words.specs.Spelling.{Text, all_numbers, grid_by, grid_of, has_comma, in_range, is_number, never_falls, number_of, numbers_of, pieces_of, unless_falling, utilities_of}
+use Rattle.lab_words.specs.Rules.{has_colon, named_rule, named_rules, rule_of, rule_of_kind}
+use Rattle.lab_words.specs.Spelling.{Text, all_numbers, at_most, grid_by, grid_of, has_comma, in_range, is_number, never_falls, number_of, numbers_of, pieces_of, unless_falling, utilities_of}
 use Rattle.lab_words.specs.Check.{check_agrees, check_app, check_in}
 use Rattle.lab_words.specs.Command.{CommandWords, blank, view}
 use Rattle.lab_words.specs.Demo.{demo_app, demo_in}
 use Rattle.lab_words.specs.Plan.{grid_if, grid_in, plan_agrees, plan_app, plan_in}
 use Rattle.lab_words.specs.Settings.{SettingsWords, UtilitiesWords, settings_in, utilities_by, utilities_in, with_settings}
-use Rattle.lab_words.specs.Compare.{at_most, budget_in, compare_agrees, compare_app, compare_in, distinct, few, named_rule, named_rules, rules_in, traces_in}
-use Rattle.lab_words.specs.Simulate.{simulate_agrees, simulate_app, simulate_in}
+use Rattle.lab_words.specs.Compare.{budget_in, compare_agrees, compare_app, compare_in, distinct, few, rules_in, traces_in}
+use Rattle.lab_words.specs.Simulate.{players_by, players_in, several_players, simulate_agrees, simulate_app, simulate_in}
 use Rattle.lab_words.specs.Table.{accepted}
 use Rattle.lab_model.specs.OptionSteps.{◌>>=◌}
 use Rattle.lab_model.proofs.OptionSteps.{then_some}
-use Rattle.lab_words.specs.Values.{Either, first, second, Gives, if_agreed, is_given, one_of, is_stray, several, some_plain, number_in, number_if, number_unless, unless_barred, optional, optional_number, required, rule_in}
+use Rattle.lab_words.specs.Values.{Either, first, second, Gives, if_agreed, is_given, one_of, is_stray, several, some_plain, number_in, number_if, number_unless, unless_barred, optional, optional_number, required}
 use Rattle.lab_words.specs.Words.{asked_of, command_of, has_dashes, verb_of}
 use Rattle.lab_words.specs.declared.Command.{Command}
 use Rattle.lab_words.specs.declared.Verb.{Verb}
@@ -174,14 +174,6 @@ rule_within : (text : Text) (r : RuleKind) → rule_of text ≡ Some r → IsRul
 unfolding rule_of
 rule_within text r h = kind_within (before_first (λ b. b == 58) text) (after_first (λ b. b == 58) text) r (chosen (has_colon text) _ r h).1
 
-named_within : (rows : List Row) (r : Text × RuleKind) → rule_in rows ≡ Some r → IsRuleWithin r.1
-unfolding rule_in
-named_within rows r h =
-    let word = then_some (required (codes "rule") rows) _ r h in
-    let kind = then_some (rule_of word.0) _ r word.2 in
-    let same : (word.0, kind.0) ≡ r = cc (kind.2) in
-    subst (λ (x : Text × RuleKind). IsRuleWithin x.1) same (rule_within word.0 kind.0 kind.1)
-
 -- ---- options
 
 optional_within : (least most : ℕ) (name : Text) (rows : List Row) (o : Option ℕ) → optional_number least most name rows ≡ Some o → IfSome o (IsWithin least most)
@@ -294,48 +286,96 @@ settings_within rows s h =
       });
     })
 
+at_most_within : (most : ℕ) (texts kept : List Text) → at_most most texts ≡ Some kept → (texts ≡ kept) × (length kept ≤ most)
+at_most_within most texts kept h =
+    let split = chosen (nat_le (length texts) most) (Some texts) kept h in
+    let same : texts ≡ kept = cc (split.1) in
+    (same, subst (λ (ts : List Text). length ts ≤ most) same (le_from (length texts) most split.0))
+
+named_within_all : (texts : List Text) (rules : List (Text × RuleKind)) → named_rules texts ≡ Some rules → All (λ r. IsRuleWithin r.1) rules × (length rules ≡ length texts)
+named_within_all [] rules h =
+    let none : [] ≡ rules = cc in
+    subst (λ (rs : List (Text × RuleKind)). All (λ r. IsRuleWithin r.1) rs × (length rs ≡ 0)) none ((λ k d lt. absurd (omega arith)), refl)
+named_within_all (text ∷ texts) rules h =
+    let first = went _ (named_rule text) rules h in
+    let kind = mapped (λ rule. (text, rule)) (rule_of text) first.0 first.1 in
+    let rest = mapped (λ rs. first.0 ∷ rs) (named_rules texts) rules first.2 in
+    let later = named_within_all texts rest.0 rest.1 in
+    let here = subst (λ (r : Text × RuleKind). IsRuleWithin r.1) (sym kind.2) (rule_within text kind.0 kind.1) in
+    subst (λ (rs : List (Text × RuleKind)). All (λ r. IsRuleWithin r.1) rs × (length rs ≡ suc (length texts))) (sym rest.2)
+    (both_within first.0 rest.0 here later.0, ap suc later.1)
+  where
+    both_within : (r : Text × RuleKind) (rs : List (Text × RuleKind)) → IsRuleWithin r.1 → All (λ q. IsRuleWithin q.1) rs → All (λ q. IsRuleWithin q.1) (r ∷ rs)
+    both_within r rs here there zero d lt = here
+    both_within r rs here there (suc k) d lt = there k d (omega arith)
+
 alone : {X : Type 0} (P : X → Type 0) (x : X) → P x → All P (x ∷ [])
 alone P x p zero d lt = p
 alone P x p (suc k) d lt = absurd (omega arith)
+
+abbrev ArePlayers : List (Text × RuleKind) × Bool → Type 0
+ArePlayers p = IsWithin 1 8 (length p.0) × (p.1 ≡ false → length p.0 ≡ 1) × All (λ r. IsRuleWithin r.1) p.0
+
+several_within : (text : Text) (rules : List (Text × RuleKind)) → several_players text ≡ Some rules → IsWithin 1 8 (length rules) × All (λ r. IsRuleWithin r.1) rules
+unfolding several_players
+several_within text rules h =
+    let texts = then_some (at_most 8 (slice_split (λ b. b == 47) text)) _ rules h in
+    let few = at_most_within 8 (slice_split (λ b. b == 47) text) texts.0 texts.1 in
+    let each = named_within_all texts.0 rules texts.2 in
+    let some : 1 ≤ length texts.0 = subst (λ (ts : List Text). 1 ≤ length ts) few.0 (omega (arith, length-slice_split (λ b. b == 47) text)) in
+    (subst (IsWithin 1 8) (sym each.1) (some, few.1), each.0)
+
+by_players_within : (given : Either) (p : List (Text × RuleKind) × Bool) → players_by given ≡ Some p → ArePlayers p
+by_players_within (first text) p h =
+    let word = mapped (λ (rule : Text × RuleKind). (rule ∷ [], false)) (named_rule text) p h in
+    let kind = mapped (λ rule. (text, rule)) (rule_of text) word.0 word.1 in
+    let here = subst (λ (r : Text × RuleKind). IsRuleWithin r.1) (sym kind.2) (rule_within text kind.0 kind.1) in
+    subst ArePlayers (sym word.2) ((lit≤ tt, lit≤ tt), (λ off. refl), alone (λ (r : Text × RuleKind). IsRuleWithin r.1) word.0 here)
+by_players_within (second text) p h =
+    let rules = mapped (λ (rs : List (Text × RuleKind)). (rs, true)) (several_players text) p h in
+    let within = several_within text rules.0 rules.1 in
+    subst ArePlayers (sym rules.2) (within.0, (λ on. absurd (cc)), within.1)
+
+players_within : (rows : List Row) (p : List (Text × RuleKind) × Bool) → players_in rows ≡ Some p → ArePlayers p
+unfolding players_in
+players_within rows p h =
+    let given = then_some (one_of (codes "rule") (codes "players") rows) players_by p h in
+    by_players_within given.0 p given.2
 
 simulate_within : (rows : List Row) (c : CommandWords) → simulate_in rows ≡ Some c → IsWithinLimits c
 unfolding simulate_in
 simulate_within rows c h =
     let manifest = then_some (required (codes "manifest") rows) _ c h in
     let trace = then_some (required (codes "trace") rows) _ c manifest.2 in
-    let rule = then_some (rule_in rows) _ c trace.2 in
-    let settings = then_some (settings_in rows) _ c rule.2 in
+    let players = then_some (players_in rows) _ c trace.2 in
+    let settings = then_some (settings_in rows) _ c players.2 in
     let seeks = then_some (optional (codes "seeks") rows) _ c settings.2 in
     let live = then_some (optional_number 0 120000000 (codes "live") rows) _ c seeks.2 in
     let within = settings_within rows settings.0 settings.1 in
     let made : CommandWords = record (with_settings settings.0 (blank verb.Simulate)) {
       manifest = manifest.0;
       traces = trace.0 ∷ [];
-      rules = rule.0 ∷ [];
+      rules = players.0.0;
       abandon = is_given (codes "abandon") rows;
       seeks = seeks.0;
       live = live.0;
+      players = players.0.1;
     } in
     let agreed = were_agreed simulate_agrees made c live.2 in
+    let rules = players_within rows players.0 players.1 in
     let same : made ≡ c = agreed.1 in
     subst IsWithinLimits same (record {
-      counts = (refl, refl);
-      spoken = alone (λ (r : Text × RuleKind). IsRuleWithin r.1) rule.0 (named_within rows rule.0 rule.1);
+      counts = (refl, rules.0);
+      spoken = rules.2;
       buffer = λ film. within.buffer;
       weights = λ film. within.weights;
-      own = tt;
+      own = rules.1;
       live = live_within rows live.0 live.1;
       grid = inl (refl, refl);
       agreed = agreed.0;
     })
 
 -- ---- rules and traces without repeats
-
-at_most_within : (most : ℕ) (texts kept : List Text) → at_most most texts ≡ Some kept → (texts ≡ kept) × (length kept ≤ most)
-at_most_within most texts kept h =
-    let split = chosen (nat_le (length texts) most) (Some texts) kept h in
-    let same : texts ≡ kept = cc (split.1) in
-    (same, subst (λ (ts : List Text). length ts ≤ most) same (le_from (length texts) most split.0))
 
 insert_keeps : (ks : List Text) (k : Text) → length ks ≤ length (insert_key bytes_eq ks k)
 insert_keeps ks k = go (list_any (bytes_eq k) ks)
@@ -357,23 +397,6 @@ unfolding few
 few_within most texts kept some h =
     let got = at_most_within most (distinct texts) kept h in
     (subst (λ (ts : List Text). 1 ≤ length ts) got.0 (some_distinct texts some), got.1)
-
-named_within_all : (texts : List Text) (rules : List (Text × RuleKind)) → named_rules texts ≡ Some rules → All (λ r. IsRuleWithin r.1) rules × (length rules ≡ length texts)
-named_within_all [] rules h =
-    let none : [] ≡ rules = cc in
-    subst (λ (rs : List (Text × RuleKind)). All (λ r. IsRuleWithin r.1) rs × (length rs ≡ 0)) none ((λ k d lt. absurd (omega arith)), refl)
-named_within_all (text ∷ texts) rules h =
-    let first = went _ (named_rule text) rules h in
-    let kind = mapped (λ rule. (text, rule)) (rule_of text) first.0 first.1 in
-    let rest = mapped (λ rs. first.0 ∷ rs) (named_rules texts) rules first.2 in
-    let later = named_within_all texts rest.0 rest.1 in
-    let here = subst (λ (r : Text × RuleKind). IsRuleWithin r.1) (sym kind.2) (rule_within text kind.0 kind.1) in
-    subst (λ (rs : List (Text × RuleKind)). All (λ r. IsRuleWithin r.1) rs × (length rs ≡ suc (length texts))) (sym rest.2)
-    (both_within first.0 rest.0 here later.0, ap suc later.1)
-  where
-    both_within : (r : Text × RuleKind) (rs : List (Text × RuleKind)) → IsRuleWithin r.1 → All (λ q. IsRuleWithin q.1) rs → All (λ q. IsRuleWithin q.1) (r ∷ rs)
-    both_within r rs here there zero d lt = here
-    both_within r rs here there (suc k) d lt = there k d (omega arith)
 
 abbrev AreRulesWithin : List (Text × RuleKind) → Type 0
 AreRulesWithin rules = IsWithin 1 32 (length rules) × All (λ r. IsRuleWithin r.1) rules

@@ -2,7 +2,7 @@
 use Rattle.std.proofs.Common.{◌≡◌, ◌+◌, ◌<◌, ℕ, suc, List, [], ◌∷◌, ◌++◌, Option, Some, None, Bor, option_map, map, drop, drop-cons, length, get_or, refl, ap, add-one}
 use Rattle.std.proofs.lemmas.List.{append_assoc}
 use Rattle.lab_model.specs.Rules.{RuleKind}
-use Rattle.lab_words.specs.Compare.{named_rule, named_rules}
+use Rattle.lab_words.specs.Rules.{named_rule, named_rules}
 use Rattle.lab_words.specs.Spelling.{Text}
 
 -- the rules that are read already, before those that are to come

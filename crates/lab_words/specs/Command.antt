@@ -29,6 +29,7 @@ pub record CommandWords : Type 0 where
   pub coarse_time : ℕ
   pub coarse_value : ℕ
   pub gap : Bool
+  pub players : Bool
   pub regret : Bool
 
 -- a command that asks for nothing yet
@@ -54,6 +55,7 @@ blank verb = record {
   coarse_time = 0;
   coarse_value = 0;
   gap = false;
+  players = false;
   regret = false;
 }
 
@@ -84,5 +86,6 @@ view c = record {
   coarse_time = c.coarse_time;
   coarse_value = c.coarse_value;
   gap = c.gap;
+  players = c.players;
   regret = c.regret;
 }

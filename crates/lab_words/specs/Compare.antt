@@ -7,9 +7,9 @@ use Rattle.clap.specs.Walk.{Row}
 use Rattle.indexmap.specs.IndexSet.{insert_all}
 use Rattle.lab_model.specs.Rules.{RuleKind}
 use Rattle.lab_words.specs.Command.{CommandWords, blank}
-use Rattle.lab_words.specs.Rules.{rule_of}
+use Rattle.lab_words.specs.Rules.{named_rule, named_rules}
 use Rattle.lab_words.specs.Settings.{settings_in, settings_words, with_settings}
-use Rattle.lab_words.specs.Spelling.{Text}
+use Rattle.lab_words.specs.Spelling.{Text, at_most}
 use Rattle.lab_words.specs.Table.{table_app}
 use Rattle.lab_model.specs.OptionSteps.{◌>>=◌}
 use Rattle.lab_words.specs.Values.{at_most_one, if_agreed, is_given, number_unless, optional, required, several}
@@ -36,22 +36,9 @@ compare_app = table_app (codes "compare") compare_words settings_words
 abbrev pub distinct : List Text → List Text
 distinct texts = insert_all bytes_eq [] texts
 
--- the texts, unless there are more of them
-abbrev pub at_most : ℕ → List Text → Option (List Text)
-at_most most texts = if nat_le (length texts) most then Some texts else None
-
 -- at most so many texts without repeats, each at its first place
 unfoldable pub few : ℕ → List Text → Option (List Text)
 few most texts = at_most most (distinct texts)
-
--- the rule that a text spells, behind the text
-abbrev pub named_rule : Text → Option (Text × RuleKind)
-named_rule text = option_map (λ rule. (text, rule)) (rule_of text)
-
--- the rule of each text, where each spells one
-abbrev pub named_rules : List Text → Option (List (Text × RuleKind))
-named_rules [] = Some []
-named_rules (text ∷ texts) = option_and_then (λ rule. option_map (λ rules. rule ∷ rules) (named_rules texts)) (named_rule text)
 
 -- 1 to 32 rules, joined by `/`
 unfoldable pub rules_in : List Row → Option (List (Text × RuleKind))

@@ -24,7 +24,7 @@ IsRuleWithin (mpc horizon) = IsWithin 1 5 horizon
 
 -- how many traces and rules each command names
 abbrev pub AreCounted : Verb → ℕ → ℕ → Type 0
-AreCounted Simulate traces rules = (traces ≡ 1) × (rules ≡ 1)
+AreCounted Simulate traces rules = (traces ≡ 1) × IsWithin 1 8 rules
 AreCounted Compare traces rules = IsWithin 1 64 traces × IsWithin 1 32 rules
 AreCounted Plan traces rules = (traces ≡ 1) × (rules ≡ 0)
 AreCounted Check traces rules = (traces ≡ 1) × (rules ≡ 0)
@@ -48,9 +48,9 @@ abbrev pub IsBudget : Bool → ℕ → Type 0
 IsBudget true budget = IsWithin 1 1000000 budget
 IsBudget false budget = budget ≡ 0
 
--- what one command alone has: the budgets of `compare` and `plan`, the certificate of `check`, the number of `demo`
+-- what one command alone has: the one rule of one player, the budgets of `compare` and `plan`, the certificate of `check`, the number of `demo`
 abbrev pub HasItsOwn : Verb → CommandWords → Type 0
-HasItsOwn Simulate c = Unit {0}
+HasItsOwn Simulate c = c.players ≡ false → length c.rules ≡ 1
 HasItsOwn Compare c = IsBudget c.regret c.budget
 HasItsOwn Plan c = IsWithin 1 1000000 c.budget
 HasItsOwn Check c = IsSome c.certificate

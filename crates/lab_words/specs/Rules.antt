@@ -1,5 +1,5 @@
 -- How a rule is spelled on the command line.
-use Rattle.std.specs.Prelude.{◌==◌, Bool, Option, None, codes, if◌then◌else◌, length, nat_lt, option_map}
+use Rattle.std.specs.Prelude.{◌==◌, Bool, Option, Some, None, List, [], ◌∷◌, codes, if◌then◌else◌, length, nat_lt, option_and_then, option_map}
 use Rattle.std.specs.List.{before_first, after_first, position_or_len}
 use Rattle.std.specs.Str.{bytes_eq}
 use Rattle.lab_model.specs.Rules.{RuleKind, fixed, listed, throughput, bola, mpc}
@@ -24,6 +24,15 @@ has_colon text = nat_lt (position_or_len (λ b. b == 58) text) (length text)
 -- the rule that the text spells: its kind, a `:` and its numbers
 unfoldable pub rule_of : Text → Option RuleKind
 rule_of text = if has_colon text then rule_of_kind (before_first (λ b. b == 58) text) (after_first (λ b. b == 58) text) else None
+
+-- the rule that a text spells, behind the text
+abbrev pub named_rule : Text → Option (Text × RuleKind)
+named_rule text = option_map (λ rule. (text, rule)) (rule_of text)
+
+-- the rule of each text, where each spells one
+abbrev pub named_rules : List Text → Option (List (Text × RuleKind))
+named_rules [] = Some []
+named_rules (text ∷ texts) = option_and_then (λ rule. option_map (λ rules. rule ∷ rules) (named_rules texts)) (named_rule text)
 
 -- the kind of a rule, without where its numbers lie in memory
 abbrev pub spoken : RuleWords → RuleKind

@@ -6,6 +6,10 @@ use Rattle.lab_model.specs.OptionSteps.{◌>>=◌}
 pub use Rattle.lab_io.specs.Number.{is_number}
 pub use Rattle.lab_io.specs.Sink.{Text}
 
+-- the texts, unless there are more of them
+abbrev pub at_most : ℕ → List Text → Option (List Text)
+at_most most texts = if nat_le (length texts) most then Some texts else None
+
 -- n, where it is from `least` to `most`
 abbrev pub in_range : ℕ → ℕ → ℕ → Option ℕ
 in_range least most n = if nat_le least n && nat_le n most then Some n else None

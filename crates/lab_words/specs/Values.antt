@@ -1,11 +1,9 @@
--- The values of a command's options, by the rows of `clap`'s matches: optional or required, one of two, numbers, flags and rules; and options that exclude each other.
+-- The values of a command's options, by the rows of `clap`'s matches: optional or required, one of two, numbers and flags; and options that exclude each other.
 use Rattle.std.specs.Prelude.{◌≡◌, ℕ, ◌==◌, Bool, true, List, [], ◌∷◌, Option, Some, None, Result, Ok, Err, codes, count_by, is_some, nat_le, option_and_then, option_map, unwrap_or, if◌then◌else◌}
 use Rattle.std.specs.List.{list_any}
 use Rattle.std.specs.Str.{bytes_eq}
 use Rattle.clap.specs.Walk.{Row, all_of, first_of}
 use Rattle.lab_model.specs.OptionSteps.{◌>>=◌}
-use Rattle.lab_model.specs.Rules.{RuleKind}
-use Rattle.lab_words.specs.Rules.{rule_of}
 use Rattle.lab_words.specs.Spelling.{Text, number_of}
 use Rattle.lab_words.specs.declared.WordsErr.{WordsErr}
 use Rattle.lab_words.specs.declared.WordsErr.TheVariants as errors
@@ -105,10 +103,3 @@ number_unless barred default least most name rows = option_and_then (unless_barr
 -- what was read, where no two options of it exclude each other
 abbrev pub if_agreed : {X : Type 0} → (X → Bool) → X → Option X
 if_agreed agrees x = if agrees x then Some x else None
-
--- the rule, which has to be given, behind its word
-unfoldable pub rule_in : List Row → Option (Text × RuleKind)
-rule_in rows = do
-  text ← required (codes "rule") rows
-  rule ← rule_of text
-  Some (text, rule)

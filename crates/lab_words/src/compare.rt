@@ -1,15 +1,14 @@
 //! The words of `compare`.
 
-ghost use Rattle.std.specs.Prelude.{◌≡◌, ◌==◌, IfOk, map, string_bytes};
-ghost use Rattle.std.specs.List.{slice_split};
+ghost use Rattle.std.specs.Prelude.{◌≡◌, IfOk, map, string_bytes};
 ghost use Rattle.clap.specs.Words.{found_of, rows_of};
 ghost use Rattle.lab_words.specs.Command.{named, view};
-ghost use Rattle.lab_words.specs.Compare.{budget_in, compare_app, compare_in, distinct, few, named_rule, named_rules, rules_in, traces_in};
+ghost use Rattle.lab_words.specs.Compare.{budget_in, compare_app, compare_in, distinct, few, rules_in, traces_in};
 ghost use Rattle.lab_words.specs.Table.{accepted};
 ghost use Rattle.lab_words.specs.Values.{Gives};
 ghost use Rattle.lab_words.specs.Words.{asked_of};
 
-use crate::rules::rule_of;
+use crate::rules::{named_rules, pieces_of};
 use crate::settings::{SETTINGS, settings_in};
 use crate::table::{Kind, Word, table_matches};
 use crate::values::{
@@ -69,36 +68,6 @@ fn few<'a>(alloc: Global, texts: &[&'a str], most: usize) -> Result<IndexSet<&'a
         return Err(WordsErr::Usage);
     }
     Ok(set)
-}
-
-/// What stands between the slashes of a text.
-fn pieces_of<'a>(alloc: Global, text: &'a str) -> Result<Vec<&'a str>, AllocError>
-    ensures { IfOk result (λ pieces. map (λ piece. piece.now) pieces.items
-        ≡ slice_split (λ b. b == 47) text.entry.now) }
-{
-    text.split('/').collect(alloc)
-}
-
-/// The rule that a text spells, with the text as its name.
-fn named_rule(alloc: Global, text: &str) -> Result<NamedRule, WordsErr>
-    ensures { Gives named result (named_rule text.now) }
-{
-    Ok(NamedRule {
-        rule: rule_of(alloc, text)?,
-        name: text.to_string(alloc)?,
-    })
-}
-
-/// The rule of each text.
-fn named_rules(alloc: Global, texts: &[&str]) -> Result<Vec<NamedRule>, WordsErr>
-    ensures { Gives (λ rules. map named rules.items) result
-        (named_rules (map (λ text. text.now) texts.now)) }
-{
-    let mut rules = Vec::new(alloc);
-    for text in texts {
-        rules.push(named_rule(alloc, text)?)?;
-    }
-    Ok(rules)
 }
 
 /// The rules, joined by `/`.

@@ -73,6 +73,7 @@ pub struct Command {
     pub manifest: String,
     /// The traces' file names.
     pub traces: Vec<String>,
+    /// The rules to compare, or those of the players, in order.
     pub rules: Vec<NamedRule>,
     /// The buffer's room, from 1 to 10000000 ms.
     pub buffer_ms: u32,
@@ -107,6 +108,8 @@ pub struct Command {
     pub coarse_value: u32,
     /// Whether the certificate is one of a coarse plan, with its bound.
     pub gap: bool,
+    /// Whether the rules are those of 1 to 8 players on one link.
+    pub players: bool,
     /// Whether each rule's regret is asked for.
     pub regret: bool,
 }
@@ -137,6 +140,7 @@ impl Command {
             coarse_time: 0,
             coarse_value: 0,
             gap: false,
+            players: false,
             regret: false,
         }
     }

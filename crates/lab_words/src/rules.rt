@@ -1,11 +1,14 @@
 //! Rules as they are spelled on the command line.
 
-ghost use Rattle.lab_words.specs.Rules.{rule_of, rule_of_kind, spoken};
+ghost use Rattle.std.specs.Prelude.{◌≡◌, ◌==◌, IfOk, map};
+ghost use Rattle.std.specs.List.{slice_split};
+ghost use Rattle.lab_words.specs.Command.{named};
+ghost use Rattle.lab_words.specs.Rules.{named_rule, named_rules, rule_of, rule_of_kind, spoken};
 ghost use Rattle.lab_words.specs.Values.{Gives};
 
 use crate::numbers::{number_of, small_number_of, small_numbers_of};
-use crate::{RuleWords, WordsErr};
-use std::alloc::Global;
+use crate::{NamedRule, RuleWords, WordsErr};
+use std::alloc::{AllocError, Global};
 
 /// The rule of this kind with these numbers.
 fn rule_of_kind(alloc: Global, kind: &str, numbers: &str) -> Result<RuleWords, WordsErr>
@@ -33,11 +36,41 @@ fn rule_of_kind(alloc: Global, kind: &str, numbers: &str) -> Result<RuleWords, W
 
 /// The rule that the text spells: its kind, a `:` and its numbers.
 #[tactic(auto, unfolding(crate::specs::Rules::rule_of))]
-pub(crate) fn rule_of(alloc: Global, text: &str) -> Result<RuleWords, WordsErr>
+fn rule_of(alloc: Global, text: &str) -> Result<RuleWords, WordsErr>
     ensures { Gives spoken result (rule_of text.now) }
 {
     match text.split_once(':') {
         Some((kind, numbers)) => rule_of_kind(alloc, kind, numbers),
         None => Err(WordsErr::Usage),
     }
+}
+
+/// What stands between the slashes of a text.
+pub(crate) fn pieces_of<'a>(alloc: Global, text: &'a str) -> Result<Vec<&'a str>, AllocError>
+    ensures { IfOk result (λ pieces. map (λ piece. piece.now) pieces.items
+        ≡ slice_split (λ b. b == 47) text.entry.now) }
+{
+    text.split('/').collect(alloc)
+}
+
+/// The rule that a text spells, with the text as its name.
+pub(crate) fn named_rule(alloc: Global, text: &str) -> Result<NamedRule, WordsErr>
+    ensures { Gives named result (named_rule text.now) }
+{
+    Ok(NamedRule {
+        rule: rule_of(alloc, text)?,
+        name: text.to_string(alloc)?,
+    })
+}
+
+/// The rule of each text.
+pub(crate) fn named_rules(alloc: Global, texts: &[&str]) -> Result<Vec<NamedRule>, WordsErr>
+    ensures { Gives (λ rules. map named rules.items) result
+        (named_rules (map (λ text. text.now) texts.now)) }
+{
+    let mut rules = Vec::new(alloc);
+    for text in texts {
+        rules.push(named_rule(alloc, text)?)?;
+    }
+    Ok(rules)
 }

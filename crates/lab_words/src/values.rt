@@ -3,12 +3,10 @@
 ghost use Rattle.std.specs.Prelude.{◌≡◌, map, option_map, string_bytes};
 ghost use Rattle.std.specs.List.{list_any};
 ghost use Rattle.clap.specs.Words.{all_of, first_of, found_of, rows_of};
-ghost use Rattle.lab_words.specs.Command.{named};
-ghost use Rattle.lab_words.specs.Values.{Gives, at_most_one, either_view, is_given, is_stray, number_in, number_unless, one_of, optional, optional_number, required, rule_in, several, some_plain};
+ghost use Rattle.lab_words.specs.Values.{Gives, at_most_one, either_view, is_given, is_stray, number_in, number_unless, one_of, optional, optional_number, required, several, some_plain};
 
+use crate::WordsErr;
 use crate::numbers::number_of;
-use crate::rules::rule_of;
-use crate::{NamedRule, WordsErr};
 use clap::ArgMatches;
 use std::alloc::Global;
 
@@ -219,16 +217,4 @@ pub(crate) fn number_unless(
         return Err(WordsErr::Usage);
     }
     Ok(given.unwrap_or(default))
-}
-
-/// The rule and its word.
-#[tactic(auto, unfolding(crate::specs::Values::rule_in))]
-pub(crate) fn rule_in(alloc: Global, matches: &ArgMatches<'_>) -> Result<NamedRule, WordsErr>
-    ensures { Gives named result (rule_in (rows_of (found_of matches.now))) }
-{
-    let text = required(matches, "rule")?;
-    Ok(NamedRule {
-        name: text.to_string(alloc)?,
-        rule: rule_of(alloc, text)?,
-    })
 }

@@ -118,7 +118,7 @@ const REGRET: [(&str, &str); 9] = [
     ),
     (
         "compare t --manifest m --rules fixed:1 --utilities 0 --regret",
-        "gap: false, regret: true",
+        "gap: false, players: false, regret: true",
     ),
     (
         "compare --manifest m --rules fixed:1 --utilities 0 --budget 7 t",
@@ -138,6 +138,46 @@ const REGRET: [(&str, &str); 9] = [
     ),
     (
         "simulate --manifest m --trace t --rule fixed:1 --utilities 0 --regret",
+        "Usage",
+    ),
+];
+
+/// Players on one link.
+const PLAYERS: [(&str, &str); 9] = [
+    (
+        "simulate --manifest m --trace t --utilities 0 --players mpc:1/mpc:1",
+        "rules: [NamedRule { name: \"mpc:1\", rule: Mpc { horizon: 1 } }, NamedRule { name: \"mpc:1\",",
+    ),
+    (
+        "simulate --manifest m --trace t --utilities 0 --players=bola:5",
+        "players: true",
+    ),
+    (
+        "simulate --manifest m --trace t --utilities 0 --players mpc:1/mpc:1/mpc:1/mpc:1/mpc:1/mpc:1/mpc:1/mpc:2",
+        "Mpc { horizon: 2 } }], buffer_ms",
+    ),
+    (
+        "simulate --manifest m --trace t --utilities 0 --players mpc:1/mpc:1/mpc:1/mpc:1/mpc:1/mpc:1/mpc:1/mpc:1/mpc:1",
+        "Usage",
+    ),
+    (
+        "simulate --manifest m --trace t --utilities 0 --players mpc:1/",
+        "Usage",
+    ),
+    (
+        "simulate --manifest m --trace t --utilities 0 --players mpc:1 --rule mpc:1",
+        "Usage",
+    ),
+    (
+        "simulate --manifest m --trace t --utilities 0 --players mpc:1 --abandon",
+        "Usage",
+    ),
+    (
+        "simulate --manifest m --trace t --utilities 0 --players mpc:1 --seeks s",
+        "Usage",
+    ),
+    (
+        "simulate --manifest m --trace t --utilities 0 --players mpc:1 --live 5",
         "Usage",
     ),
 ];
@@ -164,5 +204,6 @@ fn options(rt: HostRuntime) -> Result<(), Fail> {
     shows(&rt, rt.alloc(), &UTILITIES)?;
     shows(&rt, rt.alloc(), &LIVE)?;
     shows(&rt, rt.alloc(), &COARSE)?;
-    shows(&rt, rt.alloc(), &REGRET)
+    shows(&rt, rt.alloc(), &REGRET)?;
+    shows(&rt, rt.alloc(), &PLAYERS)
 }

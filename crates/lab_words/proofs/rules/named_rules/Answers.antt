@@ -2,7 +2,7 @@ use Rattle.std.proofs.Common.{◌∙◌, ◌∷◌, [], map, ap}
 use Rattle.std.proofs.lemmas.List.{map-append}
 use Rattle.lab_words.specs.Command.{named}
 use Rattle.lab_words.proofs.RuleLemmas.{rules_more}
-use Rattle.lab_words.proofs.compare.named_rules.Goals as goal
+use Rattle.lab_words.proofs.rules.named_rules.Goals as goal
 
 pub loop-text-preserved : goal.loop-text-preserved
 loop-text-preserved c =
