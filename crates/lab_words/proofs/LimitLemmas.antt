@@ -26,7 +26,7 @@ use Rattle.lab_words.specs.Simulate.{players_by, players_in, several_players, si
 use Rattle.lab_words.specs.Table.{accepted}
 use Rattle.lab_model.specs.OptionSteps.{◌>>=◌}
 use Rattle.lab_model.proofs.OptionSteps.{then_some}
-use Rattle.lab_words.specs.Values.{Either, first, second, Gives, if_agreed, is_given, one_of, is_stray, several, some_plain, number_in, number_if, number_unless, unless_barred, optional, optional_number, required}
+use Rattle.lab_words.specs.Values.{Either, first, second, Gives, if_agreed, is_given, one_of, is_stray, several, some_plain, number_in, number_if, number_unless, unless_barred, optional, optional_number, required_text}
 use Rattle.lab_words.specs.Words.{asked_of, command_of, has_dashes, verb_of}
 use Rattle.lab_words.specs.declared.Command.{Command}
 use Rattle.lab_words.specs.declared.Verb.{Verb}
@@ -345,8 +345,8 @@ players_within rows p h =
 simulate_within : (rows : List Row) (c : CommandWords) → simulate_in rows ≡ Some c → IsWithinLimits c
 unfolding simulate_in
 simulate_within rows c h =
-    let manifest = then_some (required (codes "manifest") rows) _ c h in
-    let trace = then_some (required (codes "trace") rows) _ c manifest.2 in
+    let manifest = then_some (required_text (codes "manifest") rows) _ c h in
+    let trace = then_some (required_text (codes "trace") rows) _ c manifest.2 in
     let players = then_some (players_in rows) _ c trace.2 in
     let settings = then_some (settings_in rows) _ c players.2 in
     let seeks = then_some (optional (codes "seeks") rows) _ c settings.2 in
@@ -404,7 +404,7 @@ AreRulesWithin rules = IsWithin 1 32 (length rules) × All (λ r. IsRuleWithin r
 rules_within : (rows : List Row) (rules : List (Text × RuleKind)) → rules_in rows ≡ Some rules → AreRulesWithin rules
 unfolding rules_in
 rules_within rows rules h =
-    let text = then_some (required (codes "rules") rows) _ rules h in
+    let text = then_some (required_text (codes "rules") rows) _ rules h in
     let names = then_some (few 32 (slice_split (λ b. b == 47) text.0)) _ rules text.2 in
     let each = named_within_all names.0 rules names.2 in
     let count = few_within 32 (slice_split (λ b. b == 47) text.0) names.0 (omega (arith, length-slice_split (λ b. b == 47) text.0)) names.1 in
@@ -427,7 +427,7 @@ traces_within rows traces h =
 compare_within : (rows : List Row) (c : CommandWords) → compare_in rows ≡ Some c → IsWithinLimits c
 unfolding compare_in
 compare_within rows c h =
-    let manifest = then_some (required (codes "manifest") rows) _ c h in
+    let manifest = then_some (required_text (codes "manifest") rows) _ c h in
     let rules = then_some (rules_in rows) _ c manifest.2 in
     let settings = then_some (settings_in rows) _ c rules.2 in
     let seeks = then_some (optional (codes "seeks") rows) _ c settings.2 in
@@ -463,8 +463,8 @@ no_rules = λ k d lt. absurd (omega arith)
 plan_within : (rows : List Row) (c : CommandWords) → plan_in rows ≡ Some c → IsWithinLimits c
 unfolding plan_in
 plan_within rows c h =
-    let manifest = then_some (required (codes "manifest") rows) _ c h in
-    let trace = then_some (required (codes "trace") rows) _ c manifest.2 in
+    let manifest = then_some (required_text (codes "manifest") rows) _ c h in
+    let trace = then_some (required_text (codes "trace") rows) _ c manifest.2 in
     let settings = then_some (settings_in rows) _ c trace.2 in
     let budget = then_some (number_in 200000 1 1000000 (codes "budget") rows) _ c settings.2 in
     let live = then_some (optional_number 0 120000000 (codes "live") rows) _ c budget.2 in
@@ -495,10 +495,10 @@ plan_within rows c h =
 check_within : (rows : List Row) (c : CommandWords) → check_in rows ≡ Some c → IsWithinLimits c
 unfolding check_in
 check_within rows c h =
-    let manifest = then_some (required (codes "manifest") rows) _ c h in
-    let trace = then_some (required (codes "trace") rows) _ c manifest.2 in
+    let manifest = then_some (required_text (codes "manifest") rows) _ c h in
+    let trace = then_some (required_text (codes "trace") rows) _ c manifest.2 in
     let settings = then_some (settings_in rows) _ c trace.2 in
-    let certificate = then_some (required (codes "certificate") rows) _ c settings.2 in
+    let certificate = then_some (required_text (codes "certificate") rows) _ c settings.2 in
     let live = then_some (optional_number 0 120000000 (codes "live") rows) _ c certificate.2 in
     let within = settings_within rows settings.0 settings.1 in
     let made : CommandWords = record (with_settings settings.0 (blank verb.Check)) {
@@ -524,7 +524,7 @@ check_within rows c h =
 demo_within : (rows : List Row) (c : CommandWords) → demo_in rows ≡ Some c → IsWithinLimits c
 unfolding demo_in
 demo_within rows c h =
-    let text = then_some (required (codes "number") rows) _ c h in
+    let text = then_some (required_text (codes "number") rows) _ c h in
     let number = then_some (number_of 0 2147483647 text.0) _ c text.2 in
     let made : CommandWords = record (blank verb.Demo) { number = number.0 } in
     let same : made ≡ c = cc (number.2) in

@@ -7,7 +7,7 @@ use Rattle.lab_words.specs.Settings.{settings_in, settings_words, with_settings}
 use Rattle.lab_words.specs.Spelling.{Text}
 use Rattle.lab_words.specs.Table.{table_app}
 use Rattle.lab_model.specs.OptionSteps.{◌>>=◌}
-use Rattle.lab_words.specs.Values.{at_most_one, if_agreed, is_given, optional_number, required}
+use Rattle.lab_words.specs.Values.{at_most_one, if_agreed, is_given, optional_number, required_text}
 use Rattle.lab_words.specs.declared.Verb.TheVariants as verb
 use Rattle.lab_words.specs.declared.table.Kind.{Kind}
 use Rattle.lab_words.specs.declared.table.Kind.TheVariants as kind
@@ -32,10 +32,10 @@ check_agrees c = at_most_one (is_some c.live ∷ c.gap ∷ [])
 -- what `check` is asked for, by the values of its options
 unfoldable pub check_in : List Row → Option CommandWords
 check_in rows = do
-  manifest ← required (codes "manifest") rows
-  trace ← required (codes "trace") rows
+  manifest ← required_text (codes "manifest") rows
+  trace ← required_text (codes "trace") rows
   settings ← settings_in rows
-  certificate ← required (codes "certificate") rows
+  certificate ← required_text (codes "certificate") rows
   live ← optional_number 0 120000000 (codes "live") rows
   if_agreed check_agrees (record (with_settings settings (blank verb.Check)) {
     manifest = manifest;

@@ -12,7 +12,7 @@ use Rattle.lab_words.specs.Settings.{settings_in, settings_words, with_settings}
 use Rattle.lab_words.specs.Spelling.{Text, at_most}
 use Rattle.lab_words.specs.Table.{table_app}
 use Rattle.lab_model.specs.OptionSteps.{◌>>=◌}
-use Rattle.lab_words.specs.Values.{at_most_one, if_agreed, is_given, number_unless, optional, required, several}
+use Rattle.lab_words.specs.Values.{at_most_one, if_agreed, is_given, number_unless, optional, required_text, several}
 use Rattle.lab_words.specs.declared.Verb.TheVariants as verb
 use Rattle.lab_words.specs.declared.table.Kind.{Kind}
 use Rattle.lab_words.specs.declared.table.Kind.TheVariants as kind
@@ -43,7 +43,7 @@ few most texts = at_most most (distinct texts)
 -- 1 to 32 rules, joined by `/`
 unfoldable pub rules_in : List Row → Option (List (Text × RuleKind))
 rules_in rows = do
-  text ← required (codes "rules") rows
+  text ← required_text (codes "rules") rows
   names ← few 32 (slice_split (λ b. b == 47) text)
   named_rules names
 
@@ -62,7 +62,7 @@ compare_agrees c = at_most_one (c.regret ∷ (c.abandon || is_some c.seeks) ∷ 
 -- what `compare` is asked for, by the values of its options
 unfoldable pub compare_in : List Row → Option CommandWords
 compare_in rows = do
-  manifest ← required (codes "manifest") rows
+  manifest ← required_text (codes "manifest") rows
   rules ← rules_in rows
   settings ← settings_in rows
   seeks ← optional (codes "seeks") rows

@@ -6,7 +6,7 @@ use Rattle.lab_words.specs.Command.{CommandWords, blank}
 use Rattle.lab_words.specs.Spelling.{Text, number_of}
 use Rattle.lab_words.specs.Table.{table_app}
 use Rattle.lab_model.specs.OptionSteps.{◌>>=◌}
-use Rattle.lab_words.specs.Values.{required}
+use Rattle.lab_words.specs.Values.{required_text}
 use Rattle.lab_words.specs.declared.Verb.TheVariants as verb
 use Rattle.lab_words.specs.declared.table.Kind.{Kind}
 use Rattle.lab_words.specs.declared.table.Kind.TheVariants as kind
@@ -22,6 +22,6 @@ demo_app = table_app (codes "demo") demo_words []
 -- what `demo` is asked for, by its word
 unfoldable pub demo_in : List Row → Option CommandWords
 demo_in rows = do
-  text ← required (codes "number") rows
+  text ← required_text (codes "number") rows
   number ← number_of 0 2147483647 text
   Some (record (blank verb.Demo) { number = number })

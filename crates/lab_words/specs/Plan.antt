@@ -7,7 +7,7 @@ use Rattle.lab_words.specs.Settings.{settings_in, settings_words, with_settings}
 use Rattle.lab_words.specs.Spelling.{Text, grid_of}
 use Rattle.lab_words.specs.Table.{table_app}
 use Rattle.lab_model.specs.OptionSteps.{◌>>=◌}
-use Rattle.lab_words.specs.Values.{at_most_one, if_agreed, is_given, number_in, optional, optional_number, required}
+use Rattle.lab_words.specs.Values.{at_most_one, if_agreed, is_given, number_in, optional, optional_number, required_text}
 use Rattle.lab_words.specs.declared.Verb.TheVariants as verb
 use Rattle.lab_words.specs.declared.table.Kind.{Kind}
 use Rattle.lab_words.specs.declared.table.Kind.TheVariants as kind
@@ -44,8 +44,8 @@ plan_agrees c = at_most_one (is_some c.live ∷ nat_lt 0 c.coarse_time ∷ [])
 -- what `plan` is asked for, by the values of its options
 unfoldable pub plan_in : List Row → Option CommandWords
 plan_in rows = do
-  manifest ← required (codes "manifest") rows
-  trace ← required (codes "trace") rows
+  manifest ← required_text (codes "manifest") rows
+  trace ← required_text (codes "trace") rows
   settings ← settings_in rows
   budget ← number_in 200000 1 1000000 (codes "budget") rows
   live ← optional_number 0 120000000 (codes "live") rows

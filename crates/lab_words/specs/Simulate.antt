@@ -10,7 +10,7 @@ use Rattle.lab_words.specs.Settings.{settings_in, settings_words, with_settings}
 use Rattle.lab_words.specs.Spelling.{Text, at_most}
 use Rattle.lab_words.specs.Table.{table_app}
 use Rattle.lab_model.specs.OptionSteps.{◌>>=◌}
-use Rattle.lab_words.specs.Values.{Either, first, second, at_most_one, if_agreed, is_given, one_of, optional, optional_number, required}
+use Rattle.lab_words.specs.Values.{Either, first, second, at_most_one, if_agreed, is_given, one_of, optional, optional_number, required_text}
 use Rattle.lab_words.specs.declared.Verb.TheVariants as verb
 use Rattle.lab_words.specs.declared.table.Kind.{Kind}
 use Rattle.lab_words.specs.declared.table.Kind.TheVariants as kind
@@ -54,8 +54,8 @@ simulate_agrees c = at_most_one (is_some c.live ∷ c.players ∷ (c.abandon || 
 -- what `simulate` is asked for, by the values of its options
 unfoldable pub simulate_in : List Row → Option CommandWords
 simulate_in rows = do
-  manifest ← required (codes "manifest") rows
-  trace ← required (codes "trace") rows
+  manifest ← required_text (codes "manifest") rows
+  trace ← required_text (codes "trace") rows
   players ← players_in rows
   settings ← settings_in rows
   seeks ← optional (codes "seeks") rows

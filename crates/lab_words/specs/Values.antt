@@ -1,4 +1,4 @@
--- The values of a command's options, by the rows of `clap`'s matches: optional or required, one of two, numbers and flags; and options that exclude each other.
+-- The values of a command's options, by the rows of `clap`'s matches: optional or required_text, one of two, numbers and flags; and options that exclude each other.
 use Rattle.std.specs.Prelude.{◌≡◌, ℕ, ◌==◌, Bool, true, List, [], ◌∷◌, Option, Some, None, Result, Ok, Err, codes, count_by, is_some, nat_le, option_and_then, option_map, unwrap_or, if◌then◌else◌}
 use Rattle.std.specs.List.{list_any}
 use Rattle.std.specs.Str.{bytes_eq}
@@ -40,8 +40,8 @@ unfoldable pub optional : Text → List Row → Option (Option Text)
 optional name rows = checked (first_of name rows)
 
 -- the value of an option that has to be given
-unfoldable pub required : Text → List Row → Option Text
-required name rows = option_and_then (λ given. given) (optional name rows)
+unfoldable pub required_text : Text → List Row → Option Text
+required_text name rows = option_and_then (λ given. given) (optional name rows)
 
 -- the value of one of two options
 pub data Either : Type 0 where

@@ -12,7 +12,7 @@ use crate::rules::{named_rules, pieces_of};
 use crate::settings::{SETTINGS, settings_in};
 use crate::table::{Kind, Word, table_matches};
 use crate::values::{
-    at_most_one, file_name, is_given, number_unless, optional_file_name, required, several,
+    at_most_one, file_name, is_given, number_unless, optional_file_name, required_text, several,
 };
 use crate::{Command, NamedRule, Verb, WordsErr};
 use clap::ArgMatches;
@@ -76,7 +76,7 @@ fn rules_in(alloc: Global, matches: &ArgMatches<'_>) -> Result<Vec<NamedRule>, W
     ensures { Gives (λ rules. map named rules.items) result
         (rules_in (rows_of (found_of matches.now))) }
 {
-    let pieces = pieces_of(alloc, required(matches, "rules")?)?;
+    let pieces = pieces_of(alloc, required_text(matches, "rules")?)?;
     let names = few(alloc, &pieces, MOST_RULES)?;
     named_rules(alloc, names.as_slice())
 }

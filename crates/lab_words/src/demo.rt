@@ -10,7 +10,7 @@ ghost use Rattle.lab_words.specs.Words.{asked_of};
 
 use crate::numbers::number_of;
 use crate::table::{Kind, Word, table_matches};
-use crate::values::required;
+use crate::values::required_text;
 use crate::{Command, Verb, WordsErr};
 use clap::ArgMatches;
 use std::alloc::Global;
@@ -34,7 +34,7 @@ fn demo_matches<'a>(alloc: Global, words: &'a [String]) -> Result<ArgMatches<'a>
 fn demo_in(alloc: Global, matches: &ArgMatches<'_>) -> Result<Command, WordsErr>
     ensures { Gives view result (demo_in (rows_of (found_of matches.now))) }
 {
-    let text = required(matches, "number")?;
+    let text = required_text(matches, "number")?;
     let number = number_of(text, 0, 2_147_483_647).ok_or(WordsErr::Usage)?;
     Ok(Command {
         number,

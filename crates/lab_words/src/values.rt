@@ -3,7 +3,7 @@
 ghost use Rattle.std.specs.Prelude.{◌≡◌, map, option_map, string_bytes};
 ghost use Rattle.std.specs.List.{list_any};
 ghost use Rattle.clap.specs.Words.{all_of, first_of, found_of, rows_of};
-ghost use Rattle.lab_words.specs.Values.{Gives, at_most_one, either_view, is_given, is_stray, number_in, number_unless, one_of, optional, optional_number, required, several, some_plain};
+ghost use Rattle.lab_words.specs.Values.{Gives, at_most_one, either_view, is_given, is_stray, number_in, number_unless, one_of, optional, optional_number, required_text, several, some_plain};
 
 use crate::WordsErr;
 use crate::numbers::number_of;
@@ -43,9 +43,9 @@ pub(crate) fn optional<'a>(
 }
 
 /// The value of an option that has to be given.
-#[tactic(auto, unfolding(crate::specs::Values::required))]
-pub(crate) fn required<'a>(matches: &ArgMatches<'a>, name: &str) -> Result<&'a str, WordsErr>
-    ensures { Gives (λ text. text.now) result (required name.now (rows_of (found_of matches.now))) }
+#[tactic(auto, unfolding(crate::specs::Values::required_text))]
+pub(crate) fn required_text<'a>(matches: &ArgMatches<'a>, name: &str) -> Result<&'a str, WordsErr>
+    ensures { Gives (λ text. text.now) result (required_text name.now (rows_of (found_of matches.now))) }
 {
     optional(matches, name)?.ok_or(WordsErr::Usage)
 }
@@ -80,9 +80,9 @@ pub(crate) fn file_name(
     matches: &ArgMatches<'_>,
     name: &str,
 ) -> Result<String, WordsErr>
-    ensures { Gives string_bytes result (required name.now (rows_of (found_of matches.now))) }
+    ensures { Gives string_bytes result (required_text name.now (rows_of (found_of matches.now))) }
 {
-    Ok(required(matches, name)?.to_string(alloc)?)
+    Ok(required_text(matches, name)?.to_string(alloc)?)
 }
 
 /// A file name, if it is given.
