@@ -1,13 +1,14 @@
 -- What is asked of `plan` is within its limits.
 use Rattle.std.proofs.Common.{◌≡◌, ◌==◌, ◌⊎◌, ℕ, false, Option, None, IfSome, inl, inr, refl, subst, arith}
 use Rattle.std.proofs.lemmas.Bool.Decides.{nat_tests}
+use Rattle.lab_model.specs.Film.{IsWithin}
 use Rattle.lab_words.specs.declared.Verb.TheVariants.{Plan}
 use Rattle.lab_words.specs.Command.{CommandWords}
 use Rattle.lab_words.specs.Limits.{HasItsOwn, IsWithinLimits}
 use Rattle.lab_words.specs.Limits as words
 use Rattle.labels.specs.declared.label.Grid.{Grid}
 use Rattle.labels.specs.Grid.{IsGrid}
-use Rattle.abrlab_top.specs.Plan.{AreOptions, grid_in, options_of}
+use Rattle.abrlab_top.specs.Plan.{grid_in}
 
 -- without steps there is no grid
 pub no_grid : (time value : ℕ) → time ≡ 0 → grid_in time value ≡ None
@@ -24,6 +25,6 @@ grid_fits c limits = by_grid c.coarse_time c.coarse_value limits.grid
         let other : (time == 0) ≡ false = grind (arith, nat_tests, low) in
         rw other (record { time = some.0; value = some.1 })
 
--- all that is asked for
-pub options_fit : (c : CommandWords) → IsWithinLimits c → c.verb ≡ Plan → AreOptions (options_of c)
-options_fit c limits v = record { grid = grid_fits c limits; budget = subst (λ w. HasItsOwn w c) v limits.own }
+-- the budget of a plan
+pub budget_fits : (c : CommandWords) → IsWithinLimits c → c.verb ≡ Plan → IsWithin 1 1000000 c.budget
+budget_fits c limits v = subst (λ w. HasItsOwn w c) v limits.own

@@ -39,14 +39,13 @@ use Rattle.certificate_check.specs.Verdict.{verdict_of}
 use Rattle.certificate_check.proofs.Verdicts.{yes_valid}
 use Rattle.abrlab_top.specs.declared.ending.Ending.{Ending}
 use Rattle.abrlab_top.specs.declared.ending.Ending.TheVariants as ending
-use Rattle.abrlab_top.specs.declared.plan.PlanOptions.{PlanOptions}
 use Rattle.abrlab_top.specs.Ahead.{ahead_of}
 use Rattle.abrlab_top.specs.Answer.{Answer, Outcome, printed, unless_stopped}
 use Rattle.abrlab_top.specs.Check.{check, check_on, claim_in, told_verdict, verdict_ending, verdict_text}
 use Rattle.abrlab_top.specs.Claim.{claim_of}
 use Rattle.abrlab_top.specs.Ending.{status_of}
 use Rattle.abrlab_top.specs.Outcome.{about, answer_by, answer_of, named_files, outcome, outcome_by}
-use Rattle.abrlab_top.specs.Plan.{bound_on, certificate_on, chains_on, grid_in, labels_on, options_of, plan, plan_on, plan_text, planned_on, spent_on, task_on, unless_spent}
+use Rattle.abrlab_top.specs.Plan.{PlanAsked, bound_on, certificate_on, chains_on, grid_in, labels_on, options_of, plan, plan_on, plan_text, planned_on, spent_on, task_on, unless_spent}
 use Rattle.abrlab_top.specs.Proves.{Headline, IsBest, IsPlain, IsSession, IsYes, PlansTheBest, Proves, SaysYesSoundly, Simulates}
 use Rattle.abrlab_top.specs.Runs.{Runs, World}
 use Rattle.abrlab_top.specs.Simulate.{case_on, session_on, simulate, simulate_on}
@@ -179,12 +178,12 @@ is_task c files i n limits film r one = record {
 
 -- ---- plan
 
-unspent : (o : PlanOptions) (g : Task) (spent : Option ℕ) (a : Answer) → unless_spent o g spent ≡ Ok a → (spent ≡ None) × (printed (plan_text o g) ≡ a)
+unspent : (o : PlanAsked) (g : Task) (spent : Option ℕ) (a : Answer) → unless_spent o g spent ≡ Ok a → (spent ≡ None) × (printed (plan_text o g) ≡ a)
 unspent o g None a e = (refl, ok_same _ (printed (plan_text o g)) a refl e)
 unspent o g (Some segment) a e = cc
 
 -- what `plan` went through to its answer
-pub planned_ok : (o : PlanOptions) (i : InputValues) (n : Text × List Period) (a : Answer) → i.networks ≡ n ∷ [] → plan o i ≡ Ok a
+pub planned_ok : (o : PlanAsked) (i : InputValues) (n : Text × List Period) (a : Answer) → i.networks ≡ n ∷ [] → plan o i ≡ Ok a
     → (settled i ≡ Ok i) × (spent_on o.grid (task_on i n.1) o.budget ≡ None) × (printed (plan_text o (task_on i n.1)) ≡ a)
 unfolding plan
 planned_ok o i n a e k =
@@ -202,7 +201,7 @@ few_labels c grid g limits v is unspent =
     omega (arith, own, few)
 
 -- the plan of a task is the best, or no list is above its bound
-best_is : (o : PlanOptions) (g : Task) → IfSome o.grid IsGrid → IsTask g → labels_in g (chains_on o.grid g) ≤ 1000000
+best_is : (o : PlanAsked) (g : Task) → IfSome o.grid IsGrid → IsTask g → labels_in g (chains_on o.grid g) ≤ 1000000
     → (p : IsBest g o.grid o.as_certificate (plan_text o g)) × (is_some o.grid ≡ false → p.bound ≡ p.best.score)
 best_is o g fits is few =
     let form = has_text o.grid g fits is few in

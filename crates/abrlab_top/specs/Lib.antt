@@ -8,6 +8,7 @@ pub mod Compare
 pub mod Plan
 pub mod Check
 pub mod Demo
+pub mod Request
 pub mod Stages
 pub mod Outcome
 pub mod Runs

@@ -10,6 +10,7 @@ mod ending;
 mod laws;
 mod memory;
 mod plan;
+mod request;
 mod row;
 mod rule;
 mod simulate;

@@ -1,0 +1,149 @@
+//! What a command line asks for, by its command.
+
+ghost use Rattle.std.specs.Prelude.{◌≡◌, IfSome, IsSome};
+ghost use Rattle.lab_model.specs.Film.{IsWithin};
+ghost use Rattle.lab_words.specs.Command.{view};
+ghost use Rattle.lab_words.specs.Limits.{IsWithinLimits};
+ghost use Rattle.labels.specs.Grid.{IsGrid};
+ghost use Rattle.abrlab_top.specs.Plan.{grid_in};
+ghost use Rattle.abrlab_top.specs.Request.{IsRequest};
+
+use frontier_planner::Grid;
+use lab_inputs::FilmWords;
+use lab_words::{Command, Verb};
+use std::marker::Model;
+
+/// What is asked of `plan`.
+#[derive(Clone, Copy)]
+pub(crate) struct PlanOptions {
+    grid: Option<Grid>,
+    budget: u32,
+    as_certificate: bool,
+}
+
+impl Model for PlanOptions {
+    ghost use Rattle.std.specs.Prelude.{IfSome};
+    ghost use Rattle.lab_model.specs.Film.{IsWithin};
+    ghost use Rattle.labels.specs.Grid.{IsGrid};
+    ghost use Rattle.abrlab_top.specs.Plan.{PlanAsked};
+
+    ghost Value = { PlanAsked };
+
+    ghost view = { λ o.
+        record { grid = o.grid; budget = o.budget; as_certificate = o.as_certificate } };
+
+    ghost invariant = { λ o. IfSome o.grid IsGrid × IsWithin 1 1000000 o.budget };
+}
+
+impl PlanOptions {
+    /// The grid of a coarse plan, none where nothing is rounded.
+    pub fn grid(&self) -> Option<Grid>
+        ensures value { result ≡ self.now.grid }
+        ensures within { IfSome result IsGrid }
+    {
+        self.grid
+    }
+
+    /// The most labels, 1 to 1000000.
+    pub fn budget(&self) -> u32
+        ensures value { result ≡ self.now.budget }
+        ensures within { IsWithin 1 1000000 result }
+    {
+        self.budget
+    }
+
+    /// Whether the certificate is to be written.
+    pub fn as_certificate(&self) -> bool
+        ensures { result ≡ self.now.as_certificate }
+    {
+        self.as_certificate
+    }
+}
+
+/// What `check` is asked for: a certificate is among its files.
+#[derive(Drop)]
+pub(crate) struct CheckWords {
+    words: FilmWords,
+    gap: bool,
+}
+
+impl Model for CheckWords {
+    ghost use Rattle.std.specs.Prelude.{◌≡◌, IsSome};
+    ghost use Rattle.lab_words.specs.Command.{CommandWords};
+
+    ghost Value = { CommandWords };
+
+    ghost view = { λ w. w.words };
+
+    ghost invariant = { λ w. IsSome w.words.certificate × (w.gap ≡ w.words.gap) };
+}
+
+impl CheckWords {
+    /// Whether the certificate is one of a coarse plan, with its bound.
+    pub fn gap(&self) -> bool
+        ensures { result ≡ self.now.gap }
+    {
+        self.gap
+    }
+
+    /// The words, for the files.
+    pub fn into_film_words(self) -> FilmWords
+        ensures value { result ≡ self }
+        ensures certificate { IsSome self.certificate }
+    {
+        self.words
+    }
+}
+
+/// What a command line asks for.
+#[derive(Drop)]
+pub(crate) enum Request {
+    /// The session of a rule.
+    Simulate(FilmWords),
+    /// Rules side by side.
+    Compare(FilmWords),
+    /// The best rung list, or on a grid one with a bound.
+    Plan(FilmWords, PlanOptions),
+    /// The verdict on a certificate.
+    Check(CheckWords),
+    /// Everything on the made case of this number.
+    Demo(u32),
+}
+
+/// The grid with these steps, none where there are none.
+fn grid_in(time: u32, value: u32) -> Option<Grid>
+    ensures { result ≡ grid_in time value }
+{
+    if time == 0 {
+        None
+    } else {
+        Some(Grid { time, value })
+    }
+}
+
+impl Request {
+    /// What a command asks for.
+    pub fn of(command: Command) -> Request
+        requires { IsWithinLimits (view command) }
+        ensures { IsRequest (view command) result }
+    {
+        match command.verb {
+            Verb::Simulate => Request::Simulate(FilmWords::of(command)),
+            Verb::Compare => Request::Compare(FilmWords::of(command)),
+            Verb::Plan => {
+                let options = PlanOptions {
+                    grid: grid_in(command.coarse_time, command.coarse_value),
+                    budget: command.budget,
+                    as_certificate: command.as_certificate,
+                };
+                Request::Plan(FilmWords::of(command), options)
+            }
+            Verb::Check => {
+                let gap = command.gap;
+                let words = FilmWords::of(command);
+                Request::Check(CheckWords { words, gap })
+            }
+            Verb::Demo => Request::Demo(command.number),
+        }
+    }
+}
