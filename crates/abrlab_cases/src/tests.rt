@@ -14,6 +14,7 @@ mod files;
 mod made;
 mod plan;
 mod reach;
+mod regret;
 mod rules;
 mod simulate;
 mod tables;

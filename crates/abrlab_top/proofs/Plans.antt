@@ -104,7 +104,7 @@ planned_whole o i n film g c e h same f of =
     rw f (record { bound = own.short; inner = own.form }, one_planned o i n e h ∙ said o (task_on i n.1) c own)
 
 -- the chains spend the budget
-planned_spent : (o : PlanAsked) (i : InputValues) (n : Text × List Period) (g : Task) (s : ℕ) → slice_get i.networks 0 ≡ Some n → settled i ≡ Ok i → g ≡ task_on i n.1 → SpentAt g (chains_on o.grid g) o.budget s → plan o i ≡ Err (ending.Spent s)
+planned_spent : (o : PlanAsked) (i : InputValues) (n : Text × List Period) (g : Task) (s : ℕ) → slice_get i.networks 0 ≡ Some n → settled i ≡ Ok i → g ≡ task_on i n.1 → SpentAt g (chains_on o.grid g) o.budget s → plan o i ≡ Err (ending.Spent None s)
 planned_spent o i n g s e h same at =
     one_planned o i n e h ∙ ap (unless_spent o (task_on i n.1)) (spent_at o.grid (task_on i n.1) o.budget s (subst (λ t. SpentAt t (chains_on o.grid t) o.budget s) same at))
 

@@ -114,7 +114,8 @@ one_of (x ∷ y ∷ xs) e = absurd (omega arith)
 pub counts_of : (c : CommandWords) (v : Verb) → IsWithinLimits c → c.verb ≡ v → AreCounted v (length c.traces) (length c.rules)
 counts_of c v limits e = subst (λ w. AreCounted w (length c.traces) (length c.rules)) e limits.counts
 
-ready_by : (c : CommandWords) (files : Files) (i : InputValues) → inputs_of c files ≡ Ok i → settled i ≡ Ok i → ready_of c files ≡ Ok i
+-- what is read and settled is ready
+pub ready_by : (c : CommandWords) (files : Files) (i : InputValues) → inputs_of c files ≡ Ok i → settled i ≡ Ok i → ready_of c files ≡ Ok i
 unfolding ready_of
 ready_by c files i e h = rw e h
 
@@ -165,16 +166,21 @@ ahead_fits : (o : Option ℕ) → IfSome o (λ ms. ms ≤ 120000000) → ahead_o
 ahead_fits None h = omega arith
 ahead_fits (Some ms) h = h
 
--- what is ready is a task for the planner
-pub is_task : (c : CommandWords) (files : Files) (i : InputValues) (n : Text × List Period) → IsWithinLimits c → HasFilm c.verb → IsReady c files i → i.networks ≡ n ∷ [] → IsTask (task_on i n.1)
-is_task c files i n limits film r one = record {
+-- what is ready is a task for the planner on each trace
+pub task_with : (c : CommandWords) (files : Files) (i : InputValues) (periods : List Period) → IsWithinLimits c → HasFilm c.verb → IsReady c files i → IsTrace periods → IsTask (task_on i periods)
+task_with c files i periods limits film r trace = record {
   film = subst IsFilm (sym (ap (λ (j : InputValues). j.film) r.inputs)) r.within.film;
-  trace = first_trace r.contents.networks n (sym (ap (λ (j : InputValues). j.networks) r.inputs) ∙ one) r.within.networks;
+  trace = trace;
   setup = r.fits.setup;
   weights = subst (λ (s : Setup). IsWeighing s.weights) (sym (ap (λ (j : InputValues). j.setup) r.inputs))
       (weights_are c.table c.utilities r.contents.table (rungs_of r.contents.film) c.switch c.stall c.startup (limits.weights film) r.within.table);
   ahead = subst (λ o. ahead_of o ≤ 120000000) (sym (ap (λ (j : InputValues). j.live) r.inputs)) (ahead_fits c.live limits.live);
 }
+
+-- what is ready is a task for the planner
+pub is_task : (c : CommandWords) (files : Files) (i : InputValues) (n : Text × List Period) → IsWithinLimits c → HasFilm c.verb → IsReady c files i → i.networks ≡ n ∷ [] → IsTask (task_on i n.1)
+is_task c files i n limits film r one =
+    task_with c files i n.1 limits film r (first_trace r.contents.networks n (sym (ap (λ (j : InputValues). j.networks) r.inputs) ∙ one) r.within.networks)
 
 -- ---- plan
 

@@ -2,6 +2,7 @@ pub mod Ending
 pub mod Ahead
 pub mod Claim
 pub mod Answer
+pub mod Regret
 pub mod Rows
 pub mod Simulate
 pub mod Compare

@@ -114,7 +114,7 @@ plan_text o g = parts_text o.grid o.as_certificate (certificate_on o.grid g) (bo
 -- the plan of a task, unless its chains spend the budget
 abbrev pub unless_spent : PlanAsked → Task → Option ℕ → Outcome
 unless_spent o g None = Ok (printed (plan_text o g))
-unless_spent o g (Some segment) = Err (ending.Spent segment)
+unless_spent o g (Some segment) = Err (ending.Spent None segment)
 
 -- the plan of a task
 abbrev pub planned_on : PlanAsked → Task → Outcome

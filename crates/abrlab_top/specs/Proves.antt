@@ -1,6 +1,7 @@
 -- What the text of each command proves, at the task that words and files give, and THE HEADLINE, which this is for command lines without
 -- an option of further reach.
-use Rattle.std.specs.Prelude.{◌≡◌, ◌≤◌, ℕ, ℤ, Bool, false, List, [], ◌∷◌, length, Option, Some, None, Ok, is_some}
+use Rattle.std.specs.Prelude.{◌≡◌, ◌≤◌, ◌≤ℤ◌, ℕ, ℤ, pos, Bool, true, false, List, [], ◌∷◌, length, Option, Some, None, Ok, is_some}
+use Rattle.std.specs.List.{All}
 use Rattle.lab_io.specs.Sink.{Text, Grew}
 use Rattle.lab_model.specs.declared.trace.Period.{Period}
 use Rattle.lab_model.specs.Rules.{RuleKind}
@@ -22,10 +23,12 @@ use Rattle.labels.specs.Parts.{CertificateParts}
 use Rattle.labels.specs.Valid.{IsValid}
 use Rattle.labels.specs.declared.verdict.Verdict.TheVariants.{Yes}
 use Rattle.certificate_text.specs.Form.{GapParts, IsGapCertificate}
+use Rattle.session_report.specs.Regret.{total_of}
 use Rattle.session_report.specs.Session.{session_text}
 use Rattle.abrlab_top.specs.Check.{verdict_text}
 use Rattle.abrlab_top.specs.Claim.{claim_of, claim_text}
 use Rattle.abrlab_top.specs.Plan.{grid_in, parts_text, task_on}
+use Rattle.abrlab_top.specs.Regret.{best_on, regret_text, score_on, scores_over}
 use Rattle.abrlab_top.specs.Runs.{World}
 use Rattle.abrlab_top.specs.Simulate.{case_on}
 
@@ -89,6 +92,34 @@ PlansTheBest =
 abbrev pub SaysYesSoundly : List Text → World → ℕ → World → Type 0
 SaysYesSoundly = WhereDone verb.Check (λ c i periods text. (p : IsYes (task_on i periods) c.gap i.certificate text) × (c.gap ≡ false → p.claim.bound ≡ p.claim.inner.score))
 
+-- ---- regrets
+
+-- the list has this value, and no rung list has a greater one
+abbrev pub IsGreatest : Task → ℤ → Type 0
+IsGreatest g best = (rungs : List ℕ) × Settles g rungs best best
+
+-- no session of a rule scores more than the best, on these networks; nor is a sum of its regrets below 0, or the worst of them
+pub record IsBehind (i : InputValues) (rule : RuleKind) : Type 0 where
+  pub scores : All (λ n. score_on i n.1 rule ≤ℤ best_on i n.1) i.networks
+  pub regret : pos 0 ≤ℤ (total_of (scores_over i i.networks rule)).regret
+  pub worst : pos 0 ≤ℤ (total_of (scores_over i i.networks rule)).worst
+
+-- the files of the command were read and its settings fit. `out` has grown by exactly the text of regrets: each score is that of the
+-- session of the rule with an empty history, each best is the greatest value of all rung lists on its network, the sums and the worst
+-- are theirs; and no regret is negative
+pub record ProvesRegrets (c : CommandWords) (files : Files) (old new : World) : Type 0 where
+  pub inputs : InputValues
+  pub read : ready_of c files ≡ Ok inputs
+  pub bests : All (λ n. IsGreatest (task_on inputs n.1) (best_on inputs n.1)) inputs.networks
+  pub behind : All (λ rule. IsBehind inputs rule.1) inputs.rules
+  pub out : Grew old.out.written (regret_text inputs) new.out.written
+  pub err : new.err ≡ old.err
+
+-- of `compare --regret`: where the run answers 0, over told files it proves this
+abbrev pub TellsRegrets : List Text → World → ℕ → World → Type 0
+TellsRegrets line old result new =
+    (c : CommandWords) (files : Files) → command_of line ≡ Some c → c.verb ≡ verb.Compare → c.regret ≡ true → Tells old.shelf files → result ≡ 0 → ProvesRegrets c files old new
+
 -- ---- THE HEADLINE
 
 -- a command line without an option of further reach
@@ -114,3 +145,4 @@ pub record Headline (line : List Text) (old : World) (result : ℕ) (new : World
   pub simulates : WherePlain verb.Simulate (λ c i periods text. (rule : Text × RuleKind) × (i.rules ≡ rule ∷ []) × IsSession (case_of i.film periods i.setup i.seeks all_ahead rule.1) text) line old result new
   pub plans : WherePlain verb.Plan (λ c i periods text. (p : IsBest (on_demand i periods) None c.as_certificate text) × (p.bound ≡ p.best.score)) line old result new
   pub checks : WherePlain verb.Check (λ c i periods text. (p : IsYes (on_demand i periods) false i.certificate text) × (p.claim.bound ≡ p.claim.inner.score)) line old result new
+SaysYesSoundly = WhereDone verb.Check (λ c i periods text. (p : IsYes (task_on i periods) i.certificate text) × (p.bound ≡ p.certificate.score))

@@ -143,7 +143,7 @@ fn put_answer<O: Sink>(
 }
 
 /// The plan where so much media is ahead.
-fn plan_on(
+pub(crate) fn plan_on(
     alloc: Global,
     m: &Manifest,
     clock: &Clock,

@@ -4,6 +4,7 @@ use super::check::CHECK;
 use super::compare::{LINKS, PAIR, PAIR_TEXT};
 use super::demo::ONE_TEXT;
 use super::files::{C2000, FILM, STEADY as STEADY_FILES};
+use super::regret::{TABLE, TABLE_TEXT};
 use super::simulate::{SOUGHT, SOUGHT_TEXT, STEADY, STEADY_TEXT};
 use super::{Answer, Faults, File, run_words};
 use std::alloc::{AllocError, Global};
@@ -53,7 +54,7 @@ struct Fragile {
 }
 
 #[rattlefmt::skip]
-static FRAGILE: [Fragile; 4] = [
+static FRAGILE: [Fragile; 5] = [
     Fragile {
         words: STEADY,
         files: &STEADY_FILES,
@@ -77,6 +78,14 @@ static FRAGILE: [Fragile; 4] = [
         text: PAIR_TEXT,
         fetches: &["abrlab: manifest file: not read\n", "abrlab: trace 1 file: not read\n", "abrlab: trace 2 file: not read\n"],
         puts: 7,
+    },
+    Fragile {
+        words: TABLE,
+        files: &LINKS,
+        status: 0,
+        text: TABLE_TEXT,
+        fetches: &["abrlab: manifest file: not read\n", "abrlab: trace 1 file: not read\n", "abrlab: trace 2 file: not read\n"],
+        puts: 9,
     },
     Fragile {
         words: CHECK,

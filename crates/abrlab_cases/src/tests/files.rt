@@ -13,6 +13,9 @@ pub(super) const C500: &str = r#"[{"duration_ms": 60000, "bandwidth_kbps": 500, 
 
 pub(super) const C200: &str = r#"[{"duration_ms": 60000, "bandwidth_kbps": 200, "latency_ms": 0}]"#;
 
+// The three links.
+pub(super) const KINDS: [&str; 3] = [C2000, C500, C200];
+
 // The least film, and a link that carries a bit in a millisecond.
 pub(super) const TINY: &str =
     r#"{"segment_duration_ms": 1, "bitrates_kbps": [1], "segment_sizes_bits": [[1]]}"#;

@@ -1,0 +1,26 @@
+use Rattle.lab_inputs.specs.Stages.{network_of}
+use Rattle.abrlab_top.proofs.Networks.{rules_within}
+use Rattle.abrlab_top.proofs.Regrets.{network_scored, rules_ask, unspent_failed, unspent_wanting}
+use Rattle.abrlab_top.proofs.regret.score_network.Goals as goal
+
+pub returns-in_err-clock : goal.returns-in_err-clock
+returns-in_err-clock c = unspent_wanting _ _ c.from_residual.result c.from_residual.ensures.1
+
+pub returns-in_err-best : goal.returns-in_err-best
+returns-in_err-best c =
+    unspent_failed _ _ _ c.best_score.result c.from_residual-in_err-best.result _ c.in_err-best.was c.from_residual-in_err-best.ensures.1 (rw c.in_ok-clock.ensures.clock at c.best_score.ensures.best)
+
+pub score_rules-requires-clause-within : goal.score_rules-requires-clause-within
+score_rules-requires-clause-within c = rules_within c.args.inputs.now c.rules.result.now c.rules.ensures.value c.rules.ensures.within
+
+pub score_rules-requires-clause-fits : goal.score_rules-requires-clause-fits
+score_rules-requires-clause-fits c = rules_ask c.args.inputs.now c.rules.result.now c.rules.ensures.value c.requires.fits
+
+pub returns-in_err-scores : goal.returns-in_err-scores
+returns-in_err-scores c = unspent_wanting _ _ c.from_residual-in_err-scores.result c.from_residual-in_err-scores.ensures.1
+
+pub returns : goal.returns
+returns c =
+    let best = c.in_ok-best.ensures.best in
+    let all = network_scored c.args.inputs.now (network_of c.args.network.now) c.in_ok-clock.clock c.rules.result.now _ c.in_ok-clock.ensures.clock c.best_score.ensures.task c.requires.fits c.requires.calm c.rules.ensures.value best.1 c.in_ok-scores.ensures in
+    (rw c.in_ok-clock.ensures.clock at best.0, all)
