@@ -96,7 +96,6 @@ impl CheckWords {
 }
 
 /// What a command line asks for.
-#[derive(Drop)]
 pub(crate) enum Request {
     /// The session of a rule.
     Simulate(FilmWords),
