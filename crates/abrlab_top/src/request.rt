@@ -1,6 +1,6 @@
 //! What a command line asks for, by its command.
 
-ghost use Rattle.std.specs.Prelude.{◌≡◌, IfSome, IsSome};
+ghost use Rattle.std.specs.Prelude.{◌≡◌, IfSome, IsSome, false, length};
 ghost use Rattle.lab_model.specs.Film.{IsWithin};
 ghost use Rattle.lab_words.specs.Command.{view};
 ghost use Rattle.lab_words.specs.Limits.{IsWithinLimits};
@@ -60,6 +60,35 @@ impl PlanOptions {
     }
 }
 
+/// What `simulate` is asked for with several players: 1 to 8 rules, and nobody gives a download up.
+#[derive(Drop)]
+pub(crate) struct PlayersWords {
+    words: FilmWords,
+}
+
+impl Model for PlayersWords {
+    ghost use Rattle.std.specs.Prelude.{◌≡◌, false, length};
+    ghost use Rattle.lab_model.specs.Film.{IsWithin};
+    ghost use Rattle.lab_words.specs.Command.{CommandWords};
+
+    ghost Value = { CommandWords };
+
+    ghost view = { λ w. w.words };
+
+    ghost invariant = { λ w. IsWithin 1 8 (length w.words.rules) × (w.words.abandon ≡ false) };
+}
+
+impl PlayersWords {
+    /// The words, for the files.
+    pub fn into_film_words(self) -> FilmWords
+        ensures value { result ≡ self }
+        ensures players { IsWithin 1 8 (length self.rules) }
+        ensures keeps { self.abandon ≡ false }
+    {
+        self.words
+    }
+}
+
 /// What `check` is asked for: a certificate is among its files.
 #[derive(Drop)]
 pub(crate) struct CheckWords {
@@ -100,6 +129,8 @@ impl CheckWords {
 pub(crate) enum Request {
     /// The session of a rule.
     Simulate(FilmWords),
+    /// The joint session of several players.
+    Players(PlayersWords),
     /// Rules side by side.
     Compare(FilmWords),
     /// The best rung list, or on a grid one with a bound.
@@ -128,6 +159,9 @@ impl Request {
         ensures { IsRequest (view command) result }
     {
         match command.verb {
+            Verb::Simulate if command.players => Request::Players(PlayersWords {
+                words: FilmWords::of(command),
+            }),
             Verb::Simulate => Request::Simulate(FilmWords::of(command)),
             Verb::Compare => Request::Compare(FilmWords::of(command)),
             Verb::Plan => {
