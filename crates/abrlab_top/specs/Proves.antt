@@ -145,4 +145,3 @@ pub record Headline (line : List Text) (old : World) (result : ℕ) (new : World
   pub simulates : WherePlain verb.Simulate (λ c i periods text. (rule : Text × RuleKind) × (i.rules ≡ rule ∷ []) × IsSession (case_of i.film periods i.setup i.seeks all_ahead rule.1) text) line old result new
   pub plans : WherePlain verb.Plan (λ c i periods text. (p : IsBest (on_demand i periods) None c.as_certificate text) × (p.bound ≡ p.best.score)) line old result new
   pub checks : WherePlain verb.Check (λ c i periods text. (p : IsYes (on_demand i periods) false i.certificate text) × (p.claim.bound ≡ p.claim.inner.score)) line old result new
-SaysYesSoundly = WhereDone verb.Check (λ c i periods text. (p : IsYes (task_on i periods) i.certificate text) × (p.bound ≡ p.certificate.score))

@@ -1,6 +1,7 @@
 use Rattle.std.proofs.Common.{map, string_bytes}
 use Rattle.abrlab_top.specs.Runs.{Runs, world}
 use Rattle.abrlab_top.proofs.Proved.{headline, plans_the_best, says_yes_soundly, simulates}
+use Rattle.abrlab_top.proofs.Regretted.{tells_regrets}
 use Rattle.abrlab_top.proofs.run.Goals as goal
 
 pub returns-clause-runs : goal.returns-clause-runs
@@ -34,6 +35,7 @@ returns-clause-headline g c =
     let runs : Runs line old e new = record { words = c.run_command-ending.ensures.words; ends = c.run_command-ending.ensures.ends; err = c.tell.ensures } in
     headline line old new c.status.result (simulates line old new e c.status.result runs c.status.ensures) (plans_the_best line old new e c.status.result runs c.status.ensures)
     (says_yes_soundly line old new e c.status.result runs c.status.ensures)
+
 pub returns-clause-regrets : goal.returns-clause-regrets
 returns-clause-regrets g c =
     tells_regrets (map string_bytes c.args.words.now) (world (g.F.Shelf.shelved c.args.shelf.now) (g.O.Sink.seen c.args.out.now) (g.E.Sink.seen c.args.err.now))
