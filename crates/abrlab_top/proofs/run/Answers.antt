@@ -2,6 +2,7 @@ use Rattle.std.proofs.Common.{map, string_bytes}
 use Rattle.abrlab_top.specs.Runs.{Runs, world}
 use Rattle.abrlab_top.proofs.Proved.{headline, plans_the_best, says_yes_soundly, simulates}
 use Rattle.abrlab_top.proofs.Together.{plays_jointly}
+use Rattle.abrlab_top.proofs.Regretted.{tells_regrets}
 use Rattle.abrlab_top.proofs.run.Goals as goal
 
 pub returns-clause-runs : goal.returns-clause-runs
