@@ -12,10 +12,12 @@ use Rattle.lab_words.specs.declared.Verb.TheVariants as verb
 use Rattle.lab_words.specs.Command.{CommandWords}
 use Rattle.lab_words.specs.Limits.{HasFilm, IsWithinLimits, agrees}
 use Rattle.lab_words.specs.Values.{at_most_one}
-use Rattle.lab_inputs.specs.Files.{◌>>=◌, Files}
+use Rattle.lab_model.specs.Steps.{◌>>=◌}
+use Rattle.lab_model.proofs.Steps.{then_ok}
+use Rattle.lab_inputs.specs.Files.{Files}
 use Rattle.lab_inputs.specs.Inputs.{InputValues, inputs_of}
 use Rattle.lab_inputs.specs.Settings.{settled}
-use Rattle.lab_inputs.proofs.Steps.{bind_ok, ok_same}
+use Rattle.lab_inputs.proofs.Steps.{ok_same}
 use Rattle.lab_inputs.proofs.Within.{IsReady, is_ready}
 use Rattle.player_core.specs.Scene.{IsTask}
 use Rattle.session_report.specs.Regret.{AreScores}
@@ -30,17 +32,8 @@ use Rattle.abrlab_top.specs.Proves.{IsBehind, TellsRegrets}
 use Rattle.abrlab_top.specs.Regret.{first_spent, regret, regret_text, scores_on, scores_over, unless_any_spent}
 use Rattle.abrlab_top.specs.Runs.{Runs, World}
 use Rattle.abrlab_top.proofs.Behind.{are_scores, behind_best, best_settles}
+use Rattle.abrlab_top.proofs.Options.{calm_words}
 use Rattle.abrlab_top.proofs.Proved.{about_ok, by_verb, done_by, ready_by, settled_ok, task_with}
-
-calm : (abandon seeks : Bool) → at_most_one (true ∷ (abandon || seeks) ∷ []) ≡ true → abandon ≡ false
-calm false seeks h = refl
-calm true seeks h = cc
-
--- words that ask for regrets ask for no abandonment
-pub calm_words : (c : CommandWords) → IsWithinLimits c → c.verb ≡ verb.Compare → c.regret ≡ true → c.abandon ≡ false
-calm_words c limits v r =
-    let agreed : agrees verb.Compare c ≡ true = subst (λ w. agrees w c ≡ true) v limits.agreed in
-    calm c.abandon (is_some c.seeks) (subst (λ b. at_most_one (b ∷ (c.abandon || is_some c.seeks) ∷ []) ≡ true) r agreed)
 
 any_unspent : (i : InputValues) (o : Option (ℕ × ℕ)) (a : Answer) → unless_any_spent i o ≡ Ok a → printed (regret_text i) ≡ a
 any_unspent i None a e = ok_same _ (printed (regret_text i)) a refl e
@@ -50,7 +43,7 @@ any_unspent i (Some spent) a e = cc
 regretted_ok : (budget : ℕ) (i : InputValues) (a : Answer) → regret budget i ≡ Ok a → (settled i ≡ Ok i) × (printed (regret_text i) ≡ a)
 unfolding regret
 regretted_ok budget i a h =
-    let x = bind_ok (unless_stopped (settled i)) (λ ready. unless_any_spent ready (first_spent ready budget 1 ready.networks)) a h in
+    let x = then_ok (unless_stopped (settled i)) (λ ready. unless_any_spent ready (first_spent ready budget 1 ready.networks)) a h in
     let s = settled_ok i x.0 x.1 in
     (s.0, any_unspent i (first_spent i budget 1 i.networks) a (subst (λ (j : InputValues). unless_any_spent j (first_spent j budget 1 j.networks) ≡ Ok a) (sym s.1) x.2))
 
@@ -82,7 +75,7 @@ tells_regrets line old new e r h k c files asked v regrets t s =
     record {
       inputs = i;
       read = ready_by c files i x.1 y.0;
-      bests = λ k n low. let best = best_settles (task_on i _) (tasks k n low) in ((certificate_on (task_on i _)).plan, best);
+      bests = λ k n low. let best = best_settles (task_on i _) (tasks k n low) in ((certificate_on None (task_on i _)).plan, best);
       behind = λ k rule low. rule_behind i _ tasks (ready.fits.rules k rule low) off;
       out = subst (λ (a : Answer). Grew old.out.written a.text new.out.written) (sym y.1) d.out;
       err = d.err;

@@ -1,6 +1,6 @@
 -- What `compare --regret` answers: on each network how far the session of each rule stays behind the best rung list, and then the
 -- totals of each rule.
-use Rattle.std.specs.Prelude.{◌≡◌, ◌≤◌, ℕ, ◌+◌, ℤ, pos, List, [], ◌∷◌, ◌++◌, length, map, slice_index_or, Option, Some, None, option_map, Result, Ok, Err, codes}
+use Rattle.std.specs.Prelude.{◌≡◌, ◌≤◌, ℕ, ◌+◌, ℤ, pos, false, List, [], ◌∷◌, ◌++◌, length, map, slice_index_or, Option, Some, None, option_map, Result, Ok, Err, codes}
 use Rattle.std.specs.List.{All, flat_map}
 use Rattle.std.specs.Option.{option_or}
 use Rattle.lab_io.specs.Piece.{fields_line}
@@ -9,7 +9,7 @@ use Rattle.lab_model.specs.declared.trace.Period.{Period}
 use Rattle.lab_model.specs.Rules.{RuleKind}
 use Rattle.lab_model.specs.Steps.{◌>>=◌}
 use Rattle.lab_inputs.specs.Inputs.{InputValues}
-use Rattle.lab_inputs.specs.Settings.{settled}
+use Rattle.lab_inputs.specs.Settings.{Fits, settled}
 use Rattle.player_core.specs.State.{Case, case_of}
 use Rattle.player_core.specs.Session.{session_of}
 use Rattle.session_report.specs.Regret.{AreScores, Scores, regret_line, total_line, total_of}
@@ -85,6 +85,16 @@ regret budget i = do
 
 -- ---- what the stages give
 
+-- rules can be ranked by these inputs: the settings fit, and no download is given up
+pub record CanRank (i : InputValues) : Type 0 where
+  pub fits : Fits i
+  pub calm : i.setup.abandon ≡ false
+
+-- what rules are ranked by: the inputs, and the most labels of each plan
+pub record RankingValue : Type 0 where
+  pub inputs : InputValues
+  pub budget : ℕ
+
 -- the best score on a network, and the score of each rule there
 abbrev pub scored_on : InputValues → Text × List Period → ℤ × List ℤ
 scored_on i network = (best_on i network.1, map (λ rule. score_on i network.1 rule.1) i.rules)
@@ -97,9 +107,9 @@ seen_scored s = (s.best, s.scores.items)
 abbrev pub AreRanked : Scored → Type 0
 AreRanked s = All (λ score. AreScores (score, s.best)) s.scores.items
 
--- what was played and planned on these networks, of which there are at most 64
-pub record AreScored (i : InputValues) (networks : List (Text × List Period)) (table : List Scored) : Type 0 where
-  pub values : map seen_scored table ≡ map (scored_on i) networks
+-- what was played and planned on each network, of which there are at most 64
+pub record AreScored (i : InputValues) (table : List Scored) : Type 0 where
+  pub values : map seen_scored table ≡ map (scored_on i) i.networks
   pub ranked : All AreRanked table
   pub few : length table ≤ 64
 
