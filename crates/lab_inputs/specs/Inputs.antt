@@ -8,7 +8,8 @@ use Rattle.lab_model.specs.Film.{Film, rungs_of}
 use Rattle.lab_model.specs.Rules.{RuleKind}
 use Rattle.lab_model.specs.Steps.{map_ok}
 use Rattle.lab_model.specs.Weighing.{Weighing, table_weighing, weighing}
-use Rattle.lab_words.specs.Command.{CommandWords}
+use Rattle.lab_words.specs.declared.Command.{Command}
+use Rattle.lab_words.specs.Command.{CommandWords, view}
 use Rattle.lab_inputs.specs.declared.stop.Stop.{Stop}
 use Rattle.lab_inputs.specs.Contents.{ContentValues}
 use Rattle.lab_inputs.specs.Files.{Files, contents_from}
@@ -55,3 +56,7 @@ pub record AreFor (c : CommandWords) (i : InputValues) : Type 0 where
   pub contents : ContentValues
   pub count : length contents.networks ≡ length c.traces
   pub is : i ≡ inputs_on c contents
+
+-- the words of a command, without where they lie in memory
+abbrev pub words_of : Command → CommandWords
+words_of = view

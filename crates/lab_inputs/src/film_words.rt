@@ -14,14 +14,16 @@ pub struct FilmWords {
 }
 
 impl Model for FilmWords {
-    ghost use Rattle.lab_words.specs.Command.{CommandWords, view};
+    ghost use Rattle.lab_words.specs.Command.{CommandWords};
     ghost use Rattle.lab_words.specs.Limits.{HasFilm, IsWithinLimits};
+    ghost use Rattle.lab_inputs.specs.Inputs.{words_of};
 
     ghost Value = { CommandWords };
 
-    ghost view = { λ w. view w.command };
+    ghost view = { λ w. words_of w.command };
 
-    ghost invariant = { λ w. IsWithinLimits (view w.command) × HasFilm (view w.command).verb };
+    ghost invariant = { λ w. IsWithinLimits (words_of w.command)
+        × HasFilm (words_of w.command).verb };
 }
 
 impl FilmWords {
