@@ -13,6 +13,7 @@ mod failures;
 mod files;
 mod made;
 mod plan;
+mod players;
 mod reach;
 mod regret;
 mod rules;

@@ -46,6 +46,7 @@ use Rattle.abrlab_top.specs.Claim.{claim_of}
 use Rattle.abrlab_top.specs.Ending.{status_of}
 use Rattle.abrlab_top.specs.Outcome.{about, answer_by, answer_of, named_files, outcome, outcome_by}
 use Rattle.abrlab_top.specs.Plan.{PlanAsked, bound_on, certificate_on, chains_on, grid_in, labels_on, options_of, plan, plan_on, plan_text, planned_on, spent_on, task_on, unless_spent}
+use Rattle.abrlab_top.specs.Players.{simulate_by}
 use Rattle.abrlab_top.specs.Proves.{Headline, IsBest, IsPlain, IsSession, IsYes, PlansTheBest, Proves, SaysYesSoundly, Simulates}
 use Rattle.abrlab_top.specs.Runs.{Runs, World}
 use Rattle.abrlab_top.specs.Simulate.{case_on, session_on, simulate, simulate_on}
@@ -134,15 +135,19 @@ simulated_ok i n rule a e h k =
     let s = settled_ok i x.0 x.1 in
     (s.0, ap (λ (j : InputValues). printed (session_on j n.1 rule.1)) s.1 ∙ ok_same _ _ a refl x.2)
 
--- what `simulate` proves
+-- what `simulate` answered, by whether it is about several players
+pub simulating : (several : Bool) (c : CommandWords) (files : Files) (a : Answer) → c.verb ≡ verb.Simulate → c.players ≡ several → answer_of c files ≡ Ok a → about (simulate_by several) c files ≡ Ok a
+simulating several c files a v players h = subst (λ b. about (simulate_by b) c files ≡ Ok a) players (by_verb verb.Simulate c files a v h)
+
+-- what `simulate` proves of one player
 pub simulates : (line : List Text) (old new : World) (e : Ending) (r : ℕ) → Runs line old e new → r ≡ status_of e → Simulates line old r new
-simulates line old new e r h k c files asked v t s =
+simulates line old new e r h k c files asked v one t s =
     let d = done_by line old new e h (sym k ∙ s) c files asked t in
-    let x = about_ok simulate c files d.answer (by_verb verb.Simulate c files d.answer v d.gives) in
+    let x = about_ok simulate c files d.answer (simulating false c files d.answer v one d.gives) in
     let counts = counts_of c verb.Simulate d.limits v in
     let held = inputs_counted c files x.0 x.1 in
     let network = one_of x.0.networks (held.0 ∙ counts.0) in
-    let rule = one_of x.0.rules (ap length held.1 ∙ counts.1) in
+    let rule = one_of x.0.rules (ap length held.1 ∙ subst (λ w. HasItsOwn w c) v d.limits.own one) in
     let y = simulated_ok x.0 network.0 rule.0 d.answer network.1 rule.1 x.2 in
     record {
       inputs = x.0;
@@ -158,7 +163,8 @@ simulates line old new e r h k c files asked v t s =
 
 -- ---- tasks
 
-first_trace : (networks : List (Text × List Period)) (n : Text × List Period) → networks ≡ n ∷ [] → All (λ (m : Text × List Period). IsTrace m.1) networks → IsTrace n.1
+-- the trace of the one network is within the limits
+pub first_trace : (networks : List (Text × List Period)) (n : Text × List Period) → networks ≡ n ∷ [] → All (λ (m : Text × List Period). IsTrace m.1) networks → IsTrace n.1
 first_trace networks n e h = let k : All (λ (m : Text × List Period). IsTrace m.1) (n ∷ []) = subst (All (λ (m : Text × List Period). IsTrace m.1)) e h in k 0 n (omega arith)
 
 -- media ahead within the limits of the words
@@ -322,7 +328,7 @@ plainly c files old new General Own none p from = record {
 pub headline : (line : List Text) (old new : World) (r : ℕ) → Simulates line old r new → PlansTheBest line old r new → SaysYesSoundly line old r new → Headline line old r new
 headline line old new r simulates plans checks = record {
   simulates = λ c files asked v plain t s.
-      plainly c files old new _ _ plain.on_demand (simulates c files asked v t s)
+      plainly c files old new _ _ plain.on_demand (simulates c files asked v plain.one_player t s)
       (λ i periods text none h. (h.0, h.1, subst (λ live. IsSession (case_of i.film periods i.setup i.seeks (ahead_of live) h.0.1) text) none h.2));
   plans = λ c files asked v plain t s.
       plainly c files old new _ _ plain.on_demand (plans c files asked v t s)

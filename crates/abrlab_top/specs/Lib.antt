@@ -5,6 +5,7 @@ pub mod Answer
 pub mod Regret
 pub mod Rows
 pub mod Simulate
+pub mod Players
 pub mod Compare
 pub mod Plan
 pub mod Check

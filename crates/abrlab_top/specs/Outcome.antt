@@ -16,8 +16,8 @@ use Rattle.abrlab_top.specs.Compare.{compare}
 use Rattle.abrlab_top.specs.Demo.{demo}
 use Rattle.abrlab_top.specs.Ending.{note_of, status_of}
 use Rattle.abrlab_top.specs.Plan.{options_of, plan}
+use Rattle.abrlab_top.specs.Players.{simulate_by}
 use Rattle.abrlab_top.specs.Regret.{regret}
-use Rattle.abrlab_top.specs.Simulate.{simulate}
 use Rattle.abrlab_top.specs.Stages.{Manner, at_the_end, of_a_check, refusing, row_by_row}
 
 -- ---- a command
@@ -35,7 +35,7 @@ comparison false budget = compare
 
 -- what each command comes to
 abbrev pub answer_by : Verb → CommandWords → Files → Outcome
-answer_by verb.Simulate c files = about simulate c files
+answer_by verb.Simulate c files = about (simulate_by c.players) c files
 answer_by verb.Compare c files = about (comparison c.regret c.budget) c files
 answer_by verb.Plan c files = about (plan (options_of c)) c files
 answer_by verb.Check c files = about (check c.gap) c files

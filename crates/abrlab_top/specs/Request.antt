@@ -8,7 +8,8 @@ use Rattle.abrlab_top.specs.Plan.{options_of}
 
 -- it is what these words ask for
 abbrev pub IsRequest : CommandWords → Request → Type 0
-IsRequest c (request.Simulate words) = (c.verb ≡ verb.Simulate) × (words ≡ c)
+IsRequest c (request.Simulate words) = (c.verb ≡ verb.Simulate) × (c.players ≡ false) × (words ≡ c)
+IsRequest c (request.Players words) = (c.verb ≡ verb.Simulate) × (c.players ≡ true) × (words ≡ c)
 IsRequest c (request.Compare words) = (c.verb ≡ verb.Compare) × (c.regret ≡ false) × (words ≡ c)
 IsRequest c (request.Regret words) = (c.verb ≡ verb.Compare) × (c.regret ≡ true) × (words ≡ c)
 IsRequest c (request.Plan words options) = (c.verb ≡ verb.Plan) × (words ≡ c) × (options ≡ options_of c)

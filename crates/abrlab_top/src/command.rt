@@ -14,6 +14,7 @@ use crate::compare::compare;
 use crate::demo::demo;
 use crate::ending::Ending;
 use crate::plan::plan;
+use crate::players::players;
 use crate::regret::regret;
 use crate::request::Request;
 use crate::simulate::simulate;
@@ -35,6 +36,7 @@ fn answer_command<F: Shelf, O: Sink>(
 {
     match Request::of(command) {
         Request::Simulate(words) => simulate(alloc, words, shelf, out),
+        Request::Players(words) => players(alloc, words, shelf, out),
         Request::Compare(words) => compare(alloc, words, shelf, out),
         Request::Regret(words) => regret(alloc, words, shelf, out),
         Request::Plan(words, options) => plan(alloc, words, options, shelf, out),

@@ -10,6 +10,7 @@ mod ending;
 mod laws;
 mod memory;
 mod plan;
+mod players;
 mod regret;
 mod request;
 mod row;
@@ -19,7 +20,7 @@ mod simulate;
 ghost use Rattle.std.specs.Prelude.{◌≡◌, map, string_bytes};
 ghost use Rattle.abrlab_top.specs.declared.ending.Ending.{Ending};
 ghost use Rattle.abrlab_top.specs.Ending.{status_of};
-ghost use Rattle.abrlab_top.specs.Proves.{Headline, PlansTheBest, SaysYesSoundly, Simulates, TellsRegrets};
+ghost use Rattle.abrlab_top.specs.Proves.{Headline, PlansTheBest, PlaysJointly, SaysYesSoundly, Simulates, TellsRegrets};
 ghost use Rattle.abrlab_top.specs.Runs.{Runs, world};
 
 use crate::command::run_command;
@@ -55,6 +56,10 @@ pub fn run<F: Shelf, O: Sink, E: Sink>(
         e (world (F.shelved shelf.new) (O.seen out.new) (E.seen err.new)) }
     // What its text proves where it answers 0, at the task that words and files give.
     ensures simulates { Simulates (map string_bytes words.now)
+        (world (F.shelved shelf.old) (O.seen out.old) (E.seen err.old))
+        result
+        (world (F.shelved shelf.new) (O.seen out.new) (E.seen err.new)) }
+    ensures plays_jointly { PlaysJointly (map string_bytes words.now)
         (world (F.shelved shelf.old) (O.seen out.old) (E.seen err.old))
         result
         (world (F.shelved shelf.new) (O.seen out.new) (E.seen err.new)) }

@@ -1,6 +1,6 @@
 //! What a command line asks for, by its command.
 
-ghost use Rattle.std.specs.Prelude.{◌≡◌, IfSome, IsSome, None, false};
+ghost use Rattle.std.specs.Prelude.{◌≡◌, IfSome, IsSome, None, false, length};
 ghost use Rattle.lab_model.specs.Film.{IsWithin};
 ghost use Rattle.lab_words.specs.Command.{view};
 ghost use Rattle.lab_words.specs.Limits.{IsWithinLimits};
@@ -72,6 +72,35 @@ impl PlanOptions {
         ensures { result ≡ self.now.as_certificate }
     {
         self.as_certificate
+    }
+}
+
+/// What `simulate` is asked for with several players: 1 to 8 rules, and nobody gives a download up.
+#[derive(Drop)]
+pub(crate) struct PlayersWords {
+    words: FilmWords,
+}
+
+impl Model for PlayersWords {
+    ghost use Rattle.std.specs.Prelude.{◌≡◌, false, length};
+    ghost use Rattle.lab_model.specs.Film.{IsWithin};
+    ghost use Rattle.lab_words.specs.Command.{CommandWords};
+
+    ghost Value = { CommandWords };
+
+    ghost view = { λ w. w.words };
+
+    ghost invariant = { λ w. IsWithin 1 8 (length w.words.rules) × (w.words.abandon ≡ false) };
+}
+
+impl PlayersWords {
+    /// The words, for the files.
+    pub fn into_film_words(self) -> FilmWords
+        ensures value { result ≡ self }
+        ensures players { IsWithin 1 8 (length self.rules) }
+        ensures keeps { self.abandon ≡ false }
+    {
+        self.words
     }
 }
 
@@ -150,10 +179,11 @@ impl CheckWords {
 }
 
 /// What a command line asks for.
-#[derive(Drop)]
 pub(crate) enum Request {
     /// The session of a rule.
     Simulate(FilmWords),
+    /// The joint session of several players.
+    Players(PlayersWords),
     /// Rules side by side.
     Compare(FilmWords),
     /// Rules by how far they stay behind the best.
@@ -184,7 +214,14 @@ impl Request {
         ensures { IsRequest (view command) result }
     {
         match command.verb {
-            Verb::Simulate => Request::Simulate(FilmWords::of(command)),
+            Verb::Simulate => {
+                if command.players {
+                    let words = FilmWords::of(command);
+                    Request::Players(PlayersWords { words })
+                } else {
+                    Request::Simulate(FilmWords::of(command))
+                }
+            }
             Verb::Compare => {
                 if command.regret {
                     let budget = command.budget;

@@ -4,6 +4,7 @@ use super::check::CHECK;
 use super::compare::{LINKS, PAIR, PAIR_TEXT};
 use super::demo::ONE_TEXT;
 use super::files::{C2000, FILM, STEADY as STEADY_FILES};
+use super::players::{EQUAL, EQUAL_TEXT};
 use super::regret::{TABLE, TABLE_TEXT};
 use super::simulate::{SOUGHT, SOUGHT_TEXT, STEADY, STEADY_TEXT};
 use super::{Answer, Faults, File, run_words};
@@ -54,7 +55,7 @@ struct Fragile {
 }
 
 #[rattlefmt::skip]
-static FRAGILE: [Fragile; 5] = [
+static FRAGILE: [Fragile; 6] = [
     Fragile {
         words: STEADY,
         files: &STEADY_FILES,
@@ -70,6 +71,14 @@ static FRAGILE: [Fragile; 5] = [
         text: SOUGHT_TEXT,
         fetches: &["abrlab: manifest file: not read\n", "abrlab: trace file: not read\n", "abrlab: seeks file: not read\n"],
         puts: 15,
+    },
+    Fragile {
+        words: EQUAL,
+        files: &STEADY_FILES,
+        status: 0,
+        text: EQUAL_TEXT,
+        fetches: &["abrlab: manifest file: not read\n", "abrlab: trace file: not read\n"],
+        puts: 41,
     },
     Fragile {
         words: PAIR,

@@ -36,6 +36,10 @@ pub(super) const FALLING: &str =
 pub(super) const UNEVEN: &str =
     r#"[{"duration_ms": 1300, "bandwidth_kbps": 2600, "latency_ms": 75}, {"duration_ms": 700, "bandwidth_kbps": 0, "latency_ms": 10}, {"duration_ms": 2100, "bandwidth_kbps": 900, "latency_ms": 333}]"#;
 
+// A quick one with latency and dead periods.
+pub(super) const QUICK: &str =
+    r#"[{"duration_ms": 1300, "bandwidth_kbps": 24000, "latency_ms": 75}, {"duration_ms": 700, "bandwidth_kbps": 0, "latency_ms": 10}, {"duration_ms": 2100, "bandwidth_kbps": 14500, "latency_ms": 33}]"#;
+
 // The film on a link of 2000, of 500 and of 200 kbps.
 pub(super) const STEADY: [File; 2] = [("m", FILM), ("t", C2000)];
 

@@ -7,18 +7,25 @@ use Rattle.abrlab_top.specs.Compare.{compare}
 use Rattle.abrlab_top.specs.Demo.{demo_text}
 use Rattle.abrlab_top.specs.Outcome.{about}
 use Rattle.abrlab_top.specs.Plan.{plan}
+use Rattle.abrlab_top.specs.Players.{play_jointly}
 use Rattle.abrlab_top.specs.Regret.{regret}
 use Rattle.abrlab_top.specs.Request.{IsRequest}
 use Rattle.abrlab_top.specs.Runs.{Ends}
 use Rattle.abrlab_top.specs.Simulate.{simulate}
 use Rattle.abrlab_top.specs.Stages.{at_the_end, of_a_check, row_by_row}
+use Rattle.abrlab_top.proofs.Jointly.{simulate_ends}
 use Rattle.abrlab_top.proofs.Whole.{alone_ends, compare_ends, ends_by}
 use Rattle.abrlab_top.proofs.command.answer_command.Goals as goal
 
 pub returns-in-Simulate : goal.returns-in-Simulate
 returns-in-Simulate g c =
     let is = subst (IsRequest (view c.args.command)) c.in-Simulate.is c.of.ensures in
-    ends_by verb.Simulate (view c.args.command) _ _ _ _ _ is.0 (subst (λ (w : CommandWords). Ends (film_files w) at_the_end (about simulate w) _ _ _ _ _) is.1 c.simulate.ensures)
+    simulate_ends false (view c.args.command) _ _ _ _ _ is.0 is.1 (subst (λ (w : CommandWords). Ends (film_files w) at_the_end (about simulate w) _ _ _ _ _) is.2 c.simulate.ensures)
+
+pub returns-in-Players : goal.returns-in-Players
+returns-in-Players g c =
+    let is = subst (IsRequest (view c.args.command)) c.in-Players.is c.of.ensures in
+    simulate_ends true (view c.args.command) _ _ _ _ _ is.0 is.1 (subst (λ (w : CommandWords). Ends (film_files w) at_the_end (about play_jointly w) _ _ _ _ _) is.2 c.players.ensures)
 
 pub returns-in-Compare : goal.returns-in-Compare
 returns-in-Compare g c =
