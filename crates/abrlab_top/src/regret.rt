@@ -137,14 +137,8 @@ impl<'a> Ranking<'a> {
     {
         let inputs = self.inputs();
         let (film, setup) = (inputs.manifest(), inputs.setup());
-        match plan_on(
-            alloc,
-            film,
-            clock,
-            setup,
-            media_ahead(inputs),
-            self.options(),
-        ) {
+        let ahead = media_ahead(inputs);
+        match plan_on(alloc, film, clock, setup, ahead, self.options()) {
             Ok(planned) => Ok(planned.plan.score),
             Err(PlanErr::BudgetSpent { segment }) => Err(Ending::Spent {
                 trace: Some(place),
