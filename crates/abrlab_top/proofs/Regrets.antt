@@ -276,10 +276,11 @@ total_short rule k table t stands lt few =
     let taken = length-take-le k table (omega (arith, lt)) in
     omega (arith, count, mapped, taken, lt, few)
 
--- a network has a score of the rule at an index, which can be summed
+-- a network has a score of the rule at an index
 pub wide_at : (table : List Scored) (rule k : ℕ) (s : Scored) → k < length table → s ≡ get_or table k s → All (λ (x : Scored). rule < length x.scores.items) table → rule < length s.scores.items
 wide_at table rule k s lt e all = subst (λ (x : Scored). rule < length x.scores.items) (sym e) (all k s lt)
 
+-- which can be summed
 pub score_ranked : (s : Scored) (rule : ℕ) (score : ℤ) → AreRanked s → rule < length s.scores.items → score ≡ get_or s.scores.items rule score → AreScores (score, s.best)
 score_ranked s rule score all lt e = subst (λ z. AreScores (z, s.best)) (sym e) (all rule score lt)
 

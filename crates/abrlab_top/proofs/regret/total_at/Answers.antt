@@ -1,9 +1,7 @@
-use Rattle.std.proofs.Common.{◌<◌, subst, sym}
-use Rattle.std.specs.List.{All}
-use Rattle.std.proofs.lemmas.List.Elements.{All-get_or}
-use Rattle.session_report.specs.Regret.{AreScores}
-use Rattle.abrlab_top.specs.declared.regret.Scored.{Scored}
-use Rattle.abrlab_top.specs.Regret.{AreRanked, scores_at}
+use Rattle.std.proofs.Common.{ap, map, subst}
+use Rattle.std.proofs.lemmas.List.{take_all}
+use Rattle.session_report.specs.Regret.{StandsFor}
+use Rattle.abrlab_top.specs.Regret.{scores_at}
 use Rattle.abrlab_top.proofs.Regrets.{ranked_at, score_ranked, total_more, total_short, wide_at}
 use Rattle.abrlab_top.proofs.regret.total_at.Goals as goal
 
@@ -27,4 +25,4 @@ loop-scored-preserved c =
     (wide_at c.args.table.now c.args.rule c.loop-scored.scored-index c.scored-item.result c.loop-scored-test.true c.scored-item.is c.requires.wide) c.index.ensures (c.add.ensures _ c.loop-scored.invariant)
 
 pub returns : goal.returns
-returns c = rw take_all at c.loop-scored.invariant
+returns c = subst (λ ps. StandsFor ps c.loop-scored.total) (ap (map (scores_at c.args.rule)) (take_all c.loop-scored.scored-index c.args.table.now c.loop-scored-test.false)) c.loop-scored.invariant

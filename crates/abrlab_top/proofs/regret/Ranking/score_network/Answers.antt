@@ -1,5 +1,3 @@
-use Rattle.std.proofs.Common.{subst}
-use Rattle.lab_model.specs.declared.trace.Period.{Period}
 use Rattle.lab_inputs.specs.Stages.{network_of}
 use Rattle.abrlab_top.proofs.Regrets.{network_scored, unspent_failed, unspent_wanting}
 use Rattle.abrlab_top.proofs.regret.Ranking.score_network.Goals as goal

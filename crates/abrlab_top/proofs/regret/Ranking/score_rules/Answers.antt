@@ -1,10 +1,3 @@
-use Rattle.std.proofs.Common.{◌≡◌, map, subst}
-use Rattle.std.specs.List.{All}
-use Rattle.lab_io.specs.Sink.{Text}
-use Rattle.lab_model.specs.Rules.{RuleKind}
-use Rattle.lab_words.specs.Command.{named}
-use Rattle.lab_words.specs.Limits.{IsRuleWithin}
-use Rattle.lab_inputs.specs.Inputs.{InputValues}
 use Rattle.abrlab_top.proofs.Regrets.{rule_asks, rule_within, rules_seen, scores_all, scores_more}
 use Rattle.abrlab_top.proofs.regret.Ranking.score_rules.Goals as goal
 
