@@ -13,4 +13,4 @@ returns-in-Some g c =
     let out = g.O.Sink.seen c.args.out.now in
     let out2 = g.O.Sink.seen c.put_coarse.new.out in
     subst (λ (grid : Option Grid). Puts out (parts_text grid c.args.options.as_certificate parts p.bound p.plan.labels) out2 c.put_coarse.result) (sym (sym c.grid.ensures.value ∙ c.in-Some.is))
-    (subst (λ (whole : Bool). Puts out (parts_text (Some exact) whole parts p.bound p.plan.labels) out2 c.put_coarse.result) c.as_certificate.ensures (c.put_coarse.ensures exact))
+    (subst (λ (whole : Bool). Puts out (parts_text (Some exact) whole parts p.bound p.plan.labels) out2 c.put_coarse.result) c.as_certificate-as_certificate.ensures (c.put_coarse.ensures exact))
