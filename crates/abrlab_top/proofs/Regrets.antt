@@ -1,5 +1,5 @@
 -- What `compare --regret` plays, plans and writes, network by network and rule by rule.
-use Rattle.std.proofs.Common.{◌≡◌, ◌∙◌, ◌+◌, ◌<◌, ◌≤◌, ◌++◌, ◌∷◌, [], ℕ, List, Option, Some, None, Result, Ok, Err, Vec, length, map, take, drop, get_or, string_bytes, false, ap, sym, refl, subst, arith, add-one, drop-cons, take-suc, codes}
+use Rattle.std.proofs.Common.{◌≡◌, ◌∙◌, ◌+◌, ◌<◌, ◌≤◌, ◌++◌, ◌∷◌, [], ℕ, List, Option, Some, None, Result, Ok, Err, Vec, length, map, take, drop, get_or, string_bytes, ap, sym, refl, subst, arith, add-one, drop-cons, take-suc}
 use Rattle.std.specs.Prelude.{ℤ, pos, option_map, slice_index_or}
 use Rattle.std.specs.Global.{Global}
 use Rattle.std.specs.List.{All, flat_map}
@@ -7,10 +7,9 @@ use Rattle.std.specs.Option.{option_or}
 use Rattle.std.specs.Result.{IsErrAnd}
 use Rattle.std.proofs.lemmas.Result.{err_from_is_err_and}
 use Rattle.std.proofs.lemmas.List.{drop_all, get_or-map, get_or_default, length-take-le, length-map, map-append, take_all}
-use Rattle.std.proofs.lemmas.List.Elements.{All-map, All-push}
+use Rattle.std.proofs.lemmas.List.Elements.{All-map}
 use Rattle.std.proofs.lemmas.Simd.{map-map}
 use Rattle.lab_io.specs.Sink.{Text, Seen}
-use Rattle.lab_io.specs.Piece.{fields_line}
 use Rattle.lab_model.specs.declared.trace.Period.{Period}
 use Rattle.lab_model.specs.declared.setup.Setup.{Setup}
 use Rattle.lab_model.specs.Film.{Film}
@@ -228,7 +227,6 @@ ranking_scored i budget v r table e was h = subst (Unspent (first_spent i budget
 -- the row of equal scores
 pub row_as : (name other : Text) (score best points top : ℤ) → name ≡ other → score ≡ points → best ≡ top → regret_line name score best ≡ regret_line other points top
 row_as name other score best points top e f h = ap (λ n. regret_line n score best) e ∙ ap (λ z. regret_line other z best) f ∙ ap (regret_line other points) h
-
 
 -- the row of a rule, and those behind it
 pub rows_next : (rules : List NamedRule) (scores : List ℤ) (best : ℤ) (k : ℕ) (rule : NamedRule) (score : ℤ) → k < length rules → rule ≡ get_or rules k rule → k < length scores → score ≡ get_or scores k score
