@@ -52,7 +52,7 @@ leaves_shelf line old ending.Done new h = all_asked line 0 old.shelf new.shelf h
 leaves_shelf line old ending.Invalid new h = all_asked line 1 old.shelf new.shelf h.ends.asked
 leaves_shelf line old ending.Usage new h = record { asks = none_asked (named_files line) old.shelf new.shelf h.ends.asked; whole = λ s. never_whole 2 s refl }
 leaves_shelf line old (ending.Stopped why) new h = record { asks = stops_some (named_files line) old.shelf new.shelf why h.ends.asked; whole = λ s. stop_whole why s }
-leaves_shelf line old (ending.Spent segment) new h = all_asked line 6 old.shelf new.shelf h.ends.asked
+leaves_shelf line old (ending.Spent trace segment) new h = all_asked line 6 old.shelf new.shelf h.ends.asked
 leaves_shelf line old ending.OutputFailed new h = all_asked line 5 old.shelf new.shelf h.ends.asked
 leaves_shelf line old ending.NoMemory new h = record { asks = h.ends.asked; whole = λ s. never_whole 9 s refl }
 
@@ -120,7 +120,7 @@ completes line old e new h files t shelf out = by_ending e h.ends
     by_ending ending.Invalid x = let a = x.comes files named in inl (rw (a.1, a.2.0) refl)
     by_ending ending.Usage x = inl (rw (x.comes files named) refl)
     by_ending (ending.Stopped why) x = inl (rw (stopped_outcome line old.shelf new.shelf why files t shelf x.asked (x.comes files named)) refl)
-    by_ending (ending.Spent segment) x = inl (rw (x.comes files named) refl)
+    by_ending (ending.Spent trace segment) x = inl (rw (x.comes files named) refl)
     by_ending ending.OutputFailed x = absurd (out x.leaves)
     by_ending ending.NoMemory x = inr refl
 

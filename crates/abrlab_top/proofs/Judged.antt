@@ -146,7 +146,7 @@ judged_failed gap i old ending.Done h = absurd h
 judged_failed gap i old ending.Invalid h = absurd h
 judged_failed gap i old ending.Usage h = absurd h
 judged_failed gap i old (ending.Stopped why) h = (h.0, h.1, refl)
-judged_failed gap i old (ending.Spent segment) h = absurd h
+judged_failed gap i old (ending.Spent trace segment) h = absurd h
 judged_failed gap i old ending.OutputFailed h = absurd h
 judged_failed gap i old ending.NoMemory h = wanting of_a_check (check gap i) old
 

@@ -1,13 +1,14 @@
--- What is asked of `plan` is within its limits.
-use Rattle.std.proofs.Common.{◌≡◌, ◌==◌, ◌⊎◌, ℕ, false, Option, None, IfSome, inl, inr, refl, subst, arith}
+-- What is asked of `plan`, and of the plans of a ranking, is within its limits.
+use Rattle.std.proofs.Common.{◌≡◌, ◌==◌, ◌||◌, ℕ, Bool, true, false, is_some, [], ◌∷◌, None, IfSome, inl, inr, refl, subst, arith}
 use Rattle.std.proofs.lemmas.Bool.Decides.{nat_tests}
-use Rattle.lab_words.specs.declared.Verb.TheVariants.{Plan}
+use Rattle.lab_model.specs.Film.{IsWithin}
+use Rattle.lab_words.specs.declared.Verb.TheVariants.{Compare, Plan}
 use Rattle.lab_words.specs.Command.{CommandWords}
-use Rattle.lab_words.specs.Limits.{HasItsOwn, IsWithinLimits}
+use Rattle.lab_words.specs.Limits.{HasItsOwn, IsBudget, IsWithinLimits, agrees}
+use Rattle.lab_words.specs.Values.{at_most_one}
 use Rattle.lab_words.specs.Limits as words
-use Rattle.labels.specs.declared.label.Grid.{Grid}
 use Rattle.labels.specs.Grid.{IsGrid}
-use Rattle.abrlab_top.specs.Plan.{AreOptions, grid_in, options_of}
+use Rattle.abrlab_top.specs.Plan.{grid_in}
 
 -- without steps there is no grid
 pub no_grid : (time value : ℕ) → time ≡ 0 → grid_in time value ≡ None
@@ -24,6 +25,20 @@ grid_fits c limits = by_grid c.coarse_time c.coarse_value limits.grid
         let other : (time == 0) ≡ false = grind (arith, nat_tests, low) in
         rw other (record { time = some.0; value = some.1 })
 
--- all that is asked for
-pub options_fit : (c : CommandWords) → IsWithinLimits c → c.verb ≡ Plan → AreOptions (options_of c)
-options_fit c limits v = record { grid = grid_fits c limits; budget = subst (λ w. HasItsOwn w c) v limits.own }
+-- the budget of a plan
+pub budget_fits : (c : CommandWords) → IsWithinLimits c → c.verb ≡ Plan → IsWithin 1 1000000 c.budget
+budget_fits c limits v = subst (λ w. HasItsOwn w c) v limits.own
+
+calm : (abandon seeks : Bool) → at_most_one (true ∷ (abandon || seeks) ∷ []) ≡ true → abandon ≡ false
+calm false seeks h = refl
+calm true seeks h = cc
+
+-- words that ask for regrets ask for no abandonment
+pub calm_words : (c : CommandWords) → IsWithinLimits c → c.verb ≡ Compare → c.regret ≡ true → c.abandon ≡ false
+calm_words c limits v r =
+    let agreed : agrees Compare c ≡ true = subst (λ w. agrees w c ≡ true) v limits.agreed in
+    calm c.abandon (is_some c.seeks) (subst (λ b. at_most_one (b ∷ (c.abandon || is_some c.seeks) ∷ []) ≡ true) r agreed)
+
+-- the budget of the plans of a ranking
+pub ranking_budget : (c : CommandWords) → IsWithinLimits c → c.verb ≡ Compare → c.regret ≡ true → IsWithin 1 1000000 c.budget
+ranking_budget c limits v r = subst (λ b. IsBudget b c.budget) r (subst (λ w. HasItsOwn w c) v limits.own)

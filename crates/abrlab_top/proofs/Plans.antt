@@ -25,11 +25,10 @@ use Rattle.labels.proofs.Rounds.{exact_fits}
 use Rattle.certificate_text.specs.Form.{IsGapCertificate}
 use Rattle.gap_plan.specs.Gap.{plan_gap}
 use Rattle.abrlab_top.specs.declared.ending.Ending.TheVariants as ending
-use Rattle.abrlab_top.specs.declared.plan.PlanOptions.{PlanOptions}
 use Rattle.abrlab_top.specs.Ahead.{ahead_of}
 use Rattle.abrlab_top.specs.Answer.{printed}
 use Rattle.abrlab_top.specs.Ending.{after_plan}
-use Rattle.abrlab_top.specs.Plan.{IsPlanned, bound_on, chains_on, labels_on, parts_text, plan, plan_on, planned_on, spent_on, steps_of, task_on, unless_spent}
+use Rattle.abrlab_top.specs.Plan.{IsPlanned, PlanAsked, bound_on, chains_on, labels_on, parts_text, plan, plan_on, planned_on, spent_on, steps_of, task_on, unless_spent}
 use Rattle.abrlab_top.specs.Stages.{Writes, at_the_end}
 use Rattle.abrlab_top.proofs.Finds.{found_from, none_from}
 use Rattle.abrlab_top.proofs.Whole.{wanting}
@@ -73,22 +72,22 @@ module _ (grid : Option Grid) (g : Task) (budget : ℕ) where
 -- ---- the answer
 
 -- no network is named
-pub no_network : (o : PlanOptions) (i : InputValues) → slice_get i.networks 0 ≡ None → plan o i ≡ Ok (printed [])
+pub no_network : (o : PlanAsked) (i : InputValues) → slice_get i.networks 0 ≡ None → plan o i ≡ Ok (printed [])
 unfolding plan
 no_network o i e = ap (plan_on o i) e
 
 -- a setting does not fit
-pub plan_stopped : (o : PlanOptions) (i : InputValues) (n : Text × List Period) (why : Stop) → slice_get i.networks 0 ≡ Some n → settled i ≡ Err why → plan o i ≡ Err (ending.Stopped why)
+pub plan_stopped : (o : PlanAsked) (i : InputValues) (n : Text × List Period) (why : Stop) → slice_get i.networks 0 ≡ Some n → settled i ≡ Err why → plan o i ≡ Err (ending.Stopped why)
 unfolding plan
 plan_stopped o i n why e h = rw (e, h) refl
 
 -- what `plan` answers on the network
-pub one_planned : (o : PlanOptions) (i : InputValues) (n : Text × List Period) → slice_get i.networks 0 ≡ Some n → settled i ≡ Ok i → plan o i ≡ planned_on o (task_on i n.1)
+pub one_planned : (o : PlanAsked) (i : InputValues) (n : Text × List Period) → slice_get i.networks 0 ≡ Some n → settled i ≡ Ok i → plan o i ≡ planned_on o (task_on i n.1)
 unfolding plan
 one_planned o i n e h = rw (e, h) refl
 
 -- the text of the plan of a task
-said : (o : PlanOptions) (g : Task) (c : CoarsePlan) → IsPlanOf (steps_of o.grid) g (chains_on o.grid g) o.budget c.plan c.bound
+said : (o : PlanAsked) (g : Task) (c : CoarsePlan) → IsPlanOf (steps_of o.grid) g (chains_on o.grid g) o.budget c.plan c.bound
     → planned_on o g ≡ Ok (printed (parts_text o.grid o.as_certificate (plan_parts g.film c.plan) c.bound c.plan.labels))
 said o g c of =
     let never = never_spent o.grid g o.budget (let most = of.within in let counted = of.labels in omega (arith, most, counted)) in
@@ -98,14 +97,14 @@ said o g c of =
     ap (unless_spent o g) never ∙ ap (λ t. Ok (printed t)) text
 
 -- the plan has a certificate's text, and is what the command answers
-pub planned_whole : (o : PlanOptions) (i : InputValues) (n : Text × List Period) (film : Film) (g : Task) (c : CoarsePlan) → slice_get i.networks 0 ≡ Some n → settled i ≡ Ok i → g ≡ task_on i n.1 → film ≡ i.film
+pub planned_whole : (o : PlanAsked) (i : InputValues) (n : Text × List Period) (film : Film) (g : Task) (c : CoarsePlan) → slice_get i.networks 0 ≡ Some n → settled i ≡ Ok i → g ≡ task_on i n.1 → film ≡ i.film
     → IsPlanOf (steps_of o.grid) g (chains_on o.grid g) o.budget c.plan c.bound → IsGapCertificate (plan_gap film c) × (plan o i ≡ Ok (printed (parts_text o.grid o.as_certificate (plan_parts film c.plan) c.bound c.plan.labels)))
 planned_whole o i n film g c e h same f of =
     let own : IsPlanOf (steps_of o.grid) (task_on i n.1) (chains_on o.grid (task_on i n.1)) o.budget c.plan c.bound = subst (λ t. IsPlanOf (steps_of o.grid) t (chains_on o.grid t) o.budget c.plan c.bound) same of in
     rw f (record { bound = own.short; inner = own.form }, one_planned o i n e h ∙ said o (task_on i n.1) c own)
 
 -- the chains spend the budget
-planned_spent : (o : PlanOptions) (i : InputValues) (n : Text × List Period) (g : Task) (s : ℕ) → slice_get i.networks 0 ≡ Some n → settled i ≡ Ok i → g ≡ task_on i n.1 → SpentAt g (chains_on o.grid g) o.budget s → plan o i ≡ Err (ending.Spent s)
+planned_spent : (o : PlanAsked) (i : InputValues) (n : Text × List Period) (g : Task) (s : ℕ) → slice_get i.networks 0 ≡ Some n → settled i ≡ Ok i → g ≡ task_on i n.1 → SpentAt g (chains_on o.grid g) o.budget s → plan o i ≡ Err (ending.Spent None s)
 planned_spent o i n g s e h same at =
     one_planned o i n e h ∙ ap (unless_spent o (task_on i n.1)) (spent_at o.grid (task_on i n.1) o.budget s (subst (λ t. SpentAt t (chains_on o.grid t) o.budget s) same at))
 
@@ -114,11 +113,11 @@ pub task_is : (i : InputValues) (periods clock : List Period) (film : Film) (set
 task_is i periods clock film setup ahead f p q a = rw (f, p, q, a) refl
 
 -- planning failed
-pub plan_failed : (o : PlanOptions) (i : InputValues) (n : Text × List Period) (g : Task) (old : Seen) (r : Result CoarsePlan PlanErr) (e : PlanErr) → slice_get i.networks 0 ≡ Some n → settled i ≡ Ok i → g ≡ task_on i n.1 → r ≡ Err e → IsPlanned o.grid g o.budget r
+pub plan_failed : (o : PlanAsked) (i : InputValues) (n : Text × List Period) (g : Task) (old : Seen) (r : Result CoarsePlan PlanErr) (e : PlanErr) → slice_get i.networks 0 ≡ Some n → settled i ≡ Ok i → g ≡ task_on i n.1 → r ≡ Err e → IsPlanned o.grid g o.budget r
     → Writes at_the_end (plan o i) old (after_plan e) old
 plan_failed o i n g old r (planned.BudgetSpent s) e h same k x = let y : SpentAt g (chains_on o.grid g) o.budget s = rw k at x in (planned_spent o i n g s e h same y, refl)
 plan_failed o i n g old r planned.Memory e h same k x = wanting at_the_end (plan o i) old
 
 -- planning gave a plan
-pub plan_given : (o : PlanOptions) (g : Task) (r : Result CoarsePlan PlanErr) (c : CoarsePlan) → r ≡ Ok c → IsPlanned o.grid g o.budget r → IsPlanOf (steps_of o.grid) g (chains_on o.grid g) o.budget c.plan c.bound
+pub plan_given : (o : PlanAsked) (g : Task) (r : Result CoarsePlan PlanErr) (c : CoarsePlan) → r ≡ Ok c → IsPlanned o.grid g o.budget r → IsPlanOf (steps_of o.grid) g (chains_on o.grid g) o.budget c.plan c.bound
 plan_given o g r c e x = rw e at x

@@ -39,14 +39,14 @@ use Rattle.certificate_check.specs.Verdict.{verdict_of}
 use Rattle.certificate_check.proofs.Verdicts.{yes_valid}
 use Rattle.abrlab_top.specs.declared.ending.Ending.{Ending}
 use Rattle.abrlab_top.specs.declared.ending.Ending.TheVariants as ending
-use Rattle.abrlab_top.specs.declared.plan.PlanOptions.{PlanOptions}
 use Rattle.abrlab_top.specs.Ahead.{ahead_of}
 use Rattle.abrlab_top.specs.Answer.{Answer, Outcome, printed, unless_stopped}
 use Rattle.abrlab_top.specs.Check.{check, check_on, claim_in, told_verdict, verdict_ending, verdict_text}
 use Rattle.abrlab_top.specs.Claim.{claim_of}
 use Rattle.abrlab_top.specs.Ending.{status_of}
 use Rattle.abrlab_top.specs.Outcome.{about, answer_by, answer_of, named_files, outcome, outcome_by}
-use Rattle.abrlab_top.specs.Plan.{bound_on, certificate_on, chains_on, grid_in, labels_on, options_of, plan, plan_on, plan_text, planned_on, spent_on, task_on, unless_spent}
+use Rattle.abrlab_top.specs.Plan.{PlanAsked, bound_on, certificate_on, chains_on, grid_in, labels_on, options_of, plan, plan_on, plan_text, planned_on, spent_on, task_on, unless_spent}
+use Rattle.abrlab_top.specs.Players.{simulate_by}
 use Rattle.abrlab_top.specs.Proves.{Headline, IsBest, IsPlain, IsSession, IsYes, PlansTheBest, Proves, SaysYesSoundly, Simulates}
 use Rattle.abrlab_top.specs.Runs.{Runs, World}
 use Rattle.abrlab_top.specs.Simulate.{case_on, session_on, simulate, simulate_on}
@@ -115,7 +115,8 @@ one_of (x ∷ y ∷ xs) e = absurd (omega arith)
 pub counts_of : (c : CommandWords) (v : Verb) → IsWithinLimits c → c.verb ≡ v → AreCounted v (length c.traces) (length c.rules)
 counts_of c v limits e = subst (λ w. AreCounted w (length c.traces) (length c.rules)) e limits.counts
 
-ready_by : (c : CommandWords) (files : Files) (i : InputValues) → inputs_of c files ≡ Ok i → settled i ≡ Ok i → ready_of c files ≡ Ok i
+-- what is read and settled is ready
+pub ready_by : (c : CommandWords) (files : Files) (i : InputValues) → inputs_of c files ≡ Ok i → settled i ≡ Ok i → ready_of c files ≡ Ok i
 unfolding ready_of
 ready_by c files i e h = rw e h
 
@@ -134,15 +135,19 @@ simulated_ok i n rule a e h k =
     let s = settled_ok i x.0 x.1 in
     (s.0, ap (λ (j : InputValues). printed (session_on j n.1 rule.1)) s.1 ∙ ok_same _ _ a refl x.2)
 
--- what `simulate` proves
+-- what `simulate` answered, by whether it is about several players
+pub simulating : (several : Bool) (c : CommandWords) (files : Files) (a : Answer) → c.verb ≡ verb.Simulate → c.players ≡ several → answer_of c files ≡ Ok a → about (simulate_by several) c files ≡ Ok a
+simulating several c files a v players h = subst (λ b. about (simulate_by b) c files ≡ Ok a) players (by_verb verb.Simulate c files a v h)
+
+-- what `simulate` proves of one player
 pub simulates : (line : List Text) (old new : World) (e : Ending) (r : ℕ) → Runs line old e new → r ≡ status_of e → Simulates line old r new
-simulates line old new e r h k c files asked v t s =
+simulates line old new e r h k c files asked v one t s =
     let d = done_by line old new e h (sym k ∙ s) c files asked t in
-    let x = about_ok simulate c files d.answer (by_verb verb.Simulate c files d.answer v d.gives) in
+    let x = about_ok simulate c files d.answer (simulating false c files d.answer v one d.gives) in
     let counts = counts_of c verb.Simulate d.limits v in
     let held = inputs_counted c files x.0 x.1 in
     let network = one_of x.0.networks (held.0 ∙ counts.0) in
-    let rule = one_of x.0.rules (ap length held.1 ∙ counts.1) in
+    let rule = one_of x.0.rules (ap length held.1 ∙ subst (λ w. HasItsOwn w c) v d.limits.own one) in
     let y = simulated_ok x.0 network.0 rule.0 d.answer network.1 rule.1 x.2 in
     record {
       inputs = x.0;
@@ -158,7 +163,8 @@ simulates line old new e r h k c files asked v t s =
 
 -- ---- tasks
 
-first_trace : (networks : List (Text × List Period)) (n : Text × List Period) → networks ≡ n ∷ [] → All (λ (m : Text × List Period). IsTrace m.1) networks → IsTrace n.1
+-- the trace of the one network is within the limits
+pub first_trace : (networks : List (Text × List Period)) (n : Text × List Period) → networks ≡ n ∷ [] → All (λ (m : Text × List Period). IsTrace m.1) networks → IsTrace n.1
 first_trace networks n e h = let k : All (λ (m : Text × List Period). IsTrace m.1) (n ∷ []) = subst (All (λ (m : Text × List Period). IsTrace m.1)) e h in k 0 n (omega arith)
 
 -- media ahead within the limits of the words
@@ -166,25 +172,30 @@ ahead_fits : (o : Option ℕ) → IfSome o (λ ms. ms ≤ 120000000) → ahead_o
 ahead_fits None h = omega arith
 ahead_fits (Some ms) h = h
 
--- what is ready is a task for the planner
-pub is_task : (c : CommandWords) (files : Files) (i : InputValues) (n : Text × List Period) → IsWithinLimits c → HasFilm c.verb → IsReady c files i → i.networks ≡ n ∷ [] → IsTask (task_on i n.1)
-is_task c files i n limits film r one = record {
+-- what is ready is a task for the planner on each trace
+pub task_with : (c : CommandWords) (files : Files) (i : InputValues) (periods : List Period) → IsWithinLimits c → HasFilm c.verb → IsReady c files i → IsTrace periods → IsTask (task_on i periods)
+task_with c files i periods limits film r trace = record {
   film = subst IsFilm (sym (ap (λ (j : InputValues). j.film) r.inputs)) r.within.film;
-  trace = first_trace r.contents.networks n (sym (ap (λ (j : InputValues). j.networks) r.inputs) ∙ one) r.within.networks;
+  trace = trace;
   setup = r.fits.setup;
   weights = subst (λ (s : Setup). IsWeighing s.weights) (sym (ap (λ (j : InputValues). j.setup) r.inputs))
       (weights_are c.table c.utilities r.contents.table (rungs_of r.contents.film) c.switch c.stall c.startup (limits.weights film) r.within.table);
   ahead = subst (λ o. ahead_of o ≤ 120000000) (sym (ap (λ (j : InputValues). j.live) r.inputs)) (ahead_fits c.live limits.live);
 }
 
+-- what is ready is a task for the planner
+pub is_task : (c : CommandWords) (files : Files) (i : InputValues) (n : Text × List Period) → IsWithinLimits c → HasFilm c.verb → IsReady c files i → i.networks ≡ n ∷ [] → IsTask (task_on i n.1)
+is_task c files i n limits film r one =
+    task_with c files i n.1 limits film r (first_trace r.contents.networks n (sym (ap (λ (j : InputValues). j.networks) r.inputs) ∙ one) r.within.networks)
+
 -- ---- plan
 
-unspent : (o : PlanOptions) (g : Task) (spent : Option ℕ) (a : Answer) → unless_spent o g spent ≡ Ok a → (spent ≡ None) × (printed (plan_text o g) ≡ a)
+unspent : (o : PlanAsked) (g : Task) (spent : Option ℕ) (a : Answer) → unless_spent o g spent ≡ Ok a → (spent ≡ None) × (printed (plan_text o g) ≡ a)
 unspent o g None a e = (refl, ok_same _ (printed (plan_text o g)) a refl e)
 unspent o g (Some segment) a e = cc
 
 -- what `plan` went through to its answer
-pub planned_ok : (o : PlanOptions) (i : InputValues) (n : Text × List Period) (a : Answer) → i.networks ≡ n ∷ [] → plan o i ≡ Ok a
+pub planned_ok : (o : PlanAsked) (i : InputValues) (n : Text × List Period) (a : Answer) → i.networks ≡ n ∷ [] → plan o i ≡ Ok a
     → (settled i ≡ Ok i) × (spent_on o.grid (task_on i n.1) o.budget ≡ None) × (printed (plan_text o (task_on i n.1)) ≡ a)
 unfolding plan
 planned_ok o i n a e k =
@@ -202,7 +213,7 @@ few_labels c grid g limits v is unspent =
     omega (arith, own, few)
 
 -- the plan of a task is the best, or no list is above its bound
-best_is : (o : PlanOptions) (g : Task) → IfSome o.grid IsGrid → IsTask g → labels_in g (chains_on o.grid g) ≤ 1000000
+best_is : (o : PlanAsked) (g : Task) → IfSome o.grid IsGrid → IsTask g → labels_in g (chains_on o.grid g) ≤ 1000000
     → (p : IsBest g o.grid o.as_certificate (plan_text o g)) × (is_some o.grid ≡ false → p.bound ≡ p.best.score)
 best_is o g fits is few =
     let form = has_text o.grid g fits is few in
@@ -317,7 +328,7 @@ plainly c files old new General Own none p from = record {
 pub headline : (line : List Text) (old new : World) (r : ℕ) → Simulates line old r new → PlansTheBest line old r new → SaysYesSoundly line old r new → Headline line old r new
 headline line old new r simulates plans checks = record {
   simulates = λ c files asked v plain t s.
-      plainly c files old new _ _ plain.on_demand (simulates c files asked v t s)
+      plainly c files old new _ _ plain.on_demand (simulates c files asked v plain.one_player t s)
       (λ i periods text none h. (h.0, h.1, subst (λ live. IsSession (case_of i.film periods i.setup i.seeks (ahead_of live) h.0.1) text) none h.2));
   plans = λ c files asked v plain t s.
       plainly c files old new _ _ plain.on_demand (plans c files asked v t s)

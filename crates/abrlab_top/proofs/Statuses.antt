@@ -23,7 +23,7 @@ use Rattle.abrlab_top.specs.declared.ending.Ending.{Ending}
 use Rattle.abrlab_top.specs.declared.ending.Ending.TheVariants as ending
 use Rattle.abrlab_top.specs.Answer.{Answer, Outcome, ending_in}
 use Rattle.abrlab_top.specs.Ending.{IsWhole, status_of, stop_status}
-use Rattle.abrlab_top.specs.Outcome.{about, answer_by, manner_in, named_by, named_files, outcome, outcome_by, status}
+use Rattle.abrlab_top.specs.Outcome.{about, answer_by, comparing, manner_in, named_by, named_files, outcome, outcome_by, status}
 use Rattle.abrlab_top.specs.Runs.{Admits, Ends, Runs, TellsNamed, World}
 use Rattle.abrlab_top.specs.Stages.{Answers, OutFails}
 use Rattle.abrlab_top.specs.Statuses.{HasCause, IsAmong, IsComplete, IsStatus, LeavesShelf, RunsAreComplete, RunsLeaveTheShelf, StatusesHaveCauses, answers_to}
@@ -58,7 +58,7 @@ known ending.Done = refl
 known ending.Invalid = refl
 known ending.Usage = refl
 known (ending.Stopped why) = known_stop why
-known (ending.Spent segment) = refl
+known (ending.Spent trace segment) = refl
 known ending.OutputFailed = refl
 known ending.NoMemory = refl
 
@@ -94,7 +94,7 @@ module _ (line : List Text) (old new : World) where
       by_ending ending.Invalid x = let a = x.comes files named in rw (a.1, a.2.0) refl
       by_ending ending.Usage x = rw (x.comes files named) refl
       by_ending (ending.Stopped why) x = stop_told (outcome line files) why (x.comes files named)
-      by_ending (ending.Spent segment) x = rw (x.comes files named) refl
+      by_ending (ending.Spent trace segment) x = rw (x.comes files named) refl
       by_ending ending.OutputFailed x = let a = x.comes files named in rw a.1 (five a.0)
       by_ending ending.NoMemory x = nine (outcome line files)
 
@@ -112,9 +112,13 @@ module _ (line : List Text) (old new : World) where
   refused_words None h = refl
   refused_words (Some c) h = by_verb c.verb h
     where
+      by_manner : (regrets : Bool) → (comparing regrets).refused ≡ true → Some c ≡ None
+      by_manner true h = cc
+      by_manner false h = cc
+
       by_verb : (v : Verb) → (manner_in (Some (record c { verb = v }))).refused ≡ true → Some c ≡ None
       by_verb verb.Simulate h = cc
-      by_verb verb.Compare h = cc
+      by_verb verb.Compare h = by_manner c.regret h
       by_verb verb.Plan h = cc
       by_verb verb.Check h = cc
       by_verb verb.Demo h = cc
@@ -160,8 +164,8 @@ module _ (line : List Text) (old new : World) where
   output (ending.Stopped why) h s = let k = (stop_range why).1 in absurd (omega arith)
   output e h s = absurd (omega arith)
 
-  spent : (e : Ending) → Runs line old e new → status_of e ≡ 6 → (segment : ℕ) × Runs line old (ending.Spent segment) new
-  spent (ending.Spent segment) h s = (segment, h)
+  spent : (e : Ending) → Runs line old e new → status_of e ≡ 6 → (trace : Option ℕ) × (segment : ℕ) × Runs line old (ending.Spent trace segment) new
+  spent (ending.Spent trace segment) h s = (trace, segment, h)
   spent (ending.Stopped why) h s = let k = (stop_range why).1 in absurd (omega arith)
   spent e h s = absurd (omega arith)
 

@@ -60,7 +60,7 @@ told_of ending.Done o p h k z = inl (kept o p h k)
 told_of ending.Invalid o p h k z = inl (kept o p h k)
 told_of ending.Usage o p h k z = took o p (note_of ending.Usage) h k z
 told_of (ending.Stopped why) o p h k z = took o p (note_of (ending.Stopped why)) h k z
-told_of (ending.Spent segment) o p h k z = took o p (note_of (ending.Spent segment)) h k z
+told_of (ending.Spent trace segment) o p h k z = took o p (note_of (ending.Spent trace segment)) h k z
 told_of ending.OutputFailed o p h k z = took o p (note_of ending.OutputFailed) h k z
 told_of ending.NoMemory o p h k z = took o p (note_of ending.NoMemory) h k z
 
@@ -89,7 +89,7 @@ module _ (line : List Text) (s : MemFiles) (out out2 err err2 : SureText) (shelf
       by_ending ending.Usage x t = stopped ending.Usage (x.comes (file_of s.files) (tells_named (named_files line) (mem_shelved s) (file_of s.files) refl)) x.leaves.1 t
       by_ending (ending.Stopped why) x t =
           stopped (ending.Stopped why) (stopped_outcome line (mem_shelved s) shelf why (file_of s.files) refl (sure_shelf line _ e _ h (file_of s.files) sure) x.asked (x.comes (file_of s.files) (tells_named (named_files line) (mem_shelved s) (file_of s.files) refl))) x.leaves t
-      by_ending (ending.Spent segment) x t = stopped (ending.Spent segment) (x.comes (file_of s.files) (tells_named (named_files line) (mem_shelved s) (file_of s.files) refl)) x.leaves t
+      by_ending (ending.Spent trace segment) x t = stopped (ending.Spent trace segment) (x.comes (file_of s.files) (tells_named (named_files line) (mem_shelved s) (file_of s.files) refl)) x.leaves t
       by_ending ending.OutputFailed x t = absurd (sure_out line (world (mem_shelved s) (sure_seen out) (sure_seen err)) (world shelf (sure_seen out2) (sure_seen err2)) (file_of s.files) sure x.leaves)
       by_ending ending.NoMemory x t =
           inr (refl, part_is out.written out2.written (text_in (outcome line (file_of s.files))) (x.comes (file_of s.files) (tells_named (named_files line) (mem_shelved s) (file_of s.files) refl)) empty, (λ b. left (x.leaves b)), t)

@@ -7,6 +7,7 @@ use Rattle.lab_io.specs.declared.PutErr.TheVariants as put
 use Rattle.lab_io.specs.Shelf.{Shelved}
 use Rattle.lab_io.specs.Sink.{Text, Seen, Grew, GrewPart, Puts}
 use Rattle.lab_words.specs.declared.Verb.{Verb}
+use Rattle.lab_words.specs.declared.Verb.TheVariants as verb
 use Rattle.lab_words.specs.Command.{CommandWords}
 use Rattle.lab_words.specs.Words.{begins_with_verb, command_of}
 use Rattle.lab_inputs.specs.declared.role.Role.{Role}
@@ -30,7 +31,7 @@ use Rattle.abrlab_top.specs.declared.ending.Ending.TheVariants as ending
 use Rattle.abrlab_top.specs.Answer.{Answer, Outcome, printed, text_in, unless_stopped}
 use Rattle.abrlab_top.specs.Demo.{demo}
 use Rattle.abrlab_top.specs.Ending.{IsWhole, after_halt, after_put, ended}
-use Rattle.abrlab_top.specs.Outcome.{about, answer_by, answer_of, manner_by, manner_in, manner_of, named_by, named_files, outcome, outcome_by}
+use Rattle.abrlab_top.specs.Outcome.{about, answer_by, answer_of, comparing, comparison, manner_by, manner_in, manner_of, named_by, named_files, outcome, outcome_by}
 use Rattle.abrlab_top.specs.Runs.{Admits, ComesTo, Ends}
 use Rattle.abrlab_top.specs.Stages.{Answers, IsLate, Manner, OutFails, Writes, refusing}
 
@@ -155,7 +156,7 @@ about_ends m after c i old new out out2 e some read w = by_ending e w
     by_ending ending.Invalid w = record { asked = read.0; leaves = w.0; comes = λ files t. subst (λ o. ComesTo o ending.Invalid out out2) (sym (same files t)) w.1 }
     by_ending ending.Usage w = absurd w
     by_ending (ending.Stopped why) w = record { asked = late_asked m.checks c why old new w.0 some read.0; leaves = w.2; comes = λ files t. stops_err (unless_stopped (inputs_of c files) >>= after) why (same files t ∙ w.1) }
-    by_ending (ending.Spent segment) w = record { asked = read.0; leaves = w.1; comes = λ files t. same files t ∙ w.0 }
+    by_ending (ending.Spent trace segment) w = record { asked = read.0; leaves = w.1; comes = λ files t. same files t ∙ w.0 }
     by_ending ending.OutputFailed w = record { asked = read.0; leaves = w.0; comes = λ files t. subst (λ o. ComesTo o ending.OutputFailed out out2) (sym (same files t)) w.1 }
     by_ending ending.NoMemory w = record { asked = asks_all (film_files c) old new read.0; leaves = w.0; comes = λ files t. subst (λ o. ComesTo o ending.NoMemory out out2) (sym (same files t)) w.1 }
 
@@ -165,15 +166,21 @@ alone_ends m text shelf out out2 ending.Done w = record { asked = asks_none shel
 alone_ends m text shelf out out2 ending.Invalid w = record { asked = asks_none shelf; leaves = w.0; comes = λ files t. w.1 }
 alone_ends m text shelf out out2 ending.Usage w = absurd w
 alone_ends m text shelf out out2 (ending.Stopped why) w = let h = w.1 in cc
-alone_ends m text shelf out out2 (ending.Spent segment) w = let h = w.0 in cc
+alone_ends m text shelf out out2 (ending.Spent trace segment) w = let h = w.0 in cc
 alone_ends m text shelf out out2 ending.OutputFailed w = record { asked = asks_none shelf; leaves = w.0; comes = λ files t. w.1 }
 alone_ends m text shelf out out2 ending.NoMemory w = record { asked = asks_all [] shelf shelf (asks_none shelf); leaves = w.0; comes = λ files t. w.1 }
 
 -- ---- words
 
 -- how a command ended, by its verb
-pub ends_by : (v : Verb) (c : CommandWords) (shelf : Shelved) (out : Seen) (e : Ending) (shelf2 : Shelved) (out2 : Seen) → c.verb ≡ v → Ends (files_by v c) (manner_by v) (answer_by v c) shelf out e shelf2 out2 → Ends (files_of c) (manner_of c) (answer_of c) shelf out e shelf2 out2
-ends_by v c shelf out e shelf2 out2 h x = subst (λ w. Ends (files_by w c) (manner_by w) (answer_by w c) shelf out e shelf2 out2) (sym h) x
+pub ends_by : (v : Verb) (c : CommandWords) (shelf : Shelved) (out : Seen) (e : Ending) (shelf2 : Shelved) (out2 : Seen) → c.verb ≡ v → Ends (files_by v c) (manner_by v c) (answer_by v c) shelf out e shelf2 out2 → Ends (files_of c) (manner_of c) (answer_of c) shelf out e shelf2 out2
+ends_by v c shelf out e shelf2 out2 h x = subst (λ w. Ends (files_by w c) (manner_by w c) (answer_by w c) shelf out e shelf2 out2) (sym h) x
+
+-- how a comparison ended, with regrets or row by row
+pub compare_ends : (regrets : Bool) (c : CommandWords) (shelf : Shelved) (out : Seen) (e : Ending) (shelf2 : Shelved) (out2 : Seen) → c.verb ≡ verb.Compare → c.regret ≡ regrets
+    → Ends (film_files c) (comparing regrets) (about (comparison regrets c.budget) c) shelf out e shelf2 out2 → Ends (files_of c) (manner_of c) (answer_of c) shelf out e shelf2 out2
+compare_ends regrets c shelf out e shelf2 out2 v h x =
+    ends_by verb.Compare c shelf out e shelf2 out2 v (subst (λ b. Ends (film_files c) (comparing b) (about (comparison b c.budget) c) shelf out e shelf2 out2) (sym h) x)
 
 -- words that ask for a command end as it does
 pub command_ends : (line : List Text) (c : CommandWords) (shelf : Shelved) (out : Seen) (e : Ending) (shelf2 : Shelved) (out2 : Seen) → command_of line ≡ Some c → Ends (files_of c) (manner_of c) (answer_of c) shelf out e shelf2 out2

@@ -1,5 +1,5 @@
 -- How a run ends: its status, its note, and what `err` is told.
-use Rattle.std.specs.Prelude.{◌≡◌, ℕ, [], ◌∷◌, ◌++◌, Result, Ok, Err, codes}
+use Rattle.std.specs.Prelude.{◌≡◌, ℕ, [], ◌∷◌, ◌++◌, Option, Some, None, Result, Ok, Err, codes}
 use Rattle.std.specs.Fmt.{decimal}
 use Rattle.lab_io.specs.declared.PutErr.{PutErr}
 use Rattle.lab_io.specs.declared.PutErr.TheVariants as put
@@ -36,7 +36,7 @@ status_of ending.Done = 0
 status_of ending.Invalid = 1
 status_of ending.Usage = 2
 status_of (ending.Stopped why) = stop_status why
-status_of (ending.Spent segment) = 6
+status_of (ending.Spent trace segment) = 6
 status_of ending.OutputFailed = 5
 status_of ending.NoMemory = 9
 
@@ -46,11 +46,20 @@ IsWhole ending.Done = Unit {0}
 IsWhole ending.Invalid = Unit {0}
 IsWhole ending.Usage = ⊥
 IsWhole (ending.Stopped why) = ⊥
-IsWhole (ending.Spent segment) = ⊥
+IsWhole (ending.Spent trace segment) = ⊥
 IsWhole ending.OutputFailed = ⊥
 IsWhole ending.NoMemory = ⊥
 
 -- ---- notes
+
+-- whose budget it is about: that of the trace of a place, where each is planned
+abbrev pub spender : Option ℕ → Text
+spender None = codes "abrlab: "
+spender (Some place) = codes "abrlab: trace " ++ (decimal place ++ codes ": ")
+
+-- at the end of which segment a budget was spent
+abbrev pub spending : ℕ → Text
+spending segment = codes "budget spent at segment " ++ fields_line (decimal segment ∷ [])
 
 -- the line on `err` of an ending, none where the text went out whole
 abbrev pub note_of : Ending → Text
@@ -58,7 +67,7 @@ note_of ending.Done = []
 note_of ending.Invalid = []
 note_of ending.Usage = fields_line (codes "abrlab: usage: simulate, compare, plan, check, demo" ∷ [])
 note_of (ending.Stopped why) = stop_note why
-note_of (ending.Spent segment) = codes "abrlab: budget spent at segment " ++ fields_line (decimal segment ∷ [])
+note_of (ending.Spent trace segment) = spender trace ++ spending segment
 note_of ending.OutputFailed = fields_line (codes "abrlab: output failed" ∷ [])
 note_of ending.NoMemory = fields_line (codes "abrlab: no memory" ∷ [])
 
@@ -72,7 +81,7 @@ Told old ending.Done new = new ≡ old
 Told old ending.Invalid new = new ≡ old
 Told old ending.Usage new = Says old (note_of ending.Usage) new
 Told old (ending.Stopped why) new = Says old (note_of (ending.Stopped why)) new
-Told old (ending.Spent segment) new = Says old (note_of (ending.Spent segment)) new
+Told old (ending.Spent trace segment) new = Says old (note_of (ending.Spent trace segment)) new
 Told old ending.OutputFailed new = Says old (note_of ending.OutputFailed) new
 Told old ending.NoMemory new = Says old (note_of ending.NoMemory) new
 
@@ -90,7 +99,7 @@ after_put put.Memory = ending.NoMemory
 
 -- planning
 abbrev pub after_plan : PlanErr → Ending
-after_plan (planned.BudgetSpent segment) = ending.Spent segment
+after_plan (planned.BudgetSpent segment) = ending.Spent None segment
 after_plan planned.Memory = ending.NoMemory
 
 -- how a command ends that came to this

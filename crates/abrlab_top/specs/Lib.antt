@@ -2,12 +2,15 @@ pub mod Ending
 pub mod Ahead
 pub mod Claim
 pub mod Answer
+pub mod Regret
 pub mod Rows
 pub mod Simulate
+pub mod Players
 pub mod Compare
 pub mod Plan
 pub mod Check
 pub mod Demo
+pub mod Request
 pub mod Stages
 pub mod Outcome
 pub mod Runs

@@ -1,5 +1,5 @@
 -- What a run comes to, by its words and its files.
-use Rattle.std.specs.Prelude.{ℕ, List, [], Option, Some, None, Ok, Err}
+use Rattle.std.specs.Prelude.{ℕ, Bool, true, false, List, [], Option, Some, None, Ok, Err}
 use Rattle.lab_io.specs.Sink.{Text}
 use Rattle.lab_words.specs.declared.Verb.{Verb}
 use Rattle.lab_words.specs.declared.Verb.TheVariants as verb
@@ -16,7 +16,8 @@ use Rattle.abrlab_top.specs.Compare.{compare}
 use Rattle.abrlab_top.specs.Demo.{demo}
 use Rattle.abrlab_top.specs.Ending.{note_of, status_of}
 use Rattle.abrlab_top.specs.Plan.{options_of, plan}
-use Rattle.abrlab_top.specs.Simulate.{simulate}
+use Rattle.abrlab_top.specs.Players.{simulate_by}
+use Rattle.abrlab_top.specs.Regret.{regret}
 use Rattle.abrlab_top.specs.Stages.{Manner, at_the_end, of_a_check, refusing, row_by_row}
 
 -- ---- a command
@@ -27,10 +28,15 @@ about answer c files = do
   inputs ← unless_stopped (inputs_of c files)
   answer inputs
 
+-- what a comparison answers: with regrets, or row by row
+abbrev pub comparison : Bool → ℕ → InputValues → Outcome
+comparison true budget = regret budget
+comparison false budget = compare
+
 -- what each command comes to
 abbrev pub answer_by : Verb → CommandWords → Files → Outcome
-answer_by verb.Simulate c files = about simulate c files
-answer_by verb.Compare c files = about compare c files
+answer_by verb.Simulate c files = about (simulate_by c.players) c files
+answer_by verb.Compare c files = about (comparison c.regret c.budget) c files
 answer_by verb.Plan c files = about (plan (options_of c)) c files
 answer_by verb.Check c files = about (check c.gap) c files
 answer_by verb.Demo c files = demo c.number
@@ -39,17 +45,22 @@ answer_by verb.Demo c files = demo c.number
 abbrev pub answer_of : CommandWords → Files → Outcome
 answer_of c = answer_by c.verb c
 
+-- the manner of a comparison
+abbrev pub comparing : Bool → Manner
+comparing true = at_the_end
+comparing false = row_by_row
+
 -- the manner of each command
-abbrev pub manner_by : Verb → Manner
-manner_by verb.Simulate = at_the_end
-manner_by verb.Compare = row_by_row
-manner_by verb.Plan = at_the_end
-manner_by verb.Check = of_a_check
-manner_by verb.Demo = row_by_row
+abbrev pub manner_by : Verb → CommandWords → Manner
+manner_by verb.Simulate c = at_the_end
+manner_by verb.Compare c = comparing c.regret
+manner_by verb.Plan c = at_the_end
+manner_by verb.Check c = of_a_check
+manner_by verb.Demo c = row_by_row
 
 -- the same by all that a command asks for
 abbrev pub manner_of : CommandWords → Manner
-manner_of c = manner_by c.verb
+manner_of c = manner_by c.verb c
 
 -- ---- the whole: words that are refused name no file, and are usage
 

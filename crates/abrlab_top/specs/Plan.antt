@@ -25,24 +25,24 @@ use Rattle.frontier_planner.specs.declared.plans.PlanErr.TheVariants as planned
 use Rattle.frontier_planner.specs.Planned.{IsPlanOf}
 use Rattle.certificate_text.specs.Spelling.{gap_spelling, spelling}
 use Rattle.abrlab_top.specs.declared.ending.Ending.TheVariants as ending
-use Rattle.abrlab_top.specs.declared.plan.PlanOptions.{PlanOptions}
 use Rattle.abrlab_top.specs.Ahead.{ahead_of}
 use Rattle.abrlab_top.specs.Answer.{Outcome, printed, unless_stopped}
 
 -- ---- what is asked for
+
+-- what is asked of `plan`: the grid of a coarse plan, the most labels, and whether the certificate is to be written
+pub record PlanAsked : Type 0 where
+  pub grid : Option Grid
+  pub budget : ℕ
+  pub as_certificate : Bool
 
 -- the grid with these steps, none where there are none
 abbrev pub grid_in : ℕ → ℕ → Option Grid
 grid_in time value = if time == 0 then None else Some (record { time = time; value = value })
 
 -- what a command asks of `plan`
-abbrev pub options_of : CommandWords → PlanOptions
+abbrev pub options_of : CommandWords → PlanAsked
 options_of c = record { grid = grid_in c.coarse_time c.coarse_value; budget = c.budget; as_certificate = c.as_certificate }
-
--- within their limits
-pub record AreOptions (o : PlanOptions) : Type 0 where
-  pub grid : IfSome o.grid IsGrid
-  pub budget : IsWithin 1 1000000 o.budget
 
 -- ---- the chains and what is read off them
 
@@ -106,27 +106,27 @@ parts_text (Some d) as_certificate p bound labels =
     if as_certificate then gap_spelling (record { bound = bound; inner = p }) else coarse_lines p.score bound labels p.plan
 
 -- the text of the plan of a task, or of its certificate
-abbrev pub plan_text : PlanOptions → Task → Text
+abbrev pub plan_text : PlanAsked → Task → Text
 plan_text o g = parts_text o.grid o.as_certificate (certificate_on o.grid g) (bound_on o.grid g) (labels_on o.grid g)
 
 -- ---- the answer
 
 -- the plan of a task, unless its chains spend the budget
-abbrev pub unless_spent : PlanOptions → Task → Option ℕ → Outcome
+abbrev pub unless_spent : PlanAsked → Task → Option ℕ → Outcome
 unless_spent o g None = Ok (printed (plan_text o g))
-unless_spent o g (Some segment) = Err (ending.Spent segment)
+unless_spent o g (Some segment) = Err (ending.Spent None segment)
 
 -- the plan of a task
-abbrev pub planned_on : PlanOptions → Task → Outcome
+abbrev pub planned_on : PlanAsked → Task → Outcome
 planned_on o g = unless_spent o g (spent_on o.grid g o.budget)
 
 -- the answer on this network; a command line of `plan` names one
-abbrev pub plan_on : PlanOptions → InputValues → Option (Text × List Period) → Outcome
+abbrev pub plan_on : PlanAsked → InputValues → Option (Text × List Period) → Outcome
 plan_on o i (Some network) = do
   ready ← unless_stopped (settled i)
   planned_on o (task_on ready network.1)
 plan_on o i None = Ok (printed [])
 
 -- what `plan` answers, by what is asked for and its inputs
-unfoldable pub plan : PlanOptions → InputValues → Outcome
+unfoldable pub plan : PlanAsked → InputValues → Outcome
 plan o i = plan_on o i (slice_get i.networks 0)

@@ -1,6 +1,7 @@
 -- What the text of each command proves, at the task that words and files give, and THE HEADLINE, which this is for command lines without
 -- an option of further reach.
-use Rattle.std.specs.Prelude.{◌≡◌, ◌≤◌, ℕ, ℤ, Bool, false, List, [], ◌∷◌, length, Option, Some, None, Ok, is_some}
+use Rattle.std.specs.Prelude.{◌≡◌, ◌≤◌, ◌≤ℤ◌, ◌++◌, ℕ, ℤ, pos, Bool, true, false, List, [], ◌∷◌, length, Option, Some, None, Ok, is_some}
+use Rattle.std.specs.List.{All}
 use Rattle.lab_io.specs.Sink.{Text, Grew}
 use Rattle.lab_model.specs.declared.trace.Period.{Period}
 use Rattle.lab_model.specs.Rules.{RuleKind}
@@ -22,10 +23,14 @@ use Rattle.labels.specs.Parts.{CertificateParts}
 use Rattle.labels.specs.Valid.{IsValid}
 use Rattle.labels.specs.declared.verdict.Verdict.TheVariants.{Yes}
 use Rattle.certificate_text.specs.Form.{GapParts, IsGapCertificate}
+use Rattle.session_report.specs.Regret.{total_of}
 use Rattle.session_report.specs.Session.{session_text}
+use Rattle.shared_link.specs.Joint.{IsJoint, JointCase}
 use Rattle.abrlab_top.specs.Check.{verdict_text}
 use Rattle.abrlab_top.specs.Claim.{claim_of, claim_text}
 use Rattle.abrlab_top.specs.Plan.{grid_in, parts_text, task_on}
+use Rattle.abrlab_top.specs.Players.{joint_on, joint_text, player_line}
+use Rattle.abrlab_top.specs.Regret.{best_on, regret_text, score_on, scores_over}
 use Rattle.abrlab_top.specs.Runs.{World}
 use Rattle.abrlab_top.specs.Simulate.{case_on}
 
@@ -34,6 +39,13 @@ use Rattle.abrlab_top.specs.Simulate.{case_on}
 -- the text is the session that the millisecond player has on this case, with its score
 abbrev pub IsSession : Case → Text → Type 0
 IsSession case text = text ≡ session_text (session_of case) case.setup.weights
+
+-- the text is the joint session of this case, which is within the limits: of each player in order its line, and the session that it shows
+-- on the link which all share. Of one rule this is the session of the millisecond player under that rule, which has the link for itself
+pub record IsJointSession (j : JointCase) (text : Text) : Type 0 where
+  pub within : IsJoint j
+  pub is : text ≡ joint_text j
+  pub alone : (rule : RuleKind) → j.rules ≡ rule ∷ [] → text ≡ player_line 1 ++ session_text (session_of (case_of j.film j.periods j.setup [] all_ahead rule)) j.setup.weights
 
 -- the text is a rung list with its score, and on a grid with its bound, or the list's certificate. The list has that score for its value:
 -- the score of the session in which the millisecond player of the task plays it; no rung list has a value above the bound; the
@@ -76,9 +88,18 @@ abbrev pub WhereDone : Verb → (CommandWords → InputValues → List Period �
 WhereDone v OfText line old result new =
     (c : CommandWords) (files : Files) → command_of line ≡ Some c → c.verb ≡ v → Tells old.shelf files → result ≡ 0 → Proves c files (OfText c) old new
 
--- of `simulate`: the session under the one rule of the words
+-- where words ask for `simulate`, of several players or of one, and the run answers 0, over told files it proves this
+abbrev pub WhereSimulated : Bool → (CommandWords → InputValues → List Period → Text → Type 0) → List Text → World → ℕ → World → Type 0
+WhereSimulated several OfText line old result new =
+    (c : CommandWords) (files : Files) → command_of line ≡ Some c → c.verb ≡ verb.Simulate → c.players ≡ several → Tells old.shelf files → result ≡ 0 → Proves c files (OfText c) old new
+
+-- of `simulate --rule`: the session under the one rule of the words
 abbrev pub Simulates : List Text → World → ℕ → World → Type 0
-Simulates = WhereDone verb.Simulate (λ c i periods text. (rule : Text × RuleKind) × (i.rules ≡ rule ∷ []) × IsSession (case_on i periods rule.1) text)
+Simulates = WhereSimulated false (λ c i periods text. (rule : Text × RuleKind) × (i.rules ≡ rule ∷ []) × IsSession (case_on i periods rule.1) text)
+
+-- of `simulate --players`: the joint session under the rules of the words, in order
+abbrev pub PlaysJointly : List Text → World → ℕ → World → Type 0
+PlaysJointly = WhereSimulated true (λ c i periods text. (i.rules ≡ c.rules) × IsJointSession (joint_on i periods) text)
 
 -- of `plan`: a rung list and a bound; without a grid this is the list's own score, so no list is better
 abbrev pub PlansTheBest : List Text → World → ℕ → World → Type 0
@@ -89,11 +110,40 @@ PlansTheBest =
 abbrev pub SaysYesSoundly : List Text → World → ℕ → World → Type 0
 SaysYesSoundly = WhereDone verb.Check (λ c i periods text. (p : IsYes (task_on i periods) c.gap i.certificate text) × (c.gap ≡ false → p.claim.bound ≡ p.claim.inner.score))
 
+-- ---- regrets
+
+-- the list has this value, and no rung list has a greater one
+abbrev pub IsGreatest : Task → ℤ → Type 0
+IsGreatest g best = (rungs : List ℕ) × Settles g rungs best best
+
+-- no session of a rule scores more than the best, on these networks; nor is a sum of its regrets below 0, or the worst of them
+pub record IsBehind (i : InputValues) (rule : RuleKind) : Type 0 where
+  pub scores : All (λ n. score_on i n.1 rule ≤ℤ best_on i n.1) i.networks
+  pub regret : pos 0 ≤ℤ (total_of (scores_over i i.networks rule)).regret
+  pub worst : pos 0 ≤ℤ (total_of (scores_over i i.networks rule)).worst
+
+-- the files of the command were read and its settings fit. `out` has grown by exactly the text of regrets: each score is that of the
+-- session of the rule with an empty history, each best is the greatest value of all rung lists on its network, the sums and the worst
+-- are theirs; and no regret is negative
+pub record ProvesRegrets (c : CommandWords) (files : Files) (old new : World) : Type 0 where
+  pub inputs : InputValues
+  pub read : ready_of c files ≡ Ok inputs
+  pub bests : All (λ n. IsGreatest (task_on inputs n.1) (best_on inputs n.1)) inputs.networks
+  pub behind : All (λ rule. IsBehind inputs rule.1) inputs.rules
+  pub out : Grew old.out.written (regret_text inputs) new.out.written
+  pub err : new.err ≡ old.err
+
+-- of `compare --regret`: where the run answers 0, over told files it proves this
+abbrev pub TellsRegrets : List Text → World → ℕ → World → Type 0
+TellsRegrets line old result new =
+    (c : CommandWords) (files : Files) → command_of line ≡ Some c → c.verb ≡ verb.Compare → c.regret ≡ true → Tells old.shelf files → result ≡ 0 → ProvesRegrets c files old new
+
 -- ---- THE HEADLINE
 
 -- a command line without an option of further reach
 pub record IsPlain (c : CommandWords) : Type 0 where
   pub on_demand : c.live ≡ None
+  pub one_player : c.players ≡ false
   pub exact : c.coarse_time ≡ 0
   pub no_gap : c.gap ≡ false
 

@@ -30,7 +30,7 @@ Asked named ending.Done old new = Asks named old new
 Asked named ending.Invalid old new = Asks named old new
 Asked named ending.Usage old new = new ≡ old
 Asked named (ending.Stopped why) old new = AsksFor named why old new
-Asked named (ending.Spent segment) old new = Asks named old new
+Asked named (ending.Spent trace segment) old new = Asks named old new
 Asked named ending.OutputFailed old new = Asks named old new
 Asked named ending.NoMemory old new = AsksSome named old new
 
@@ -42,7 +42,7 @@ Leaves m ending.Done old new = Unit {0}
 Leaves m ending.Invalid old new = m.checks ≡ true
 Leaves m ending.Usage old new = (m.refused ≡ true) × (new ≡ old)
 Leaves m (ending.Stopped why) old new = new ≡ old
-Leaves m (ending.Spent segment) old new = new ≡ old
+Leaves m (ending.Spent trace segment) old new = new ≡ old
 Leaves m ending.OutputFailed old new = OutFails old new
 Leaves m ending.NoMemory old new = m.between ≡ false → (new ≡ old) ⊎ Rose old.wants new.wants
 
@@ -52,7 +52,7 @@ ComesTo meant ending.Done old new = Answers meant (λ a. (a.ending ≡ ending.Do
 ComesTo meant ending.Invalid old new = Answers meant (λ a. (a.ending ≡ ending.Invalid) × Grew old.written a.text new.written)
 ComesTo meant ending.Usage old new = meant ≡ Err ending.Usage
 ComesTo meant (ending.Stopped why) old new = StopsAt ending.Stopped meant why
-ComesTo meant (ending.Spent segment) old new = meant ≡ Err (ending.Spent segment)
+ComesTo meant (ending.Spent trace segment) old new = meant ≡ Err (ending.Spent trace segment)
 ComesTo meant ending.OutputFailed old new = Answers meant (λ a. IsWhole a.ending × GrewPart old.written a.text new.written)
 ComesTo meant ending.NoMemory old new = GrewPart old.written (text_in meant) new.written
 

@@ -58,7 +58,7 @@ Writes m meant old ending.Done new = Answers meant (λ a. (a.ending ≡ ending.D
 Writes m meant old ending.Invalid new = (m.checks ≡ true) × Answers meant (λ a. (a.ending ≡ ending.Invalid) × Grew old.written a.text new.written)
 Writes m meant old ending.Usage new = ⊥
 Writes m meant old (ending.Stopped why) new = IsLate m.checks why × (meant ≡ Err (ending.Stopped why)) × (new ≡ old)
-Writes m meant old (ending.Spent segment) new = (meant ≡ Err (ending.Spent segment)) × (new ≡ old)
+Writes m meant old (ending.Spent trace segment) new = (meant ≡ Err (ending.Spent trace segment)) × (new ≡ old)
 Writes m meant old ending.OutputFailed new = OutFails old new × Answers meant (λ a. IsWhole a.ending × GrewPart old.written a.text new.written)
 Writes m meant old ending.NoMemory new =
     (m.between ≡ false → (new ≡ old) ⊎ Rose old.wants new.wants) × GrewPart old.written (text_in meant) new.written
@@ -95,6 +95,6 @@ Judges gap i (Err ending.Done) = ⊥
 Judges gap i (Err ending.Invalid) = ⊥
 Judges gap i (Err ending.Usage) = ⊥
 Judges gap i (Err (ending.Stopped why)) = IsLate true why × (check gap i ≡ Err (ending.Stopped why))
-Judges gap i (Err (ending.Spent segment)) = ⊥
+Judges gap i (Err (ending.Spent trace segment)) = ⊥
 Judges gap i (Err ending.OutputFailed) = ⊥
 Judges gap i (Err ending.NoMemory) = Unit {0}

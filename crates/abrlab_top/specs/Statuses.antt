@@ -1,6 +1,6 @@
 -- What each status has for a cause, what a run leaves of the shelf, and when the status is the one that words and files ask for: each
 -- follows from `Runs`.
-use Rattle.std.specs.Prelude.{◌≡◌, ◌⊎◌, ℕ, ◌==◌, ◌<◌, ◌-◌, ◌^◌, true, false, List, [], ◌∷◌, None, Ok, Err, Contains, IsSome}
+use Rattle.std.specs.Prelude.{◌≡◌, ◌⊎◌, ℕ, ◌==◌, ◌<◌, ◌-◌, ◌^◌, true, false, List, [], ◌∷◌, Option, None, Ok, Err, Contains, IsSome}
 use Rattle.std.specs.List.{list_any}
 use Rattle.lab_io.specs.Shelf.{Shelved}
 use Rattle.lab_io.specs.Sink.{Text, Rose}
@@ -51,7 +51,7 @@ pub record HasCause (line : List Text) (old : World) (result : ℕ) (new : World
   -- 5: `out` did not take the text
   pub output : result ≡ 5 → Runs line old ending.OutputFailed new
   -- 6: the frontiers spend the budget
-  pub spent : result ≡ 6 → (segment : ℕ) × Runs line old (ending.Spent segment) new
+  pub spent : result ≡ 6 → (trace : Option ℕ) × (segment : ℕ) × Runs line old (ending.Spent trace segment) new
   -- 9: memory was wanting
   pub memory : result ≡ 9 → Runs line old ending.NoMemory new × (begins_with_verb line ≡ true)
 

@@ -5,9 +5,6 @@ ghost use Rattle.std.specs.List.{slice_get};
 ghost use Rattle.lab_io.specs.Piece.{fields_line};
 ghost use Rattle.lab_io.specs.Sink.{Puts, Text};
 ghost use Rattle.lab_model.specs.declared.trace.Period.{Period};
-ghost use Rattle.lab_words.specs.declared.Verb.TheVariants as verb;
-ghost use Rattle.lab_words.specs.Command.{view};
-ghost use Rattle.lab_words.specs.Limits.{IsWithinLimits};
 ghost use Rattle.lab_inputs.specs.Inputs.{InputValues};
 ghost use Rattle.lab_inputs.specs.Roles.{film_files};
 ghost use Rattle.lab_inputs.specs.Settings.{Fits, settled};
@@ -23,13 +20,13 @@ ghost use Rattle.abrlab_top.specs.Stages.{Judges, Writes, bad_line, of_a_check};
 
 use crate::ahead::media_ahead;
 use crate::ending::Ending;
+use crate::request::CheckWords;
 use certificate_check::{Verdict, check_lines_from};
 use certificate_text::Lines;
 use lab_inputs::{FileFault, Inputs, Network, Role, Stop, read_inputs};
 use lab_io::Piece::{Number, Word};
 use lab_io::{PutErr, Shelf, Sink, put_fields, put_text};
 use lab_model::InputFault;
-use lab_words::Command;
 use network_clock::Clock;
 use std::alloc::Global;
 
@@ -219,18 +216,15 @@ fn write_verdict<O: Sink>(
 /// Reads the files, checks the certificate and writes the verdict.
 pub(crate) fn check<F: Shelf, O: Sink>(
     alloc: Global,
-    command: Command,
+    words: CheckWords,
     shelf: &mut F,
     out: &mut O,
 ) -> Result<(), Ending>
-    requires limits { IsWithinLimits (view command) }
-    requires verb { (view command).verb ≡ verb.Check }
-    ensures { Ends (film_files (view command)) of_a_check
-        (about (check (view command).gap) (view command))
+    ensures { Ends (film_files words) of_a_check (about (check words.gap) words)
         (F.shelved shelf.old) (O.seen out.old) (ended result)
         (F.shelved shelf.new) (O.seen out.new) }
 {
-    let gap = command.gap;
-    let inputs = read_inputs(alloc, shelf, command)?;
+    let gap = words.gap();
+    let inputs = read_inputs(alloc, shelf, words.into_film_words())?;
     write_verdict(alloc, &inputs, gap, out)
 }

@@ -14,9 +14,12 @@ use crate::compare::compare;
 use crate::demo::demo;
 use crate::ending::Ending;
 use crate::plan::plan;
+use crate::players::players;
+use crate::regret::regret;
+use crate::request::Request;
 use crate::simulate::simulate;
 use lab_io::{Shelf, Sink};
-use lab_words::{Command, Verb, WordsErr, read_words};
+use lab_words::{Command, WordsErr, read_words};
 use std::alloc::Global;
 
 /// Reads what a command needs, and writes what it answers.
@@ -31,12 +34,14 @@ fn answer_command<F: Shelf, O: Sink>(
         (F.shelved shelf.old) (O.seen out.old) (ended result)
         (F.shelved shelf.new) (O.seen out.new) }
 {
-    match command.verb {
-        Verb::Simulate => simulate(alloc, command, shelf, out),
-        Verb::Compare => compare(alloc, command, shelf, out),
-        Verb::Plan => plan(alloc, command, shelf, out),
-        Verb::Check => check(alloc, command, shelf, out),
-        Verb::Demo => demo(alloc, command.number, out),
+    match Request::of(command) {
+        Request::Simulate(words) => simulate(alloc, words, shelf, out),
+        Request::Players(words) => players(alloc, words, shelf, out),
+        Request::Compare(words) => compare(alloc, words, shelf, out),
+        Request::Regret(words) => regret(alloc, words, shelf, out),
+        Request::Plan(words, options) => plan(alloc, words, options, shelf, out),
+        Request::Check(words) => check(alloc, words, shelf, out),
+        Request::Demo(number) => demo(alloc, number, out),
     }
 }
 

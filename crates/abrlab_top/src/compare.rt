@@ -2,8 +2,6 @@
 
 ghost use Rattle.std.specs.Prelude.{map};
 ghost use Rattle.std.specs.List.{flat_map};
-ghost use Rattle.lab_words.specs.Command.{view};
-ghost use Rattle.lab_words.specs.Limits.{HasFilm, IsWithinLimits};
 ghost use Rattle.lab_inputs.specs.Roles.{film_files};
 ghost use Rattle.lab_inputs.specs.Settings.{Fits};
 ghost use Rattle.lab_inputs.specs.Stages.{network_of};
@@ -15,10 +13,9 @@ ghost use Rattle.abrlab_top.specs.Stages.{Writes, WritesRows, row_by_row};
 
 use crate::ending::Ending;
 use crate::row::Bench;
-use lab_inputs::{Inputs, Network, read_inputs};
+use lab_inputs::{FilmWords, Inputs, Network, read_inputs};
 use lab_io::Piece::Word;
 use lab_io::{PutErr, Shelf, Sink, put_fields};
-use lab_words::Command;
 use network_clock::Clock;
 use std::alloc::Global;
 
@@ -71,16 +68,14 @@ fn write_comparison<O: Sink>(alloc: Global, inputs: &Inputs, out: &mut O) -> Res
 /// Reads the files, and plays each session right before its row is written.
 pub(crate) fn compare<F: Shelf, O: Sink>(
     alloc: Global,
-    command: Command,
+    words: FilmWords,
     shelf: &mut F,
     out: &mut O,
 ) -> Result<(), Ending>
-    requires limits { IsWithinLimits (view command) }
-    requires film { HasFilm (view command).verb }
-    ensures { Ends (film_files (view command)) row_by_row (about compare (view command))
+    ensures { Ends (film_files words) row_by_row (about compare words)
         (F.shelved shelf.old) (O.seen out.old) (ended result)
         (F.shelved shelf.new) (O.seen out.new) }
 {
-    let inputs = read_inputs(alloc, shelf, command)?;
+    let inputs = read_inputs(alloc, shelf, words)?;
     write_comparison(alloc, &inputs, out)
 }

@@ -1,16 +1,17 @@
 //! How a run ends: its status and its note.
 
-ghost use Rattle.std.specs.Prelude.{◌≡◌, ◌∷◌, []};
+ghost use Rattle.std.specs.Prelude.{◌≡◌, ◌++◌, ◌∷◌, [], Some, codes};
 ghost use Rattle.std.specs.Fmt.{decimal};
 ghost use Rattle.lab_io.specs.Piece.{fields_line};
 ghost use Rattle.lab_io.specs.Sink.{Puts};
-ghost use Rattle.abrlab_top.specs.Ending.{Told, fault_status, note_of, status_of, stop_status};
+ghost use Rattle.abrlab_top.specs.Ending.{Told, fault_status, note_of, spender, spending, status_of, stop_status};
 
 use frontier_planner::PlanErr;
 use lab_inputs::{FileFault, Halt, Stop, put_stop};
 use lab_io::Piece::{Number, Word};
-use lab_io::{PutErr, Sink, put_fields, put_text};
+use lab_io::{PutErr, Sink, put_fields, put_number, put_text};
 use lab_model::NoMemory;
+use std::alloc::AllocFailed;
 
 /// How a run ends.
 #[derive(Clone, Copy, PartialEq, Eq, Debug)]
@@ -23,8 +24,13 @@ pub enum Ending {
     Usage,
     /// The command stopped before it wrote: a file or a setting is refused, or a file was not read.
     Stopped(Stop),
-    /// The labels of a plan, up to the end of this segment and not before, are more than the budget.
-    Spent(u16),
+    /// The labels of a plan are more than the budget.
+    Spent {
+        /// The place of the plan's trace, counted from 1, where each trace is planned.
+        trace: Option<usize>,
+        /// The first segment, counted from 0, up to whose end the labels are more.
+        segment: u16,
+    },
     /// `out` did not take the text.
     OutputFailed,
     /// Memory was wanting.
@@ -78,7 +84,10 @@ impl From<PlanErr> for Ending {
 
     fn from(failure: PlanErr) -> Ending {
         match failure {
-            PlanErr::BudgetSpent { segment } => Ending::Spent(segment),
+            PlanErr::BudgetSpent { segment } => Ending::Spent {
+                trace: None,
+                segment,
+            },
             PlanErr::Memory => Ending::NoMemory,
         }
     }
@@ -91,6 +100,17 @@ impl From<NoMemory> for Ending {
     ghost from_gives = { λ _ e. e ≡ ending.NoMemory };
 
     fn from(_refused: NoMemory) -> Ending {
+        Ending::NoMemory
+    }
+}
+
+impl<T: Drop> From<AllocFailed<T>> for Ending {
+    ghost use Rattle.std.specs.Prelude.{◌≡◌};
+    ghost use Rattle.abrlab_top.specs.declared.ending.Ending.TheVariants as ending;
+
+    ghost from_gives = { λ _ e. e ≡ ending.NoMemory };
+
+    fn from(_refused: AllocFailed<T>) -> Ending {
         Ending::NoMemory
     }
 }
@@ -113,6 +133,39 @@ fn stop_status(stop: Stop) -> u8
     }
 }
 
+/// Says a place.
+fn put_place<E: Sink>(err: &mut E, place: usize) -> Result<(), PutErr>
+    ensures { Puts (E.seen err.old) (decimal place) (E.seen err.new) result }
+{
+    put_number(err, place as i128)
+}
+
+/// Says a place, and that something about it follows.
+fn put_head<E: Sink>(err: &mut E, place: usize) -> Result<(), PutErr>
+    ensures { Puts (E.seen err.old) (decimal place ++ codes ": ") (E.seen err.new) result }
+{
+    put_place(err, place)?;
+    put_text(err, ": ")
+}
+
+/// Says which of several traces it is about.
+fn put_trace<E: Sink>(err: &mut E, place: usize) -> Result<(), PutErr>
+    ensures { Puts (E.seen err.old) (spender (Some place)) (E.seen err.new) result }
+{
+    put_text(err, "abrlab: trace ")?;
+    put_head(err, place)
+}
+
+/// Says whose budget it is about.
+fn put_spender<E: Sink>(err: &mut E, trace: Option<usize>) -> Result<(), PutErr>
+    ensures { Puts (E.seen err.old) (spender trace) (E.seen err.new) result }
+{
+    match trace {
+        Some(place) => put_trace(err, place),
+        None => put_text(err, "abrlab: "),
+    }
+}
+
 /// Says which segment, and ends the line.
 fn put_segment<E: Sink>(err: &mut E, segment: u16) -> Result<(), PutErr>
     ensures { Puts (E.seen err.old) (fields_line (decimal segment ∷ [])) (E.seen err.new) result }
@@ -120,12 +173,20 @@ fn put_segment<E: Sink>(err: &mut E, segment: u16) -> Result<(), PutErr>
     put_fields(err, &[Number(segment as i128)])
 }
 
-/// Says at the end of which segment the budget was spent.
-fn put_spent<E: Sink>(err: &mut E, segment: u16) -> Result<(), PutErr>
-    ensures { Puts (E.seen err.old) (note_of (Ending.Spent segment)) (E.seen err.new) result }
+/// Says at the end of which segment a budget was spent.
+fn put_spending<E: Sink>(err: &mut E, segment: u16) -> Result<(), PutErr>
+    ensures { Puts (E.seen err.old) (spending segment) (E.seen err.new) result }
 {
-    put_text(err, "abrlab: budget spent at segment ")?;
+    put_text(err, "budget spent at segment ")?;
     put_segment(err, segment)
+}
+
+/// Says whose budget was spent, and at the end of which segment.
+fn put_spent<E: Sink>(err: &mut E, trace: Option<usize>, segment: u16) -> Result<(), PutErr>
+    ensures { Puts (E.seen err.old) (note_of (Ending.Spent trace segment)) (E.seen err.new) result }
+{
+    put_spender(err, trace)?;
+    put_spending(err, segment)
 }
 
 impl Ending {
@@ -138,7 +199,7 @@ impl Ending {
             Ending::Invalid => 1,
             Ending::Usage => 2,
             Ending::Stopped(stop) => stop_status(stop),
-            Ending::Spent(_) => 6,
+            Ending::Spent { .. } => 6,
             Ending::OutputFailed => 5,
             Ending::NoMemory => 9,
         }
@@ -154,7 +215,7 @@ impl Ending {
             Ending::Done | Ending::Invalid => Ok(()),
             Ending::Usage => put_fields(err, &[Word(usage)]),
             Ending::Stopped(stop) => put_stop(err, stop),
-            Ending::Spent(segment) => put_spent(err, segment),
+            Ending::Spent { trace, segment } => put_spent(err, trace, segment),
             Ending::OutputFailed => put_fields(err, &[Word("abrlab: output failed")]),
             Ending::NoMemory => put_fields(err, &[Word("abrlab: no memory")]),
         };

@@ -10,6 +10,9 @@ mod ending;
 mod laws;
 mod memory;
 mod plan;
+mod players;
+mod regret;
+mod request;
 mod row;
 mod rule;
 mod simulate;
@@ -17,7 +20,7 @@ mod simulate;
 ghost use Rattle.std.specs.Prelude.{◌≡◌, map, string_bytes};
 ghost use Rattle.abrlab_top.specs.declared.ending.Ending.{Ending};
 ghost use Rattle.abrlab_top.specs.Ending.{status_of};
-ghost use Rattle.abrlab_top.specs.Proves.{Headline, PlansTheBest, SaysYesSoundly, Simulates};
+ghost use Rattle.abrlab_top.specs.Proves.{Headline, PlansTheBest, PlaysJointly, SaysYesSoundly, Simulates, TellsRegrets};
 ghost use Rattle.abrlab_top.specs.Runs.{Runs, world};
 
 use crate::command::run_command;
@@ -33,12 +36,13 @@ use std::alloc::Global;
 ///
 /// The answer is the status. 0: the text went out whole. 1: the same, and it says that a certificate isn't valid. 2: the words
 /// are refused. 3: a file is longer than its limit or is refused by its reader, or the settings do not fit the film. 4: a file
-/// was not read. 5: `out` did not take the text. 6: the labels of a plan are more than its budget. 9: out of memory.
+/// was not read. 5: `out` did not take the text. 6: the labels of a plan are more than the budget; with `--regret` of the plan on
+/// some trace. 9: out of memory.
 ///
 /// Refusals come in this order: the words; the files one after the other, of each first that it was not read, then that it is
 /// too long, then its first fault; the first bad line of a certificate; the buffer, the utilities and the rules; the budget. Only
 /// the files that the words name are fetched, in this order and each once. Nothing stands on `out` before all is played and
-/// planned, but `compare` and `demo` write a row as soon as they have it.
+/// planned, but `demo` and `compare` without `--regret` write a row as soon as they have it.
 pub fn run<F: Shelf, O: Sink, E: Sink>(
     alloc: Global,
     words: &[String],
@@ -55,11 +59,19 @@ pub fn run<F: Shelf, O: Sink, E: Sink>(
         (world (F.shelved shelf.old) (O.seen out.old) (E.seen err.old))
         result
         (world (F.shelved shelf.new) (O.seen out.new) (E.seen err.new)) }
+    ensures plays_jointly { PlaysJointly (map string_bytes words.now)
+        (world (F.shelved shelf.old) (O.seen out.old) (E.seen err.old))
+        result
+        (world (F.shelved shelf.new) (O.seen out.new) (E.seen err.new)) }
     ensures plans { PlansTheBest (map string_bytes words.now)
         (world (F.shelved shelf.old) (O.seen out.old) (E.seen err.old))
         result
         (world (F.shelved shelf.new) (O.seen out.new) (E.seen err.new)) }
     ensures checks { SaysYesSoundly (map string_bytes words.now)
+        (world (F.shelved shelf.old) (O.seen out.old) (E.seen err.old))
+        result
+        (world (F.shelved shelf.new) (O.seen out.new) (E.seen err.new)) }
+    ensures regrets { TellsRegrets (map string_bytes words.now)
         (world (F.shelved shelf.old) (O.seen out.old) (E.seen err.old))
         result
         (world (F.shelved shelf.new) (O.seen out.new) (E.seen err.new)) }

@@ -4,9 +4,6 @@ ghost use Rattle.std.specs.Prelude.{◌≡◌, ◌≤◌, ◌∷◌, [], IfSome,
 ghost use Rattle.std.specs.Fmt.{decimal};
 ghost use Rattle.lab_io.specs.Piece.{fields_line};
 ghost use Rattle.lab_io.specs.Sink.{Puts};
-ghost use Rattle.lab_words.specs.declared.Verb.TheVariants as verb;
-ghost use Rattle.lab_words.specs.Command.{view};
-ghost use Rattle.lab_words.specs.Limits.{IsWithinLimits};
 ghost use Rattle.lab_model.specs.Fit.{SetupFits};
 ghost use Rattle.player_core.specs.Scene.{IsTask, task_of};
 ghost use Rattle.labels.specs.Parts.{plan_parts};
@@ -17,63 +14,25 @@ ghost use Rattle.gap_plan.specs.Gap.{plan_gap};
 ghost use Rattle.lab_inputs.specs.Roles.{film_files};
 ghost use Rattle.abrlab_top.specs.Ending.{ended};
 ghost use Rattle.abrlab_top.specs.Outcome.{about};
-ghost use Rattle.abrlab_top.specs.Plan.{AreOptions, IsPlanned, bound_line, coarse_lines, grid_in, options_of, parts_text, plan, plan_lines, steps_of};
+ghost use Rattle.abrlab_top.specs.Plan.{IsPlanned, bound_line, coarse_lines, parts_text, plan, plan_lines, steps_of};
 ghost use Rattle.abrlab_top.specs.Runs.{Ends};
 ghost use Rattle.abrlab_top.specs.Stages.{Writes, at_the_end};
 
 use crate::ahead::media_ahead;
 use crate::ending::Ending;
+use crate::request::PlanOptions;
 use certificate_text::{put_plan, put_score, write_certificate};
 use frontier_planner::{CoarsePlan, Grid, Plan, PlanErr, plan_from};
 use gap_plan::write_gap;
-use lab_inputs::{Inputs, read_inputs};
+use lab_inputs::{FilmWords, Inputs, read_inputs};
 use lab_io::Piece::{Number, Word};
 use lab_io::{PutErr, Shelf, Sink, put_fields};
 use lab_model::{Manifest, Setup};
-use lab_words::Command;
 use network_clock::Clock;
 use std::alloc::Global;
 
 /// The grid on which nothing changes.
 const EXACT: Grid = Grid { time: 1, value: 1 };
-
-/// What is asked of `plan`.
-#[derive(Clone, Copy)]
-pub(crate) struct PlanOptions {
-    /// The grid of a coarse plan.
-    pub grid: Option<Grid>,
-    /// The most labels, 1 to 1000000.
-    pub budget: u32,
-    /// Whether the certificate is to be written.
-    pub as_certificate: bool,
-}
-
-/// The grid with these steps, none where there are none.
-fn grid_in(time: u32, value: u32) -> Option<Grid>
-    ensures { result ≡ grid_in time value }
-{
-    if time == 0 {
-        None
-    } else {
-        Some(Grid { time, value })
-    }
-}
-
-impl PlanOptions {
-    /// What a command asks for.
-    fn of(command: &Command) -> PlanOptions
-        requires limits { IsWithinLimits (view command.now) }
-        requires verb { (view command.now).verb ≡ verb.Plan }
-        ensures value { result ≡ options_of (view command.now) }
-        ensures within { AreOptions result }
-    {
-        PlanOptions {
-            grid: grid_in(command.coarse_time, command.coarse_value),
-            budget: command.budget,
-            as_certificate: command.as_certificate,
-        }
-    }
-}
 
 /// The steps of the planner's grid: without one nothing is rounded.
 fn steps_of(grid: Option<Grid>) -> Grid
@@ -176,14 +135,15 @@ fn put_answer<O: Sink>(
         planned.now.bound planned.now.plan.labels)
         (O.seen out.new) result }
 {
-    match options.grid {
-        Some(_) => put_coarse(out, m, planned, options.as_certificate),
-        None => put_exact(out, m, planned, options.as_certificate),
+    let as_certificate = options.as_certificate();
+    match options.grid() {
+        Some(_) => put_coarse(out, m, planned, as_certificate),
+        None => put_exact(out, m, planned, as_certificate),
     }
 }
 
 /// The plan where so much media is ahead.
-fn plan_on(
+pub(crate) fn plan_on(
     alloc: Global,
     m: &Manifest,
     clock: &Clock,
@@ -193,14 +153,13 @@ fn plan_on(
 ) -> Result<CoarsePlan, PlanErr>
     requires setup { SetupFits set.now m.now }
     requires ahead { ahead ≤ 120000000 }
-    requires options { AreOptions options }
     ensures answer { IsPlanned options.grid (task_of m.now clock.now set.now ahead)
         options.budget result }
     ensures task { IsTask (task_of m.now clock.now set.now ahead) }
 {
     prove!(m.segments() > 0 && set.weights.count() > 0 && !clock.periods().is_empty());
-    let steps = steps_of(options.grid);
-    plan_from(alloc, m, clock, set, ahead, steps, options.budget)
+    let steps = steps_of(options.grid());
+    plan_from(alloc, m, clock, set, ahead, steps, options.budget())
 }
 
 /// Plans and writes the plan, or its certificate.
@@ -210,7 +169,6 @@ fn write_plan<O: Sink>(
     options: PlanOptions,
     out: &mut O,
 ) -> Result<(), Ending>
-    requires options { AreOptions options }
     ensures { Writes at_the_end (plan options inputs.now)
         (O.seen out.old) (ended result) (O.seen out.new) }
 {
@@ -227,18 +185,15 @@ fn write_plan<O: Sink>(
 /// Reads the files, plans and writes the plan.
 pub(crate) fn plan<F: Shelf, O: Sink>(
     alloc: Global,
-    command: Command,
+    words: FilmWords,
+    options: PlanOptions,
     shelf: &mut F,
     out: &mut O,
 ) -> Result<(), Ending>
-    requires limits { IsWithinLimits (view command) }
-    requires verb { (view command).verb ≡ verb.Plan }
-    ensures { Ends (film_files (view command)) at_the_end
-        (about (plan (options_of (view command))) (view command))
+    ensures { Ends (film_files words) at_the_end (about (plan options) words)
         (F.shelved shelf.old) (O.seen out.old) (ended result)
         (F.shelved shelf.new) (O.seen out.new) }
 {
-    let options = PlanOptions::of(&command);
-    let inputs = read_inputs(alloc, shelf, command)?;
+    let inputs = read_inputs(alloc, shelf, words)?;
     write_plan(alloc, &inputs, options, out)
 }

@@ -1,13 +1,14 @@
 //! The rules of a command line.
 
-ghost use Rattle.std.specs.Prelude.{◌≡◌, [], IfOk};
+ghost use Rattle.std.specs.Prelude.{◌≡◌, [], IfOk, map};
+ghost use Rattle.std.specs.List.{All};
 ghost use Rattle.lab_words.specs.Limits.{IsRuleWithin};
 ghost use Rattle.lab_words.specs.Rules.{spoken};
 ghost use Rattle.abrlab_top.specs.Rules.{StandsFor, kind_of};
 
 use bola_rule::Bola;
 use lab_model::{Context, Manifest, NoMemory, Rule, Sample, Setup};
-use lab_words::RuleWords;
+use lab_words::{NamedRule, RuleWords};
 use mpc_rule::{MpcErr, RobustMpc};
 use player_core::{Fixed, Listed};
 use std::alloc::Global;
@@ -91,4 +92,18 @@ pub(crate) fn any_rule(alloc: Global, rule: &RuleWords) -> Result<AnyRule, NoMem
             Err(MpcErr::BadHorizon) => unreachable!(),
         },
     }
+}
+
+/// The rules that the words spell, in order, each before its first sample.
+pub(crate) fn any_rules(alloc: Global, rules: &[NamedRule]) -> Result<Vec<AnyRule>, NoMemory>
+    requires { All (λ rule. IsRuleWithin (spoken rule.rule)) rules.now }
+    ensures kinds { IfOk result (λ rs. map kind_of rs.items
+        ≡ map (λ rule. spoken rule.rule) rules.now) }
+    ensures told { IfOk result (λ rs. All (λ r. StandsFor r []) rs.items) }
+{
+    let mut played = Vec::new(alloc);
+    for rule in rules {
+        played.push(any_rule(alloc, &rule.rule)?)?;
+    }
+    Ok(played)
 }

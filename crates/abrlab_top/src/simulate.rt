@@ -1,7 +1,5 @@
 //! `simulate`: the session of one network and one rule, on demand or live.
 
-ghost use Rattle.lab_words.specs.Command.{view};
-ghost use Rattle.lab_words.specs.Limits.{HasFilm, IsWithinLimits};
 ghost use Rattle.lab_inputs.specs.Roles.{film_files};
 ghost use Rattle.abrlab_top.specs.Ending.{ended};
 ghost use Rattle.abrlab_top.specs.Outcome.{about};
@@ -12,9 +10,8 @@ ghost use Rattle.abrlab_top.specs.Stages.{Writes, at_the_end};
 use crate::ahead::media_ahead;
 use crate::ending::Ending;
 use crate::rule::any_rule;
-use lab_inputs::{Inputs, read_inputs};
+use lab_inputs::{FilmWords, Inputs, read_inputs};
 use lab_io::{Shelf, Sink};
-use lab_words::Command;
 use network_clock::Clock;
 use player_core::play_from;
 use session_report::write_session;
@@ -49,16 +46,14 @@ fn write_simulation<O: Sink>(alloc: Global, inputs: &Inputs, out: &mut O) -> Res
 /// Reads the files, plays the session and writes its text.
 pub(crate) fn simulate<F: Shelf, O: Sink>(
     alloc: Global,
-    command: Command,
+    words: FilmWords,
     shelf: &mut F,
     out: &mut O,
 ) -> Result<(), Ending>
-    requires limits { IsWithinLimits (view command) }
-    requires film { HasFilm (view command).verb }
-    ensures { Ends (film_files (view command)) at_the_end (about simulate (view command))
+    ensures { Ends (film_files words) at_the_end (about simulate words)
         (F.shelved shelf.old) (O.seen out.old) (ended result)
         (F.shelved shelf.new) (O.seen out.new) }
 {
-    let inputs = read_inputs(alloc, shelf, command)?;
+    let inputs = read_inputs(alloc, shelf, words)?;
     write_simulation(alloc, &inputs, out)
 }

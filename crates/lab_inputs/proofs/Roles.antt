@@ -107,6 +107,14 @@ pub among_cons : (file : NamedFile) (files : List NamedFile) → networks_among 
 unfolding networks_among
 among_cons file files = sum_by-cons (λ (file : NamedFile). networks_in file.0) file files
 
+-- and so has one more behind them
+pub among_more : (files : List NamedFile) (file : NamedFile) → networks_among (files ++ file ∷ []) ≡ networks_among files + networks_in file.0
+unfolding networks_among
+among_more files file =
+    let both = sum_by-append (λ (file : NamedFile). networks_in file.0) files (file ∷ []) in
+    let one = sum_by-cons (λ (file : NamedFile). networks_in file.0) file [] in
+    omega (arith, both, one)
+
 -- no files are no networks
 pub among_none : networks_among [] ≡ 0
 unfolding networks_among

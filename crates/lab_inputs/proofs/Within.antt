@@ -1,13 +1,17 @@
 -- What the files of a command hold keeps the limits of films and networks, with one network for each that the words name; and a setup
 -- that fits is a setup for it.
-use Rattle.std.proofs.Common.{◌≡◌, ◌∙◌, ℕ, ◌+◌, ◌∷◌, [], List, Option, Some, None, Ok, length, ap, sym, refl, subst, arith}
+use Rattle.std.proofs.Common.{◌≡◌, ◌∙◌, ℕ, ◌+◌, ◌≤◌, ◌++◌, ◌∷◌, [], List, Option, Some, None, Ok, length, ap, sym, refl, subst, arith}
 use Rattle.lab_io.specs.Sink.{Text}
 use Rattle.lab_model.specs.Film.{Film}
 use Rattle.lab_model.specs.Steps.{◌>>=◌}
 use Rattle.lab_model.proofs.Steps.{map_ok-ok, then_ok}
+use Rattle.lab_words.specs.declared.Verb.{Verb}
+use Rattle.lab_words.specs.declared.Verb.TheVariants as verb
 use Rattle.lab_words.specs.Command.{CommandWords}
+use Rattle.lab_words.specs.Limits.{AreCounted, IsWithinLimits}
 use Rattle.manifest_reader.specs.Manifest.{manifest_of}
 use Rattle.manifest_reader.proofs.Accepted.{manifest-limits}
+use Rattle.lab_inputs.specs.declared.role.Role.{Role}
 use Rattle.lab_inputs.specs.declared.role.Role.TheVariants as role
 use Rattle.lab_inputs.specs.declared.stop.Setting.{Setting}
 use Rattle.lab_inputs.specs.Contents.{ContentValues, film_alone}
@@ -16,7 +20,7 @@ use Rattle.lab_inputs.specs.Inputs.{InputValues, contents_of, inputs_of, inputs_
 use Rattle.lab_inputs.specs.Roles.{NamedFile, later_files, row_of}
 use Rattle.lab_inputs.specs.Settings.{Fits, misfit, ready_of, settled, unless_misfit}
 use Rattle.lab_inputs.proofs.Fits.{all_fits}
-use Rattle.lab_inputs.proofs.Roles.{AreWithin, adds_count, adds_within, among_cons, among_none, networks_among, networks_named}
+use Rattle.lab_inputs.proofs.Roles.{AreWithin, adds_count, adds_within, among_cons, among_more, among_none, networks_among, networks_named}
 use Rattle.lab_inputs.proofs.Steps.{ok_same, read_ok, role_ok}
 use Rattle.lab_inputs.proofs.Tables.{no_table_is}
 
@@ -56,6 +60,25 @@ from_within manifest later files v h =
     let y = files_within later files (film_alone x.0) v x.2 (film_within manifest files x.0 (role_ok role.Manifest (film_in manifest files) x.0 x.1)) in
     let count = y.1 in
     (y.0, omega (arith, count))
+
+-- one file more adds its networks to those of the files before it
+pub one_more_counted : (r : Role) (name : Text) (v w : ContentValues) (before : List NamedFile) → length v.networks ≡ networks_among before → (bytes : Text) × ((row_of r).adds name v bytes ≡ Ok w)
+    → length w.networks ≡ networks_among (before ++ (r, name) ∷ [])
+one_more_counted r name v w before h x =
+    let one = adds_count r name x.0 v w x.1 in
+    let more = among_more before (r, name) in
+    omega (arith, one, h, more)
+
+-- no command names more than 64 networks
+pub few_networks : (c : CommandWords) → IsWithinLimits c → length c.traces ≤ 64
+few_networks c limits = by_verb c.verb limits.counts
+  where
+    by_verb : (v : Verb) → AreCounted v (length c.traces) (length c.rules) → length c.traces ≤ 64
+    by_verb verb.Simulate h = let one = h.0 in omega (arith, one)
+    by_verb verb.Compare h = h.0.1
+    by_verb verb.Plan h = let one = h.0 in omega (arith, one)
+    by_verb verb.Check h = let one = h.0 in omega (arith, one)
+    by_verb verb.Demo h = let none = h.0 in omega (arith, none)
 
 -- what a command is about, from what its files hold
 pub inputs_held : (c : CommandWords) (files : Files) (i : InputValues) → inputs_of c files ≡ Ok i → (v : ContentValues) × (i ≡ inputs_on c v) × (contents_of c files ≡ Ok v)

@@ -1,5 +1,5 @@
 -- What a command is about, as one value: what its files hold, with the setup and the rules of its words.
-use Rattle.std.specs.Prelude.{ℕ, List, Option, Some, None, Result}
+use Rattle.std.specs.Prelude.{◌≡◌, ℕ, List, Option, Some, None, Result, length}
 use Rattle.lab_io.specs.Sink.{Text}
 use Rattle.lab_model.specs.declared.context.Seek.{Seek}
 use Rattle.lab_model.specs.declared.setup.Setup.{Setup}
@@ -8,7 +8,8 @@ use Rattle.lab_model.specs.Film.{Film, rungs_of}
 use Rattle.lab_model.specs.Rules.{RuleKind}
 use Rattle.lab_model.specs.Steps.{map_ok}
 use Rattle.lab_model.specs.Weighing.{Weighing, table_weighing, weighing}
-use Rattle.lab_words.specs.Command.{CommandWords}
+use Rattle.lab_words.specs.declared.Command.{Command}
+use Rattle.lab_words.specs.Command.{CommandWords, view}
 use Rattle.lab_inputs.specs.declared.stop.Stop.{Stop}
 use Rattle.lab_inputs.specs.Contents.{ContentValues}
 use Rattle.lab_inputs.specs.Files.{Files, contents_from}
@@ -49,3 +50,13 @@ contents_of c = contents_from c.manifest (later_files c)
 -- what a command is about, by its files
 unfoldable pub inputs_of : CommandWords → Files → Result InputValues Stop
 inputs_of c files = map_ok (inputs_on c) (contents_of c files)
+
+-- what a command is about that these words ask for: its files hold it, with a network for each name
+pub record AreFor (c : CommandWords) (i : InputValues) : Type 0 where
+  pub contents : ContentValues
+  pub count : length contents.networks ≡ length c.traces
+  pub is : i ≡ inputs_on c contents
+
+-- the words of a command, without where they lie in memory
+abbrev pub words_of : Command → CommandWords
+words_of = view

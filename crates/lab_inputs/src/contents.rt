@@ -1,6 +1,7 @@
 //! What the files of a command hold, read in the order of refusals.
 
-ghost use Rattle.std.specs.Prelude.{◌≡◌, IfOk};
+ghost use Rattle.std.specs.Prelude.{◌≡◌, IfOk, Ok, OnOk, length};
+ghost use Rattle.lab_io.specs.Sink.{Text};
 ghost use Rattle.lab_model.specs.Film.{IsFilm, rungs_of, segments_of};
 ghost use Rattle.lab_model.specs.Reading.{Gives};
 ghost use Rattle.lab_model.specs.Seeks.{SeeksFit};
@@ -203,9 +204,11 @@ impl Contents {
         role: Role,
         name: &str,
     ) -> Result<(), FileErr>
-        ensures { Reads (role, name.now) (λ done. self.new)
+        ensures reads { Reads (role, name.now) (λ done. self.new)
             (with_file self.old (role, name.now))
             (F.shelved shelf.old) result (F.shelved shelf.new) }
+        ensures adds { OnOk result ((bytes : Text)
+            × ((row_of role).adds name.now self.old bytes ≡ Ok self.new)) }
     {
         let bytes = fetch_file(alloc, shelf, role, name)?;
         Ok(self.take_bytes(alloc, role, name, bytes)?)
@@ -228,8 +231,10 @@ pub(crate) fn read_contents<F: Shelf>(
     shelf: &mut F,
     command: &Command,
 ) -> Result<Contents, Halt>
-    ensures { Comes (film_files (view command.now)) (λ v. v) (contents_of (view command.now))
+    ensures comes { Comes (film_files (view command.now)) (λ v. v) (contents_of (view command.now))
         (F.shelved shelf.old) result (F.shelved shelf.new) }
+    ensures count { IfOk result
+        (λ v. length v.networks ≡ length (view command.now).traces) }
 {
     let later = later_files(alloc, command)?;
     let film = match read_film(alloc, shelf, &command.manifest) {

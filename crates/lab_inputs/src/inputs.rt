@@ -1,31 +1,32 @@
 //! What a command is about, as one value.
 
-ghost use Rattle.std.specs.Prelude.{◌≡◌, ◌/◌, ◌≤◌, IfSome, length, map, option_map, string_bytes};
+ghost use Rattle.std.specs.Prelude.{◌≡◌, ◌/◌, ◌≤◌, IfOk, IfSome, length, map, option_map, string_bytes};
 ghost use Rattle.std.specs.List.{All, slice_get};
 ghost use Rattle.lab_model.specs.Film.{segments_of};
 ghost use Rattle.lab_model.specs.Row.{AreUtilities};
 ghost use Rattle.lab_model.specs.Seeks.{SeeksFit};
-ghost use Rattle.lab_words.specs.Command.{named, view};
-ghost use Rattle.lab_words.specs.Limits.{AreWeighed, HasFilm, IsRuleWithin, IsWithinLimits};
+ghost use Rattle.lab_words.specs.Command.{named};
+ghost use Rattle.lab_words.specs.Limits.{AreWeighed, IsRuleWithin};
 ghost use Rattle.lab_words.specs.Rules.{spoken};
-ghost use Rattle.lab_inputs.specs.Inputs.{inputs_of, inputs_on, weights_by};
+ghost use Rattle.lab_inputs.specs.Inputs.{AreFor, inputs_of, inputs_on, weights_by};
 ghost use Rattle.lab_inputs.specs.Roles.{film_files};
 ghost use Rattle.lab_inputs.specs.Settings.{Fits, misfit};
 ghost use Rattle.lab_inputs.specs.Stages.{Comes, IsSettled, network_of};
 
 use crate::contents::{Contents, Network, read_contents};
+use crate::film_words::FilmWords;
 use crate::settings::misfit;
 use crate::stop::{Halt, Setting, Stop};
 use lab_io::Shelf;
 use lab_model::{Manifest, Seek, Setup, Weights};
-use lab_words::{Command, NamedRule};
+use lab_words::NamedRule;
 use std::alloc::Global;
 use std::marker::Model;
 
 /// What a command is about: what its files hold, with the setup and the rules of its words.
 ///
-/// The seeks are always within the film, and the numbers of the rules and the media ahead within their limits. Whether the
-/// setup and the rules fit the film is for `fit` to say.
+/// There are at most 64 networks, the seeks are always within the film, and the numbers of the rules and the media ahead within
+/// their limits. Whether the setup and the rules fit the film is for `fit` to say.
 #[derive(Drop)]
 pub struct Inputs {
     manifest: Manifest,
@@ -38,7 +39,7 @@ pub struct Inputs {
 }
 
 impl Model for Inputs {
-    ghost use Rattle.std.specs.Prelude.{◌≤◌, IfSome, map};
+    ghost use Rattle.std.specs.Prelude.{◌≤◌, IfSome, length, map};
     ghost use Rattle.lab_words.specs.Command.{named};
     ghost use Rattle.std.specs.List.{All};
     ghost use Rattle.lab_model.specs.Film.{segments_of};
@@ -61,7 +62,8 @@ impl Model for Inputs {
 
     ghost invariant = { λ i. SeeksFit i.seeks.items (segments_of i.manifest)
         × All (λ r. IsRuleWithin r.1) (map named i.rules.items)
-        × IfSome i.live (λ ms. ms ≤ 120000000) };
+        × IfSome i.live (λ ms. ms ≤ 120000000)
+        × (length i.networks.items ≤ 64) };
 }
 
 /// The weights with the utilities of the words, or those of the table where one is named.
@@ -93,11 +95,11 @@ fn weights_of(
 
 impl Inputs {
     /// What a command is about whose files hold this.
-    fn of(command: Command, contents: Contents) -> Inputs
-        requires limits { IsWithinLimits (view command) }
-        requires film { HasFilm (view command).verb }
-        ensures { result ≡ inputs_on (view command) contents }
+    fn of(words: FilmWords, contents: Contents) -> Inputs
+        requires count { length contents.networks ≡ length words.traces }
+        ensures { result ≡ inputs_on words contents }
     {
+        let command = words.into_command();
         let weights = weights_of(
             command.table,
             command.utilities,
@@ -138,7 +140,8 @@ impl Inputs {
 
     /// The networks, in the order of their names.
     pub fn networks(&self) -> &[Network]
-        ensures { map network_of result.now ≡ self.now.networks }
+        ensures value { map network_of result.now ≡ self.now.networks }
+        ensures few { length result.now ≤ 64 }
     {
         &self.networks
     }
@@ -208,12 +211,11 @@ impl Inputs {
 }
 
 /// What a command on a film is about: its files, read one after the other, and its settings.
-pub fn read_inputs<F: Shelf>(alloc: Global, shelf: &mut F, command: Command) -> Result<Inputs, Halt>
-    requires limits { IsWithinLimits (view command) }
-    requires film { HasFilm (view command).verb }
-    ensures { Comes (film_files (view command)) (λ i. i) (inputs_of (view command))
+pub fn read_inputs<F: Shelf>(alloc: Global, shelf: &mut F, words: FilmWords) -> Result<Inputs, Halt>
+    ensures comes { Comes (film_files words) (λ i. i) (inputs_of words)
         (F.shelved shelf.old) result (F.shelved shelf.new) }
+    ensures kept { IfOk result (AreFor words) }
 {
-    let contents = read_contents(alloc, shelf, &command)?;
-    Ok(Inputs::of(command, contents))
+    let contents = read_contents(alloc, shelf, words.command())?;
+    Ok(Inputs::of(words, contents))
 }

@@ -4,6 +4,7 @@
 
 mod contents;
 mod fetch;
+mod film_words;
 mod inputs;
 mod note;
 mod role;
@@ -11,6 +12,7 @@ mod settings;
 mod stop;
 
 pub use contents::Network;
+pub use film_words::FilmWords;
 pub use inputs::{Inputs, read_inputs};
 pub use note::put_stop;
 pub use role::Role;

@@ -4,6 +4,8 @@ use super::check::CHECK;
 use super::compare::{LINKS, PAIR, PAIR_TEXT};
 use super::demo::ONE_TEXT;
 use super::files::{C2000, FILM, STEADY as STEADY_FILES};
+use super::players::{EQUAL, EQUAL_TEXT};
+use super::regret::{TABLE, TABLE_TEXT};
 use super::simulate::{SOUGHT, SOUGHT_TEXT, STEADY, STEADY_TEXT};
 use super::{Answer, Faults, File, run_words};
 use std::alloc::{AllocError, Global};
@@ -53,7 +55,7 @@ struct Fragile {
 }
 
 #[rattlefmt::skip]
-static FRAGILE: [Fragile; 4] = [
+static FRAGILE: [Fragile; 6] = [
     Fragile {
         words: STEADY,
         files: &STEADY_FILES,
@@ -71,12 +73,28 @@ static FRAGILE: [Fragile; 4] = [
         puts: 15,
     },
     Fragile {
+        words: EQUAL,
+        files: &STEADY_FILES,
+        status: 0,
+        text: EQUAL_TEXT,
+        fetches: &["abrlab: manifest file: not read\n", "abrlab: trace file: not read\n"],
+        puts: 41,
+    },
+    Fragile {
         words: PAIR,
         files: &LINKS,
         status: 0,
         text: PAIR_TEXT,
         fetches: &["abrlab: manifest file: not read\n", "abrlab: trace 1 file: not read\n", "abrlab: trace 2 file: not read\n"],
         puts: 7,
+    },
+    Fragile {
+        words: TABLE,
+        files: &LINKS,
+        status: 0,
+        text: TABLE_TEXT,
+        fetches: &["abrlab: manifest file: not read\n", "abrlab: trace 1 file: not read\n", "abrlab: trace 2 file: not read\n"],
+        puts: 9,
     },
     Fragile {
         words: CHECK,

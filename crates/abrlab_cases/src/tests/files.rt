@@ -13,6 +13,9 @@ pub(super) const C500: &str = r#"[{"duration_ms": 60000, "bandwidth_kbps": 500, 
 
 pub(super) const C200: &str = r#"[{"duration_ms": 60000, "bandwidth_kbps": 200, "latency_ms": 0}]"#;
 
+// The three links.
+pub(super) const KINDS: [&str; 3] = [C2000, C500, C200];
+
 // The least film, and a link that carries a bit in a millisecond.
 pub(super) const TINY: &str =
     r#"{"segment_duration_ms": 1, "bitrates_kbps": [1], "segment_sizes_bits": [[1]]}"#;
@@ -32,6 +35,10 @@ pub(super) const FALLING: &str =
 
 pub(super) const UNEVEN: &str =
     r#"[{"duration_ms": 1300, "bandwidth_kbps": 2600, "latency_ms": 75}, {"duration_ms": 700, "bandwidth_kbps": 0, "latency_ms": 10}, {"duration_ms": 2100, "bandwidth_kbps": 900, "latency_ms": 333}]"#;
+
+// A quick one with latency and dead periods.
+pub(super) const QUICK: &str =
+    r#"[{"duration_ms": 1300, "bandwidth_kbps": 24000, "latency_ms": 75}, {"duration_ms": 700, "bandwidth_kbps": 0, "latency_ms": 10}, {"duration_ms": 2100, "bandwidth_kbps": 14500, "latency_ms": 33}]"#;
 
 // The film on a link of 2000, of 500 and of 200 kbps.
 pub(super) const STEADY: [File; 2] = [("m", FILM), ("t", C2000)];

@@ -1,26 +1,48 @@
-use Rattle.std.proofs.Common.{subst}
+use Rattle.std.proofs.Common.{false, subst, true}
 use Rattle.lab_words.specs.declared.Verb.TheVariants as verb
 use Rattle.lab_words.specs.Command.{view}
-use Rattle.lab_words.specs.Limits.{HasItsOwn}
 use Rattle.abrlab_top.specs.Demo.{demo_text}
+use Rattle.abrlab_top.specs.Request.{IsRequest}
 use Rattle.abrlab_top.specs.Stages.{row_by_row}
-use Rattle.abrlab_top.proofs.Whole.{alone_ends, ends_by}
+use Rattle.abrlab_top.proofs.Jointly.{simulate_ends}
+use Rattle.abrlab_top.proofs.Whole.{alone_ends, compare_ends, ends_by}
 use Rattle.abrlab_top.proofs.command.answer_command.Goals as goal
 
 pub returns-in-Simulate : goal.returns-in-Simulate
-returns-in-Simulate g c = ends_by verb.Simulate (view c.args.command) _ _ _ _ _ c.in-Simulate.is c.simulate.ensures
+returns-in-Simulate g c =
+    let is = subst (IsRequest (view c.args.command)) c.in-Simulate.is c.of.ensures in
+    simulate_ends false (view c.args.command) _ _ _ _ _ is.0 is.1 (rw is.2 at c.simulate.ensures)
+
+pub returns-in-Players : goal.returns-in-Players
+returns-in-Players g c =
+    let is = subst (IsRequest (view c.args.command)) c.in-Players.is c.of.ensures in
+    simulate_ends true (view c.args.command) _ _ _ _ _ is.0 is.1 (rw is.2 at c.players.ensures)
 
 pub returns-in-Compare : goal.returns-in-Compare
-returns-in-Compare g c = ends_by verb.Compare (view c.args.command) _ _ _ _ _ c.in-Compare.is c.compare.ensures
+returns-in-Compare g c =
+    let is = subst (IsRequest (view c.args.command)) c.in-Compare.is c.of.ensures in
+    compare_ends false (view c.args.command) _ _ _ _ _ is.0 is.1 (rw is.2 at c.compare.ensures)
+
+pub returns-in-Regret : goal.returns-in-Regret
+returns-in-Regret g c =
+    let is = subst (IsRequest (view c.args.command)) c.in-Regret.is c.of.ensures in
+    compare_ends true (view c.args.command) _ _ _ _ _ is.0 is.1 (rw is.2 at c.regret.ensures)
 
 pub returns-in-Plan : goal.returns-in-Plan
-returns-in-Plan g c = ends_by verb.Plan (view c.args.command) _ _ _ _ _ c.in-Plan.is c.plan.ensures
+returns-in-Plan g c =
+    let is = subst (IsRequest (view c.args.command)) c.in-Plan.is c.of.ensures in
+    let asked = rw is.2 at c.plan.ensures in
+    ends_by verb.Plan (view c.args.command) _ _ _ _ _ is.0 (rw is.1 at asked)
 
 pub returns-in-Check : goal.returns-in-Check
-returns-in-Check g c = ends_by verb.Check (view c.args.command) _ _ _ _ _ c.in-Check.is c.check.ensures
+returns-in-Check g c =
+    let is = subst (IsRequest (view c.args.command)) c.in-Check.is c.of.ensures in
+    ends_by verb.Check (view c.args.command) _ _ _ _ _ is.0 (rw is.1 at c.check.ensures)
 
 pub demo-requires : goal.demo-requires
-demo-requires g c = subst (λ v. HasItsOwn v (view c.args.command)) c.in-Demo.is c.requires.limits.own
+demo-requires g c = (subst (IsRequest (view c.args.command)) c.in-Demo.is c.of.ensures).2
 
 pub returns-in-Demo : goal.returns-in-Demo
-returns-in-Demo g c = ends_by verb.Demo (view c.args.command) _ _ _ _ _ c.in-Demo.is (alone_ends row_by_row (demo_text c.args.command.number) _ _ _ _ c.demo.ensures)
+returns-in-Demo g c =
+    let is = subst (IsRequest (view c.args.command)) c.in-Demo.is c.of.ensures in
+    ends_by verb.Demo (view c.args.command) _ _ _ _ _ is.0 (alone_ends row_by_row (demo_text (view c.args.command).number) _ _ _ _ (rw is.1 at c.demo.ensures))

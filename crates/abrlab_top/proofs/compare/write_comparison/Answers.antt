@@ -21,10 +21,10 @@ returns-in_err-write_networks g c =
     let i = c.args.inputs.now in
     let done = all_settled i c.fit.result _ c.in_ok-fit.was c.fit.ensures in
     exit row_by_row (compare i) _ _ c.from_residual-in_err-write_networks.result _ c.from_residual-in_err-write_networks.ensures.1
-    (rows_ended (compare i) (flat_map (network_rows i) i.networks) _ _ c.write_networks.result _ (compared i done.0) c.in_err-write_networks.was (rows_as _ _ _ _ _ (ap (flat_map (network_rows i)) c.networks.ensures) c.write_networks.ensures))
+    (rows_ended (compare i) (flat_map (network_rows i) i.networks) _ _ c.write_networks.result _ (compared i done.0) c.in_err-write_networks.was (rows_as _ _ _ _ _ (ap (flat_map (network_rows i)) c.networks.ensures.value) c.write_networks.ensures))
 
 pub returns : goal.returns
 returns g c =
     let i = c.args.inputs.now in
     let done = all_settled i c.fit.result _ c.in_ok-fit.was c.fit.ensures in
-    rows_done (compare i) (flat_map (network_rows i) i.networks) _ _ c.write_networks.result _ (compared i done.0) c.in_ok-write_networks.was (rows_as _ _ _ _ _ (ap (flat_map (network_rows i)) c.networks.ensures) c.write_networks.ensures)
+    rows_done (compare i) (flat_map (network_rows i) i.networks) _ _ c.write_networks.result _ (compared i done.0) c.in_ok-write_networks.was (rows_as _ _ _ _ _ (ap (flat_map (network_rows i)) c.networks.ensures.value) c.write_networks.ensures)

@@ -1,0 +1,342 @@
+-- What `compare --regret` plays, plans and writes, network by network and rule by rule.
+use Rattle.std.proofs.Common.{◌≡◌, ◌∙◌, ◌+◌, ◌<◌, ◌≤◌, ◌++◌, ◌∷◌, [], ℕ, List, Option, Some, None, Result, Ok, Err, Vec, length, map, take, drop, get_or, string_bytes, ap, sym, refl, subst, arith, add-one, drop-cons, take-suc}
+use Rattle.std.specs.Prelude.{ℤ, pos, option_map, slice_index_or}
+use Rattle.std.specs.Global.{Global}
+use Rattle.std.specs.List.{All, flat_map}
+use Rattle.std.specs.Option.{option_or}
+use Rattle.std.specs.Result.{IsErrAnd}
+use Rattle.std.proofs.lemmas.Result.{err_from_is_err_and}
+use Rattle.std.proofs.lemmas.List.{drop_all, get_or-map, get_or_default, length-take-le, length-map, map-append, take_all}
+use Rattle.std.proofs.lemmas.List.Elements.{All-map}
+use Rattle.std.proofs.lemmas.Simd.{map-map}
+use Rattle.lab_io.specs.Sink.{Text, Seen}
+use Rattle.lab_model.specs.declared.trace.Period.{Period}
+use Rattle.lab_model.specs.declared.setup.Setup.{Setup}
+use Rattle.lab_model.specs.Film.{Film}
+use Rattle.lab_model.specs.Rules.{KindFits, RuleKind}
+use Rattle.lab_words.specs.declared.NamedRule.{NamedRule}
+use Rattle.lab_words.specs.Command.{named}
+use Rattle.lab_words.specs.Limits.{IsRuleWithin}
+use Rattle.lab_words.specs.Rules.{spoken}
+use Rattle.lab_inputs.specs.declared.contents.Network.{Network}
+use Rattle.lab_inputs.specs.declared.stop.Stop.{Stop}
+use Rattle.lab_inputs.specs.Inputs.{InputValues}
+use Rattle.lab_inputs.specs.Settings.{settled}
+use Rattle.lab_inputs.specs.Stages.{network_of}
+use Rattle.player_core.specs.Scene.{IsTask, Task, task_of}
+use Rattle.labels.specs.declared.label.Grid.{Grid}
+use Rattle.frontier_planner.specs.declared.plans.CoarsePlan.{CoarsePlan}
+use Rattle.frontier_planner.specs.declared.plans.PlanErr.TheVariants as planned
+use Rattle.labels.specs.Frontier.{frontier}
+use Rattle.labels.specs.Grid.{exact}
+use Rattle.labels.specs.Parts.{CertificateParts}
+use Rattle.labels.specs.Read.{SpentAt}
+use Rattle.frontier_planner.specs.Planned.{IsPlanOf}
+use Rattle.session_report.specs.Regret.{AreScores, Scores, StandsFor, regret_line, total_line, total_of}
+use Rattle.session_report.specs.declared.regret.Total.{Total}
+use Rattle.session_report.proofs.Totals.{stands_is}
+use Rattle.abrlab_top.specs.declared.ending.Ending.{Ending}
+use Rattle.abrlab_top.specs.declared.ending.Ending.TheVariants as ending
+use Rattle.abrlab_top.specs.declared.regret.Scored.{Scored}
+use Rattle.abrlab_top.specs.Answer.{printed}
+use Rattle.abrlab_top.specs.Ahead.{ahead_of}
+use Rattle.abrlab_top.specs.Plan.{IsPlanned, task_on}
+use Rattle.abrlab_top.specs.Regret.{AreRanked, AreScored, CanRank, RankingValue, SpentBy, Unspent, best_on, first_spent, regret, regret_row, regret_text, rows_of, score_on, scored_on, scores_at, scores_on, scores_over, seen_scored, spent_there, total_row, unless_any_spent}
+use Rattle.abrlab_top.specs.Stages.{Writes, at_the_end}
+use Rattle.abrlab_top.proofs.Behind.{are_scores}
+use Rattle.abrlab_top.proofs.Networks.{all_mapped, rules_within}
+use Rattle.abrlab_top.proofs.Plans.{never_spent, spent_at, task_is}
+use Rattle.abrlab_top.proofs.Whole.{wanting}
+
+-- ---- one element more
+
+-- an element is the next of a list
+dropped : {A : Type 0} (xs : List A) (k : ℕ) (x : A) → k < length xs → x ≡ get_or xs k x → drop k xs ≡ x ∷ drop (k + 1) xs
+dropped xs k x lt e = rw (add-one, drop-cons xs k x lt, ← e) refl
+
+-- what is made of the elements up to this one
+pub map_more : {A B : Type 0} (f : A → B) (xs : List A) (k : ℕ) (x : A) → k < length xs → x ≡ get_or xs k x → map f (take (k + 1) xs) ≡ map f (take k xs) ++ f x ∷ []
+map_more f xs k x lt e = ap (map f) (rw (add-one, take-suc xs k x lt, ← e) refl) ∙ map-append f (take k xs) (x ∷ [])
+
+-- ---- on one network
+
+-- the task is the one on the network
+pub task_seen : (i seen : InputValues) (clock : List Period) (film : Film) (setup : Setup) (ahead : ℕ) → seen ≡ i → film ≡ seen.film → setup ≡ seen.setup → ahead ≡ ahead_of seen.live → task_of film clock setup ahead ≡ task_on i clock
+task_seen i seen clock film setup ahead e f p a = task_is seen clock clock film setup ahead f refl p a ∙ ap (λ (v : InputValues). task_on v clock) e
+
+-- the plan gives the best score, and no budget is spent
+pub best_planned : (i : InputValues) (periods : List Period) (budget place limit : ℕ) (grid : Option Grid) (g : Task) (c : CoarsePlan) → grid ≡ None → limit ≡ budget → g ≡ task_on i periods → IsPlanned grid g limit (Ok c)
+    → (spent_there i budget place periods ≡ None) × (c.plan.score ≡ best_on i periods)
+best_planned i periods budget place limit grid g c none same on of =
+    let exactly : IsPlanned None g limit (Ok c) = subst (λ (d : Option Grid). IsPlanned d g limit (Ok c)) none of in
+    let plan : IsPlanOf exact (task_on i periods) (frontier (task_on i periods)) budget c.plan c.bound =
+    subst (λ b. IsPlanOf exact (task_on i periods) (frontier (task_on i periods)) b c.plan c.bound) same (subst (λ t. IsPlanOf exact t (frontier t) limit c.plan c.bound) on exactly)
+    in
+    let few = never_spent None (task_on i periods) budget (let most = plan.within in let counted = plan.labels in omega (arith, most, counted)) in
+    (ap (option_map (λ segment. (place, segment))) few, ap (λ (p : CertificateParts). p.score) plan.parts)
+
+-- the budget is spent there
+pub best_spent : (i : InputValues) (periods : List Period) (budget place limit segment : ℕ) (grid : Option Grid) (g : Task) → grid ≡ None → limit ≡ budget → g ≡ task_on i periods → IsPlanned grid g limit (Err (planned.BudgetSpent segment))
+    → spent_there i budget place periods ≡ Some (place, segment)
+best_spent i periods budget place limit segment grid g none same on of =
+    let exactly : IsPlanned None g limit (Err (planned.BudgetSpent segment)) = subst (λ (d : Option Grid). IsPlanned d g limit (Err (planned.BudgetSpent segment))) none of in
+    let spent : SpentAt (task_on i periods) (frontier (task_on i periods)) budget segment =
+    subst (λ b. SpentAt (task_on i periods) (frontier (task_on i periods)) b segment) same (subst (λ t. SpentAt t (frontier t) limit segment) on exactly)
+    in
+    ap (option_map (λ segment. (place, segment))) (spent_at None (task_on i periods) budget segment spent)
+
+-- scores that are those of the rules can be summed
+pub ranked : (i : InputValues) (periods : List Period) (s : Scored) → CanRank i → IsTask (task_on i periods) → s.best ≡ best_on i periods → s.scores.items ≡ map (λ (rule : Text × RuleKind). score_on i periods rule.1) i.rules → AreRanked s
+ranked i periods s can is best scores =
+    subst (λ b. All (λ score. AreScores (score, b)) s.scores.items) (sym best)
+    (subst (All (λ score. AreScores (score, best_on i periods))) (sym scores)
+    (All-map (λ score. AreScores (score, best_on i periods)) (λ (rule : Text × RuleKind). score_on i periods rule.1) i.rules (λ k d low. are_scores i periods _ is (can.fits.rules k d low) can.calm)))
+
+-- the rules that are at hand are those of the inputs, by which they can be ranked
+pub rules_seen : (i seen : InputValues) (rules : List NamedRule) → seen ≡ i → map named rules ≡ seen.rules → map named rules ≡ i.rules
+rules_seen i seen rules e h = h ∙ ap (λ (v : InputValues). v.rules) e
+
+-- each of them is within its limits
+pub rule_within : (i : InputValues) (rules : List NamedRule) (k : ℕ) (rule : NamedRule) → map named rules ≡ i.rules → All (λ (r : Text × RuleKind). IsRuleWithin r.1) i.rules → k < length rules → rule ≡ get_or rules k rule → IsRuleWithin (spoken rule.rule)
+rule_within i rules k rule same all lt e = subst (λ (r : NamedRule). IsRuleWithin (spoken r.rule)) (sym e) (rules_within i rules same all k rule lt)
+
+-- and can be asked about the film
+pub rule_asks : (i : InputValues) (rules : List NamedRule) (k : ℕ) (rule : NamedRule) → map named rules ≡ i.rules → CanRank i → k < length rules → rule ≡ get_or rules k rule → KindFits (spoken rule.rule) i.film
+rule_asks i rules k rule same can lt e =
+    let all = all_mapped (λ (r : Text × RuleKind). KindFits r.1 i.film) named rules (subst (All (λ (r : Text × RuleKind). KindFits r.1 i.film)) (sym same) can.fits.rules) in
+    subst (λ (r : NamedRule). KindFits (spoken r.rule) i.film) (sym e) (all k rule lt)
+
+-- the score of one rule more
+pub scores_more : (i : InputValues) (clock : List Period) (rules : List NamedRule) (k : ℕ) (rule : NamedRule) (scores more : List ℤ) (score : ℤ) → k < length rules → rule ≡ get_or rules k rule → more ≡ scores ++ score ∷ []
+    → scores ≡ map (λ (r : Text × RuleKind). score_on i clock r.1) (map named (take k rules)) → score ≡ score_on i clock (spoken rule.rule) → more ≡ map (λ (r : Text × RuleKind). score_on i clock r.1) (map named (take (k + 1) rules))
+scores_more i clock rules k rule scores more score lt e pushed so here =
+    pushed ∙ ap (λ ss. ss ++ score ∷ []) so ∙ ap (λ v. map (λ (r : Text × RuleKind). score_on i clock r.1) (map named (take k rules)) ++ v ∷ []) here
+    ∙ sym (ap (map (λ (r : Text × RuleKind). score_on i clock r.1)) (map_more named rules k rule lt e) ∙ map-append (λ (r : Text × RuleKind). score_on i clock r.1) (map named (take k rules)) (named rule ∷ []))
+
+-- the scores of all rules
+pub scores_all : (i : InputValues) (clock : List Period) (rules : List NamedRule) (k : ℕ) (scores : List ℤ) → map named rules ≡ i.rules → length rules ≤ k → scores ≡ map (λ (r : Text × RuleKind). score_on i clock r.1) (map named (take k rules))
+    → scores ≡ map (λ (r : Text × RuleKind). score_on i clock r.1) i.rules
+scores_all i clock rules k scores same over so = so ∙ ap (λ rs. map (λ (r : Text × RuleKind). score_on i clock r.1) (map named rs)) (take_all k rules over) ∙ ap (map (λ (r : Text × RuleKind). score_on i clock r.1)) same
+
+-- what was played and planned is what the network asks for
+pub network_scored : (i : InputValues) (n : Text × List Period) (clock : List Period) (s : Scored) → clock ≡ n.1 → CanRank i → IsTask (task_on i clock) → s.best ≡ best_on i clock → s.scores.items ≡ map (λ (rule : Text × RuleKind). score_on i clock rule.1) i.rules
+    → (seen_scored s ≡ scored_on i n) × AreRanked s
+network_scored i n clock s on can is best scores =
+    (ap (λ b. (b, s.scores.items)) best ∙ ap (λ ss. (best_on i clock, ss)) scores ∙ ap (λ periods. scored_on i (n.0, periods)) on, ranked i clock s can is best scores)
+
+-- how planning ended, at the exit of a `?`
+pub unspent_exit : {B : Type 0} (spent : Option (ℕ × ℕ)) (After : B → Type 0) (q : Result B Ending) (e : Ending) → IsErrAnd q (λ y. y ≡ e) → SpentBy spent e → Unspent spent After q
+unspent_exit spent After q e k s =
+    let p = err_from_is_err_and q k in
+    subst (Unspent spent After) (sym p.1) (subst (SpentBy spent) (sym p.2) s)
+
+-- memory was wanting
+pub unspent_wanting : {B : Type 0} (spent : Option (ℕ × ℕ)) (After : B → Type 0) (q : Result B Ending) → IsErrAnd q (λ y. y ≡ ending.NoMemory) → Unspent spent After q
+unspent_wanting spent After q k = unspent_exit spent After q ending.NoMemory k tt
+
+-- how it failed
+pub unspent_err : {A : Type 0} (spent : Option (ℕ × ℕ)) (Holds : A → Type 0) (r : Result A Ending) (e : Ending) → r ≡ Err e → Unspent spent Holds r → SpentBy spent e
+unspent_err spent Holds r e was h = rw was at h
+
+-- a stage that failed before
+pub unspent_failed : {A B : Type 0} (spent : Option (ℕ × ℕ)) (Holds : A → Type 0) (After : B → Type 0) (r : Result A Ending) (q : Result B Ending) (e : Ending) → r ≡ Err e → IsErrAnd q (λ y. y ≡ e) → Unspent spent Holds r → Unspent spent After q
+unspent_failed spent Holds After r q e was k h = unspent_exit spent After q e k (unspent_err spent Holds r e was h)
+
+-- ---- network by network
+
+-- the networks that are at hand are those of the inputs
+pub networks_seen : (i seen : InputValues) (networks : List Network) → seen ≡ i → map network_of networks ≡ seen.networks → map network_of networks ≡ i.networks
+networks_seen i seen networks e h = h ∙ ap (λ (v : InputValues). v.networks) e
+
+-- the budget on the networks from here on
+pub spent_from : (i : InputValues) (budget place k : ℕ) (xs : List Network) (x : Network) → k < length xs → x ≡ get_or xs k x
+    → first_spent i budget place (map network_of (drop k xs)) ≡ option_or (spent_there i budget place x.trace) (first_spent i budget (place + 1) (map network_of (drop (k + 1) xs)))
+spent_from i budget place k xs x lt e = ap (λ later. first_spent i budget place (map network_of later)) (dropped xs k x lt e)
+
+-- where this network does not spend it, it is for the later ones to say
+pub spent_later : (i : InputValues) (budget k : ℕ) (xs : List Network) (x : Network) (o : Option (ℕ × ℕ)) → k < length xs → x ≡ get_or xs k x → o ≡ first_spent i budget (k + 1) (map network_of (drop k xs)) → spent_there i budget (k + 1) x.trace ≡ None
+    → o ≡ first_spent i budget (k + 1 + 1) (map network_of (drop (k + 1) xs))
+spent_later i budget k xs x o lt e so none =
+    so ∙ spent_from i budget (k + 1) k xs x lt e ∙ ap (λ here. option_or here (first_spent i budget (k + 1 + 1) (map network_of (drop (k + 1) xs)))) none
+
+-- none is spent behind the last network
+pub spent_end : (i : InputValues) (budget place k : ℕ) (xs : List Network) → length xs ≤ k → first_spent i budget place (map network_of (drop k xs)) ≡ None
+spent_end i budget place k xs h = rw (drop_all k xs h) refl
+
+-- a budget that is spent by the next network is spent by this one first
+pub spent_first : (first later : Option (ℕ × ℕ)) (e : Ending) → SpentBy first e → SpentBy (option_or first later) e
+spent_first None later e h = by_ending e h
+  where
+    by_ending : (e : Ending) → SpentBy None e → SpentBy later e
+    by_ending ending.NoMemory h = tt
+    by_ending (ending.Spent (Some place) segment) h = cc
+    by_ending e h = absurd h
+spent_first (Some x) later e h = h
+
+-- planning the network at a place did not come to its end
+pub spent_here : (i : InputValues) (budget k : ℕ) (xs : List Network) (x : Network) (o : Option (ℕ × ℕ)) (e : Ending) → k < length xs → x ≡ get_or xs k x → o ≡ first_spent i budget (k + 1) (map network_of (drop k xs)) → SpentBy (spent_there i budget (k + 1) x.trace) e
+    → SpentBy o e
+spent_here i budget k xs x o e lt is so s =
+    subst (λ spent. SpentBy spent e) (sym (so ∙ spent_from i budget (k + 1) k xs x lt is)) (spent_first (spent_there i budget (k + 1) x.trace) (first_spent i budget (k + 1 + 1) (map network_of (drop (k + 1) xs))) e s)
+
+-- there are as many scores as networks
+pub table_count : (i : InputValues) (networks : List Network) (table : List Scored) → map network_of networks ≡ i.networks → map seen_scored table ≡ map (scored_on i) i.networks → length table ≡ length networks
+table_count i networks table all same = sym (length-map table seen_scored) ∙ ap length same ∙ length-map i.networks (scored_on i) ∙ ap length (sym all) ∙ length-map networks network_of
+
+-- what the tables of networks and of their scores have at one place
+pub at_place : (i : InputValues) (networks : List Network) (table : List Scored) (k : ℕ) (n : Network) (s : Scored) → map network_of networks ≡ i.networks → map seen_scored table ≡ map (scored_on i) i.networks → k < length networks → n ≡ get_or networks k n → s ≡ get_or table k s
+    → seen_scored s ≡ scored_on i (network_of n)
+at_place i networks table k n s all same lt e f =
+    let count = table_count i networks table all same in
+    let there : k < length (map network_of networks) = subst (λ m. k < m) (sym (length-map networks network_of)) lt in
+    ap seen_scored f ∙ sym (get_or-map seen_scored table k s (seen_scored s) (subst (λ m. k < m) (sym count) lt)) ∙ ap (λ xs. get_or xs k (seen_scored s)) (same ∙ ap (map (scored_on i)) (sym all))
+    ∙ get_or-map (scored_on i) (map network_of networks) k (network_of n) (seen_scored s) there ∙ ap (scored_on i) (get_or-map network_of networks k n (network_of n) lt ∙ ap network_of (sym e))
+
+-- the scores at one place can be summed
+pub ranked_at : (table : List Scored) (k : ℕ) (s : Scored) → k < length table → s ≡ get_or table k s → All AreRanked table → AreRanked s
+ranked_at table k s lt e all = subst AreRanked (sym e) (all k s lt)
+
+-- one network more
+pub table_more : (i : InputValues) (xs : List Network) (k : ℕ) (x : Network) (table more : List Scored) (s : Scored) → k < length xs → x ≡ get_or xs k x → more ≡ table ++ s ∷ [] → map seen_scored table ≡ map (scored_on i) (map network_of (take k xs)) → seen_scored s ≡ scored_on i (network_of x)
+    → map seen_scored more ≡ map (scored_on i) (map network_of (take (k + 1) xs))
+table_more i xs k x table more s lt e pushed so here =
+    ap (map seen_scored) pushed ∙ map-append seen_scored table (s ∷ []) ∙ ap (λ vs. vs ++ seen_scored s ∷ []) so ∙ ap (λ v. map (scored_on i) (map network_of (take k xs)) ++ v ∷ []) here
+    ∙ sym (ap (map (scored_on i)) (map_more network_of xs k x lt e) ∙ map-append (scored_on i) (map network_of (take k xs)) (network_of x ∷ []))
+
+-- all networks were played and planned
+pub all_scored : (i : InputValues) (budget k : ℕ) (xs : List Network) (table : List Scored) → map network_of xs ≡ i.networks → length xs ≤ 64 → length xs ≤ k
+    → first_spent i budget 1 i.networks ≡ first_spent i budget (k + 1) (map network_of (drop k xs)) → map seen_scored table ≡ map (scored_on i) (map network_of (take k xs)) → All AreRanked table
+    → (first_spent i budget 1 i.networks ≡ None) × AreScored i table
+all_scored i budget k xs table same few over spent values ranks =
+    let all = values ∙ ap (λ ns. map (scored_on i) (map network_of ns)) (take_all k xs over) ∙ ap (map (scored_on i)) same in
+    let count = table_count i xs table same all in
+    (spent ∙ spent_end i budget (k + 1) k xs over, record { values = all; ranked = ranks; few = omega (arith, count, few) })
+
+-- what a ranking gave, by the inputs and the budget that it is made of
+pub ranking_gives : (i : InputValues) (budget : ℕ) (v : RankingValue) (r : Result (Vec Scored Global) Ending) → v ≡ record { inputs = i; budget = budget } → Unspent (first_spent v.inputs v.budget 1 v.inputs.networks) (λ (table : Vec Scored Global). AreScored v.inputs table.items) r
+    → Unspent (first_spent i budget 1 i.networks) (λ (table : Vec Scored Global). AreScored i table.items) r
+ranking_gives i budget v r e h = subst (λ (w : RankingValue). Unspent (first_spent w.inputs w.budget 1 w.inputs.networks) (λ (table : Vec Scored Global). AreScored w.inputs table.items) r) e h
+
+-- the same where it gave a table
+pub ranking_scored : (i : InputValues) (budget : ℕ) (v : RankingValue) (r : Result (Vec Scored Global) Ending) (table : Vec Scored Global) → v ≡ record { inputs = i; budget = budget } → r ≡ Ok table
+    → Unspent (first_spent v.inputs v.budget 1 v.inputs.networks) (λ (table : Vec Scored Global). AreScored v.inputs table.items) r → (first_spent i budget 1 i.networks ≡ None) × AreScored i table.items
+ranking_scored i budget v r table e was h = subst (Unspent (first_spent i budget 1 i.networks) (λ (table : Vec Scored Global). AreScored i table.items)) was (ranking_gives i budget v r e h)
+
+-- ---- rows
+
+-- the row of equal scores
+pub row_as : (name other : Text) (score best points top : ℤ) → name ≡ other → score ≡ points → best ≡ top → regret_line name score best ≡ regret_line other points top
+row_as name other score best points top e f h = ap (λ n. regret_line n score best) e ∙ ap (λ z. regret_line other z best) f ∙ ap (regret_line other points) h
+
+-- the row of a rule, and those behind it
+pub rows_next : (rules : List NamedRule) (scores : List ℤ) (best : ℤ) (k : ℕ) (rule : NamedRule) (score : ℤ) → k < length rules → rule ≡ get_or rules k rule → k < length scores → score ≡ get_or scores k score
+    → rows_of (map named (drop k rules)) (drop k scores) best ≡ regret_line (string_bytes rule.name) score best ++ rows_of (map named (drop (k + 1) rules)) (drop (k + 1) scores) best
+rows_next rules scores best k rule score lt e low f =
+    ap (λ rs. rows_of (map named rs) (drop k scores) best) (dropped rules k rule lt e) ∙ ap (λ ss. rows_of (named rule ∷ map named (drop (k + 1) rules)) ss best) (dropped scores k score low f)
+
+-- behind the last rule there is no row
+pub rows_over : (rules : List NamedRule) (scores : List ℤ) (best : ℤ) (k : ℕ) → length rules ≤ k → rows_of (map named (drop k rules)) (drop k scores) best ≡ []
+rows_over rules scores best k h = rw (drop_all k rules h) refl
+
+rows_on : (i : InputValues) (periods : List Period) (rules : List (Text × RuleKind)) → rows_of rules (map (λ (rule : Text × RuleKind). score_on i periods rule.1) rules) (best_on i periods) ≡ flat_map (regret_row i periods) rules
+rows_on i periods [] = refl
+rows_on i periods (rule ∷ rules) = ap (λ later. regret_row i periods rule ++ later) (rows_on i periods rules)
+
+-- the rows of these scores are those of the network
+pub rows_are : (i : InputValues) (n : Text × List Period) (rules : List NamedRule) (s : Scored) → map named rules ≡ i.rules → seen_scored s ≡ scored_on i n → rows_of (map named rules) s.scores.items s.best ≡ flat_map (regret_row i n.1) i.rules
+rows_are i n rules s same seen =
+    ap (λ rs. rows_of rs s.scores.items s.best) same ∙ ap (λ ss. rows_of i.rules ss s.best) (ap (λ (v : ℤ × List ℤ). v.1) seen)
+    ∙ ap (rows_of i.rules (map (λ (rule : Text × RuleKind). score_on i n.1 rule.1) i.rules)) (ap (λ (v : ℤ × List ℤ). v.0) seen) ∙ rows_on i n.1 i.rules
+
+-- there is a score for each rule
+pub scores_count : (i : InputValues) (n : Text × List Period) (rules : List NamedRule) (s : Scored) → map named rules ≡ i.rules → seen_scored s ≡ scored_on i n → length s.scores.items ≡ length rules
+scores_count i n rules s same seen =
+    ap (λ (v : ℤ × List ℤ). length v.1) seen ∙ length-map i.rules (λ (rule : Text × RuleKind). score_on i n.1 rule.1) ∙ sym (ap length same) ∙ length-map rules named
+
+-- ---- totals
+
+-- each network has a score of the rule at an index
+pub all_wide : (i : InputValues) (table : List Scored) (rules : List NamedRule) (rule : ℕ) → map named rules ≡ i.rules → map seen_scored table ≡ map (scored_on i) i.networks → rule < length rules → All (λ (s : Scored). rule < length s.scores.items) table
+all_wide i table rules rule all same lt =
+    let count : length i.rules ≡ length rules = sym (ap length all) ∙ length-map rules named in
+    all_mapped (λ (v : ℤ × List ℤ). rule < length v.1) seen_scored table
+    (subst (All (λ (v : ℤ × List ℤ). rule < length v.1)) (sym same)
+    (All-map (λ (v : ℤ × List ℤ). rule < length v.1) (scored_on i) i.networks
+    (λ k d low. subst (λ m. rule < m) (sym (length-map i.rules (λ (r : Text × RuleKind). score_on i (get_or i.networks k d).1 r.1) ∙ count)) lt)))
+
+-- the scores of a rule in the tables of two networks that are seen alike
+seen_at : ℕ → ℤ × List ℤ → Scores
+seen_at rule v = (slice_index_or v.1 rule (pos 0), v.0)
+
+same_on : (i : InputValues) (rule : ℕ) (r : Text × RuleKind) → rule < length i.rules → r ≡ get_or i.rules rule r → (networks : List (Text × List Period)) → map (seen_at rule) (map (scored_on i) networks) ≡ scores_over i networks r.1
+unfolding seen_at
+same_on i rule r lt e [] = refl
+same_on i rule r lt e (n ∷ networks) =
+    let here : slice_index_or (map (λ (q : Text × RuleKind). score_on i n.1 q.1) i.rules) rule (pos 0) ≡ score_on i n.1 r.1 =
+    get_or-map (λ (q : Text × RuleKind). score_on i n.1 q.1) i.rules rule r (pos 0) lt ∙ ap (λ (q : Text × RuleKind). score_on i n.1 q.1) (sym e)
+    in
+    ap (λ z. (z, best_on i n.1) ∷ map (seen_at rule) (map (scored_on i) networks)) here ∙ ap (λ ps. scores_on i n.1 r.1 ∷ ps) (same_on i rule r lt e networks)
+
+-- the scores of a rule in the table are those over all networks
+pub column_is : (i : InputValues) (table : List Scored) (rule : ℕ) (r : Text × RuleKind) → map seen_scored table ≡ map (scored_on i) i.networks → rule < length i.rules → r ≡ get_or i.rules rule r → map (scores_at rule) table ≡ scores_over i i.networks r.1
+unfolding seen_at
+column_is i table rule r same lt e = sym (map-map (seen_at rule) seen_scored table) ∙ ap (map (seen_at rule)) same ∙ same_on i rule r lt e i.networks
+
+-- the total of the networks before one counts fewer than all
+pub total_short : (rule k : ℕ) (table : List Scored) (t : Total) → StandsFor (map (scores_at rule) (take k table)) t → k < length table → length table ≤ 64 → t.count < 64
+total_short rule k table t stands lt few =
+    let count = stands.count in
+    let mapped = length-map (take k table) (scores_at rule) in
+    let taken = length-take-le k table (omega (arith, lt)) in
+    omega (arith, count, mapped, taken, lt, few)
+
+-- a network has a score of the rule at an index
+pub wide_at : (table : List Scored) (rule k : ℕ) (s : Scored) → k < length table → s ≡ get_or table k s → All (λ (x : Scored). rule < length x.scores.items) table → rule < length s.scores.items
+wide_at table rule k s lt e all = subst (λ (x : Scored). rule < length x.scores.items) (sym e) (all k s lt)
+
+-- which can be summed
+pub score_ranked : (s : Scored) (rule : ℕ) (score : ℤ) → AreRanked s → rule < length s.scores.items → score ≡ get_or s.scores.items rule score → AreScores (score, s.best)
+score_ranked s rule score all lt e = subst (λ z. AreScores (z, s.best)) (sym e) (all rule score lt)
+
+-- equal scores can be summed
+pub scores_as : (score best points top : ℤ) → score ≡ points → best ≡ top → AreScores (points, top) → AreScores (score, best)
+scores_as score best points top e f h = subst (λ z. AreScores (z, best)) (sym e) (subst (λ z. AreScores (points, z)) (sym f) h)
+
+-- a total of equal scores
+pub total_as : (ps : List Scores) (t : Total) (score best points top : ℤ) → score ≡ points → best ≡ top → StandsFor (ps ++ (score, best) ∷ []) t → StandsFor (ps ++ (points, top) ∷ []) t
+total_as ps t score best points top e f h = subst (λ z. StandsFor (ps ++ (points, z) ∷ []) t) f (subst (λ z. StandsFor (ps ++ (z, best) ∷ []) t) e h)
+
+-- one network more in the total
+pub total_more : (rule k : ℕ) (table : List Scored) (x : Scored) (score : ℤ) (t : Total) → k < length table → x ≡ get_or table k x → rule < length x.scores.items → score ≡ get_or x.scores.items rule score
+    → StandsFor (map (scores_at rule) (take k table) ++ (score, x.best) ∷ []) t → StandsFor (map (scores_at rule) (take (k + 1) table)) t
+total_more rule k table x score t lt e low f stands =
+    let here : score ≡ slice_index_or x.scores.items rule (pos 0) = f ∙ get_or_default x.scores.items rule score (pos 0) low in
+    subst (λ ps. StandsFor ps t) (ap (λ z. map (scores_at rule) (take k table) ++ (z, x.best) ∷ []) here ∙ sym (map_more (scores_at rule) table k x lt e)) stands
+
+-- the total is that of the rule
+pub total_is : (i : InputValues) (table : List Scored) (rule : ℕ) (rules : List NamedRule) (r : NamedRule) (t : Total) → map named rules ≡ i.rules → map seen_scored table ≡ map (scored_on i) i.networks → rule < length rules → r ≡ get_or rules rule r
+    → StandsFor (map (scores_at rule) table) t → total_line (string_bytes r.name) t ≡ total_row i (named r)
+total_is i table rule rules r t same seen lt e stands =
+    let count : length i.rules ≡ length rules = sym (ap length same) ∙ length-map rules named in
+    let here : named r ≡ get_or i.rules rule (named r) = ap named e ∙ sym (get_or-map named rules rule r (named r) lt) ∙ ap (λ rs. get_or rs rule (named r)) same in
+    let column = column_is i table rule (named r) seen (subst (λ m. rule < m) (sym count) lt) here in
+    ap (total_line (string_bytes r.name)) (stands_is (map (scores_at rule) table) t stands ∙ ap total_of column)
+
+-- ---- what the command answers
+
+-- a setting does not fit
+pub regret_stopped : (budget : ℕ) (i : InputValues) (why : Stop) → settled i ≡ Err why → regret budget i ≡ Err (ending.Stopped why)
+unfolding regret
+regret_stopped budget i why h = rw h refl
+
+-- the text
+pub regretted : (budget : ℕ) (i : InputValues) → settled i ≡ Ok i → first_spent i budget 1 i.networks ≡ None → regret budget i ≡ Ok (printed (regret_text i))
+unfolding regret
+regretted budget i h none = rw h (ap (unless_any_spent i) none)
+
+-- planning did not come to its end
+pub regret_spent : (budget : ℕ) (i : InputValues) (old : Seen) (e : Ending) → settled i ≡ Ok i → SpentBy (first_spent i budget 1 i.networks) e → Writes at_the_end (regret budget i) old e old
+unfolding regret
+regret_spent budget i old ending.NoMemory h s = wanting at_the_end (regret budget i) old
+regret_spent budget i old (ending.Spent (Some place) segment) h s = (rw h (ap (unless_any_spent i) s), refl)
+regret_spent budget i old e h s = absurd s

@@ -1,0 +1,19 @@
+use Rattle.std.proofs.Common.{◌∙◌, ap}
+use Rattle.lab_words.specs.Command.{CommandWords}
+use Rattle.lab_inputs.specs.Inputs.{InputValues}
+use Rattle.abrlab_top.specs.Regret.{regret}
+use Rattle.abrlab_top.specs.Stages.{at_the_end}
+use Rattle.abrlab_top.proofs.Whole.{about_ends, read_failed}
+use Rattle.abrlab_top.proofs.regret.regret.Goals as goal
+
+pub returns-in_err-inputs : goal.returns-in_err-inputs
+returns-in_err-inputs g c =
+    read_failed at_the_end (regret c.args.words.budget) c.args.words _ _ _ c.read_inputs.result c.from_residual.result _ c.in_err-inputs.was c.from_residual.ensures.1 (rw c.into_film_words.ensures.value at c.read_inputs.ensures.comes)
+
+pub write_regrets-requires-clause-calm : goal.write_regrets-requires-clause-calm
+write_regrets-requires-clause-calm g c =
+    ap (λ (v : InputValues). v.setup.abandon) c.in_ok-inputs.ensures.kept.is ∙ ap (λ (w : CommandWords). w.abandon) c.into_film_words.ensures.value ∙ c.into_film_words.ensures.calm
+
+pub returns : goal.returns
+returns g c =
+    about_ends at_the_end (regret c.args.words.budget) c.args.words c.in_ok-inputs.inputs _ _ _ _ _ (λ h. cc) (rw c.into_film_words.ensures.value at c.in_ok-inputs.ensures.comes) (rw c.budget-budget.ensures.value at c.write_regrets.ensures)
