@@ -311,9 +311,10 @@ pub begun : (bytes : List ℕ) (most : ℕ) (rows : List Fields) (w : Walk) → 
 unfolding table_within
 begun bytes most rows w h =
     let rest : List Fields = records_from default_config h.stands.fuel w.reader.state h.unread in
-    let e : most ≡ length rows + w.left = sym h.count in
-    (more_rows (width_of rows) (take w.left rest),
-    ap (λ (rs : List Fields). even_rows (take most rs)) h.stands.rest
-    ∙ ap (λ (n : ℕ). even_rows (take n (rows ++ rest))) e
-    ∙ ap even_rows (take-append-add rows rest w.left)
-    ∙ h.fit (take w.left rest))
+    let e : most ≡ length rows + w.left = sym h.count in (
+      more_rows (width_of rows) (take w.left rest),
+      ap (λ (rs : List Fields). even_rows (take most rs)) h.stands.rest
+          ∙ ap (λ (n : ℕ). even_rows (take n (rows ++ rest))) e
+          ∙ ap even_rows (take-append-add rows rest w.left)
+          ∙ h.fit (take w.left rest),
+    )
