@@ -1,4 +1,4 @@
-use Rattle.std.proofs.Common.{◌≡◌, ◌∙◌, ◌+◌, length, Ok, ap, arith, subst}
+use Rattle.std.proofs.Common.{◌≡◌, ◌∙◌, length, Ok, ap, arith, subst}
 use Rattle.lab_io.specs.Sink.{Puts}
 use Rattle.player_core.specs.Session.{shown}
 use Rattle.abrlab_top.specs.Players.{players_text}
