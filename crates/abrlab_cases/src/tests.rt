@@ -188,6 +188,93 @@ fn assert_answer(rt: &impl Abort, alloc: Global, case: &Case) -> Result<(), Fail
     Ok(())
 }
 
+// A plan as a certificate, the check of what it printed, and what that answers.
+struct Round {
+    plan: &'static str,
+    check: &'static str,
+    files: &'static [File],
+    status: u8,
+    out: Text,
+    err: &'static str,
+}
+
+// What the words of a check answer to a certificate `c` beside these files.
+fn checked(
+    alloc: Global,
+    words: &str,
+    files: &[(&str, &str)],
+    certificate: &str,
+) -> Result<Answer, AllocError> {
+    let mut held = file_list(alloc, files)?;
+    push_files(alloc, &mut held, &[("c", certificate)])?;
+    run_files(alloc, words, held, NONE)
+}
+
+// A check answers what it should to what the plan printed.
+fn assert_round(rt: &impl Abort, alloc: Global, round: &Round) -> Result<(), Fail> {
+    let plan = run_words(alloc, round.plan, round.files, NONE)?;
+    let certificate = str::from_utf8(plan.out.written())?;
+    let answer = checked(alloc, round.check, round.files, certificate)?;
+    assert!(rt;
+        answer.is(round.status, &round.out, round.err),
+        "{}",
+        round.check
+    );
+    Ok(())
+}
+
+// A plan, what it prints, and what the check of its certificate answers. The words of the task are those that both have.
+struct Planned {
+    task: &'static str,
+    plan: &'static str,
+    check: &'static str,
+    text: &'static str,
+    verdict: &'static str,
+}
+
+impl Planned {
+    // What the plan prints over these files, with these words more.
+    fn printed(
+        &self,
+        alloc: Global,
+        more: &str,
+        files: &[(&str, &str)],
+    ) -> Result<Answer, AllocError> {
+        let words = format!(in alloc; "plan {} {} {more}", self.task, self.plan)?;
+        run_words(alloc, &words, files, NONE)
+    }
+
+    // What the check answers to a certificate beside these files.
+    fn verdict_on(
+        &self,
+        alloc: Global,
+        certificate: &str,
+        files: &[(&str, &str)],
+    ) -> Result<Answer, AllocError> {
+        let words = format!(in alloc; "check {} {} --certificate c", self.task, self.check)?;
+        checked(alloc, &words, files, certificate)
+    }
+}
+
+// Over these files a plan prints what it should, and the check answers what it should to its certificate.
+fn assert_planned(
+    rt: &impl Abort,
+    alloc: Global,
+    planned: &Planned,
+    files: &[(&str, &str)],
+) -> Result<(), Fail> {
+    let plan = planned.printed(alloc, "", files)?;
+    assert!(rt; plan.is(0, &Text::Is(planned.text), ""), "{}", planned.task);
+    let certificate = planned.printed(alloc, "--as-certificate", files)?;
+    let answer = planned.verdict_on(alloc, str::from_utf8(certificate.out.written())?, files)?;
+    assert!(rt;
+        answer.is(0, &Text::Is(planned.verdict), ""),
+        "{}",
+        planned.task
+    );
+    Ok(())
+}
+
 // What a run of `simulate` in memory comes to.
 fn print_steady(alloc: Global) -> Result<Printed, AllocError> {
     let words = words(alloc, simulate::STEADY)?;

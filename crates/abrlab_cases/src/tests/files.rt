@@ -52,6 +52,16 @@ pub(super) const TABLE: &str = "0,0\n0,50\n0,10\n";
 
 pub(super) const WEIGHED: [File; 3] = [("m", FILM), ("t", C2000), ("u", TABLE)];
 
+// The longer films on networks that change, with tables of utilities.
+pub(super) const WAVES_TABLE: &str =
+    "20,45,70,80\n35,38,60,95\n0,50,50,51\n10,10,90,90\n60,61,62,63\n5,40,75,99\n0,0,0,100\n33,66,80,81\n12,55,55,97\n40,41,85,88\n";
+
+pub(super) const SHORT_TABLE: &str = "0,10,25\n3,3,30\n0,24,25\n12,13,14\n0,0,40\n5,20,21\n";
+
+pub(super) const WAVES_WEIGHED: [File; 3] = [("m", WAVES), ("t", FALLING), ("u", WAVES_TABLE)];
+
+pub(super) const SHORT_WEIGHED: [File; 3] = [("m", SHORT), ("t", UNEVEN), ("u", SHORT_TABLE)];
+
 // The least film on its link.
 pub(super) const LEAST: [File; 2] = [("m", TINY), ("t", ONE)];
 

@@ -1,11 +1,12 @@
 // Whole runs on films and networks that are made from a few numbers.
 use super::Text::{Begins, Counts, Ends, Is};
-use super::{NONE, Text, run_words};
+use super::{NONE, Planned, Text, assert_planned, run_words};
 use std::alloc::{AllocError, Global};
 use std::process::Abort;
 use std::test::Fail;
 
 // A film whose segments are so many hundredths of what their bitrates say; the shares come again and again.
+#[derive(Clone, Copy)]
 pub(super) struct Film {
     pub(super) seg_ms: u64,
     pub(super) bitrates: &'static [u64],
@@ -33,7 +34,7 @@ pub(super) const LONG: Film = Film {
 
 // Two seconds on sixteen rungs: six segments, and two hundred, on which RobustMPC has a million lists at each request.
 #[rattlefmt::skip]
-const SIXTEEN: Film = Film {
+pub(super) const SIXTEEN: Film = Film {
     seg_ms: 2000,
     bitrates: &[200, 260, 340, 440, 570, 740, 960, 1250, 1600, 2100, 2700, 3500, 4600, 6000, 7800, 10000],
     shares: &[75, 112, 98, 84, 121, 107],
@@ -46,6 +47,17 @@ const WIDE: Film = Film {
     bitrates: &[200, 260, 340, 440, 570, 740, 960, 1250, 1600, 2100, 2700, 3500, 4600, 6000, 7800, 10000],
     shares: &[75, 112, 98, 84, 121, 107, 93, 79, 116, 102, 88, 125, 111, 97, 83, 120, 106, 92, 78, 115, 101, 87, 124, 110, 96, 82, 119, 105, 91, 77, 114, 100, 86, 123, 109, 95, 81, 118, 104, 90, 76, 113, 99, 85, 122, 108, 94, 80, 117, 103, 89],
     segments: 200,
+};
+
+// The sample film, whose exact plan spends the default budget with a buffer of 25 seconds.
+const SAMPLE: Film = Film {
+    seg_ms: 2000,
+    bitrates: &[235, 375, 560, 750, 1050, 1750, 2350, 3000, 4300, 5800],
+    shares: &[
+        127, 116, 113, 120, 119, 126, 127, 79, 86, 113, 110, 124, 127, 76, 125, 90, 106, 127, 80,
+        71, 96, 96, 74, 76, 78, 90, 100, 130, 107, 98,
+    ],
+    segments: 30,
 };
 
 // The longest film, of segments of one bit.
@@ -63,8 +75,19 @@ pub(super) const UP_AND_DOWN: [(u64, u64, u64); 20] = [
 ];
 
 #[rattlefmt::skip]
-const CLIMBS: [(u64, u64, u64); 11] = [
+pub(super) const CLIMBS: [(u64, u64, u64); 11] = [
     (4000, 1000, 20), (4000, 7300, 30), (4000, 3700, 40), (4000, 10000, 50), (4000, 6400, 60), (4000, 2800, 70), (4000, 9100, 80), (4000, 5500, 90), (4000, 1900, 100), (4000, 8200, 110), (4000, 4600, 120),
+];
+
+const MOBILE: [(u64, u64, u64); 8] = [
+    (6000, 5200, 60),
+    (5000, 4100, 70),
+    (4000, 1800, 90),
+    (5000, 420, 180),
+    (4000, 150, 400),
+    (3000, 600, 150),
+    (4000, 2200, 90),
+    (9000, 4800, 60),
 ];
 
 const BIT: [(u64, u64, u64); 1] = [(1, 1, 0)];
@@ -199,4 +222,22 @@ fn runs(rt: HostRuntime) -> Result<(), Fail> {
         assert_made(&rt, rt.alloc(), made)?;
     }
     Ok(())
+}
+
+// The plan of the sample film on a grid.
+static ON_A_GRID: Planned = Planned {
+    task: "--manifest m --trace t --utilities 0,1,2,3,4,6,7,8,9,10 --stall 10 --buffer 25000",
+    plan: "--coarse 20,5000",
+    check: "--gap",
+    text: "score 180474\nbound 299800\nlabels 15883\nplan 7 5 5 5 5 5 5 5 5 5 5 5 5 5 5 5 5 5 5 5 5 5 5 5 5 5 5 5 5 5\n",
+    verdict: "yes score 180474 bound 299800\n",
+};
+
+// Where the exact plan spends the budget, there is a plan on a grid, with a bound.
+#[test]
+fn budget_spent_film_on_a_grid(rt: HostRuntime) -> Result<(), Fail> {
+    let manifest = manifest_of(rt.alloc(), &SAMPLE)?;
+    let trace = trace_of(rt.alloc(), &MOBILE)?;
+    let files = [("m", manifest.as_str()), ("t", trace.as_str())];
+    assert_planned(&rt, rt.alloc(), &ON_A_GRID, &files)
 }

@@ -1,7 +1,12 @@
 // Whole runs with options of further reach: live sessions, and plans with a certified gap.
 use super::Text::{Ends, Is};
-use super::files::{FALLING, SHORT, SLOW, STEADY, UNEVEN, WAVES};
-use super::{Answer, Case, File, NO_FILE, NONE, Text, assert_answer, run_words};
+use super::files::{
+    FALLING, SHORT, SHORT_WEIGHED, SLOW, STEADY, UNEVEN, WAVES, WAVES_WEIGHED, WEIGHED,
+};
+use super::{
+    Answer, Case, File, NO_FILE, NONE, Planned, Round, Text, assert_answer, assert_planned,
+    assert_round, run_words,
+};
 use std::alloc::{AllocError, Global};
 use std::test::Fail;
 
@@ -12,7 +17,7 @@ const SHORTER: [File; 2] = [("m", SHORT), ("t", UNEVEN)];
 
 // Live sessions.
 #[rattlefmt::skip]
-static SESSIONS: [Case; 9] = [
+static SESSIONS: [Case; 10] = [
     Case {
         name: "live edge",
         words: "simulate --manifest m --trace t --utilities 0,10 --buffer 10000 --rule fixed:1 --live 0",
@@ -65,6 +70,15 @@ static SESSIONS: [Case; 9] = [
         files: &LONGER,
         status: 0,
         out: Ends("startup 192\nstall 5711\nstalls 4\nseeking 0\nwasted 0\nend 25903\nscore -536397\n"),
+        err: "",
+    },
+    Case {
+        name: "live on a list",
+        words: "simulate --manifest m --trace t --utilities 0,10,25 --buffer 2000 --switch 7 --stall 11 --startup 13 --rule list:0,1,2,2,1,0 --live 333",
+        file: NO_FILE,
+        files: &SHORTER,
+        status: 0,
+        out: Is("667 request 0 0\n962 arrive 0 0 first 742 rate 2590909\n962 play 0 0\n1667 request 1 1\n1962 stall\n3534 arrive 1 1 first 1677 rate 743134\n3534 request 2 2\n3534 play 1 1\n4534 stall\n5135 arrive 2 2 first 3867 rate 2287066\n5135 request 3 2\n5135 play 2 2\n6135 stall\n8274 arrive 3 2 first 5210 rate 840404\n8274 request 4 1\n8274 play 3 2\n8880 arrive 4 1 first 8349 rate 2598870\n9274 request 5 0\n9274 play 4 1\n10274 stall\n10409 arrive 5 0 first 9349 rate 547169\n10409 play 5 0\n11409 end\nstartup 962\nstall 4447\nstalls 4\nseeking 0\nwasted 0\nend 11409\nscore 8227\n"),
         err: "",
     },
     Case {
@@ -225,16 +239,6 @@ fn plans(rt: HostRuntime) -> Result<(), Fail> {
     Ok(())
 }
 
-// A plan as a certificate, the check of what it printed, and what that answers.
-struct Round {
-    plan: &'static str,
-    check: &'static str,
-    files: &'static [File],
-    status: u8,
-    out: Text,
-    err: &'static str,
-}
-
 #[rattlefmt::skip]
 static ROUNDS: [Round; 12] = [
     // Live edge.
@@ -347,23 +351,153 @@ static ROUNDS: [Round; 12] = [
     },
 ];
 
-// What `check` answers to what `plan` printed.
-fn checked(alloc: Global, round: &Round) -> Result<Answer, Fail> {
-    let plan = run_words(alloc, round.plan, round.files, NONE)?;
-    let mut files = Vec::from_slice(alloc, round.files)?;
-    files.push(("c", str::from_utf8(plan.out.written())?))?;
-    Ok(run_words(alloc, round.check, &files, NONE)?)
-}
-
 #[test]
 fn rounds(rt: HostRuntime) -> Result<(), Fail> {
     for round in &ROUNDS {
-        let answer = checked(rt.alloc(), round)?;
-        assert!(rt;
-            answer.is(round.status, &round.out, round.err),
-            "{}",
-            round.plan
-        );
+        assert_round(&rt, rt.alloc(), round)?;
+    }
+    Ok(())
+}
+
+// Films on whose rungs bits and utilities are equal.
+const TIES: &str =
+    r#"{"segment_duration_ms": 1000, "bitrates_kbps": [1000, 2000, 3000], "segment_sizes_bits": [[900000, 900000, 900000], [700000, 700000, 1400000], [800000, 1600000, 1600000], [500000, 500000, 500000]]}"#;
+
+const TIED: [File; 2] = [("m", TIES), ("t", UNEVEN)];
+
+const TIED_WEIGHED: [File; 3] = [
+    ("m", TIES),
+    ("t", UNEVEN),
+    ("u", "3,3,3\n0,7,7\n5,5,6\n1,1,1\n"),
+];
+
+// Plans on grids, and their gap certificates.
+#[rattlefmt::skip]
+static GRIDS: [(&[File], Planned); 9] = [
+    (&SLOW, Planned {
+        task: "--manifest m --trace t --utilities 0,0 --buffer 10000",
+        plan: "--coarse 1000,1",
+        check: "--gap",
+        text: "score -202000\nbound -202000\nlabels 10\nplan 0 0 0\n",
+        verdict: "yes score -202000 bound -202000\n",
+    }),
+    (&TIED, Planned {
+        task: "--manifest m --trace t --utilities 4,4,9 --buffer 3000 --switch 5 --stall 11",
+        plan: "--coarse 1,1",
+        check: "--gap",
+        text: "score 30528\nbound 30528\nlabels 21\nplan 2 2 0 2\n",
+        verdict: "yes score 30528 bound 30528\n",
+    }),
+    (&TIED, Planned {
+        task: "--manifest m --trace t --utilities 4,4,9 --buffer 3000 --switch 5 --stall 11",
+        plan: "--coarse 50,500",
+        check: "--gap",
+        text: "score 30528\nbound 31100\nlabels 21\nplan 2 2 0 2\n",
+        verdict: "yes score 30528 bound 31100\n",
+    }),
+    (&SHORTER, Planned {
+        task: "--manifest m --trace t --utilities 5,5,5 --buffer 4000 --switch 7 --stall 11",
+        plan: "--coarse 50,500",
+        check: "--gap",
+        text: "score 29705\nbound 30250\nlabels 48\nplan 0 0 0 0 0 0\n",
+        verdict: "yes score 29705 bound 30250\n",
+    }),
+    (&SHORTER, Planned {
+        task: "--manifest m --trace t --utilities 0,10,25 --buffer 4000 --switch 7 --stall 11 --startup 13",
+        plan: "--coarse 1,1000000",
+        check: "--gap",
+        text: "score 44614\nbound 5985568\nlabels 81\nplan 1 1 1 1 1 1\n",
+        verdict: "yes score 44614 bound 5985568\n",
+    }),
+    (&SHORTER, Planned {
+        task: "--manifest m --trace t --utilities 0,10,25 --buffer 4000 --switch 7 --stall 11 --startup 13",
+        plan: "--coarse 10000,1",
+        check: "--gap",
+        text: "score 62720\nbound 147618\nlabels 18\nplan 2 2 2 2 2 2\n",
+        verdict: "yes score 62720 bound 147618\n",
+    }),
+    (&SHORTER, Planned {
+        task: "--manifest m --trace t --utilities 0,10,25 --buffer 4000 --switch 7 --stall 11 --startup 13",
+        plan: "--coarse 10000,1000000",
+        check: "--gap",
+        text: "score 44614\nbound 6000000\nlabels 18\nplan 1 1 1 1 1 1\n",
+        verdict: "yes score 44614 bound 6000000\n",
+    }),
+    (&LONGER, Planned {
+        task: "--manifest m --trace t --utilities 0,5,5,20 --buffer 12000 --switch 3",
+        plan: "--coarse 7,333",
+        check: "--gap",
+        text: "score 148760\nbound 150846\nlabels 1659\nplan 3 3 3 1 1 3 0 3 3 3\n",
+        verdict: "yes score 148760 bound 150846\n",
+    }),
+    (&LONGER, Planned {
+        task: "--manifest m --trace t --utilities 0,5,5,20 --buffer 2000 --stall 0 --startup 0",
+        plan: "--coarse 100,20000",
+        check: "--gap",
+        text: "score 50000\nbound 200000\nlabels 177\nplan 1 1 1 1 1 1 1 1 1 1\n",
+        verdict: "yes score 50000 bound 200000\n",
+    }),
+];
+
+// The same with tables of utilities.
+#[rattlefmt::skip]
+static WEIGHED_GRIDS: [(&[File], Planned); 6] = [
+    (&WEIGHED, Planned {
+        task: "--manifest m --trace t --utility-table u --buffer 10000",
+        plan: "--coarse 500,60",
+        check: "--gap",
+        text: "score 59500\nbound 59560\nlabels 12\nplan 0 1 1\n",
+        verdict: "yes score 59500 bound 59560\n",
+    }),
+    (&SHORT_WEIGHED, Planned {
+        task: "--manifest m --trace t --utility-table u --buffer 4000 --switch 700 --stall 11 --startup 13",
+        plan: "--coarse 30,2000",
+        check: "--gap",
+        text: "score 94706\nbound 99200\nlabels 178\nplan 2 2 1 2 2 1\n",
+        verdict: "yes score 94706 bound 99200\n",
+    }),
+    (&WAVES_WEIGHED, Planned {
+        task: "--manifest m --trace t --utility-table u --buffer 12000 --switch 250 --stall 20",
+        plan: "--coarse 40,5000",
+        check: "--gap",
+        text: "score 788140\nbound 800000\nlabels 1295\nplan 3 3 2 2 2 3 3 2 2 3\n",
+        verdict: "yes score 788140 bound 800000\n",
+    }),
+    (&WAVES_WEIGHED, Planned {
+        task: "--manifest m --trace t --utility-table u --buffer 12000 --switch 250 --stall 20",
+        plan: "--coarse 10000,1000000",
+        check: "--gap",
+        text: "score 315308\nbound 10000000\nlabels 40\nplan 0 0 1 0 0 0 3 0 0 0\n",
+        verdict: "yes score 315308 bound 10000000\n",
+    }),
+    (&TIED_WEIGHED, Planned {
+        task: "--manifest m --trace t --utility-table u --buffer 3000 --switch 300 --stall 11",
+        plan: "--coarse 1,1",
+        check: "--gap",
+        text: "score 15915\nbound 15915\nlabels 19\nplan 1 1 2 0\n",
+        verdict: "yes score 15915 bound 15915\n",
+    }),
+    (&TIED_WEIGHED, Planned {
+        task: "--manifest m --trace t --utility-table u --buffer 3000 --switch 300 --stall 11",
+        plan: "--coarse 200,1000000",
+        check: "--gap",
+        text: "score 13478\nbound 3995600\nlabels 12\nplan 0 1 0 0\n",
+        verdict: "yes score 13478 bound 3995600\n",
+    }),
+];
+
+#[test]
+fn grids(rt: HostRuntime) -> Result<(), Fail> {
+    for (files, planned) in &GRIDS {
+        assert_planned(&rt, rt.alloc(), planned, files)?;
+    }
+    Ok(())
+}
+
+#[test]
+fn weighed_grids(rt: HostRuntime) -> Result<(), Fail> {
+    for (files, planned) in &WEIGHED_GRIDS {
+        assert_planned(&rt, rt.alloc(), planned, files)?;
     }
     Ok(())
 }
