@@ -39,16 +39,20 @@ abbrev pub heads_linked : ℕ → Option NodeId → Option NodeId → List Head 
 heads_linked c None to heads = slice_set heads c (record (head_at heads c) { first = to })
 heads_linked c (Some k) to heads = heads
 
+-- the node of a place
+abbrev pub node_of : ℕ → NodeId
+node_of n = record { 0 = n }
+
 -- where a list begins to which the nodes from a place on, so many, were strung
 abbrev pub free_after : ℕ → ℕ → Option NodeId → Option NodeId
 free_after from zero list = list
-free_after from (suc n) list = Some (record { 0 = from + n })
+free_after from (suc n) list = Some (node_of (from + n))
 
 -- the nodes, of which those from a place on, so many, were strung to a list
 abbrev pub nodes_strung : ℕ → ℕ → Option NodeId → List Node → List Node
 nodes_strung from zero list nodes = nodes
 nodes_strung from (suc n) list nodes =
-    nodes_linked (Some (record { 0 = from + n })) (free_after from n list) (nodes_strung from n list nodes)
+    nodes_linked (Some (node_of (from + n))) (free_after from n list) (nodes_strung from n list nodes)
 
 -- the nodes that the links lead along, at most so many
 abbrev pub ids_within : ℕ → List Node → Option NodeId → List NodeId

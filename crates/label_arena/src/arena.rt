@@ -3,7 +3,7 @@
 ghost use Rattle.std.specs.Prelude.{◌≡◌, ◌+◌, ◌<◌, ◌≤◌, IfOk, IfSome, OnErr, OnOk, length, option_map};
 ghost use Rattle.label_arena.specs.Chains.{HasLabel, HasLink, HasNext, HasParent, IsNew, IsOpen, IsSound, StandsAfter, StandsIn, StandsSealed, Stands, chain_at, empty_holdings, first_node, label_behind, node_count, standing, steps_of, with_added, with_dropped, with_raised, with_room, with_seal};
 
-use crate::links::{link_behind, node_at, set_link, string};
+use crate::links::{link_behind, node_at, set_link, set_next, string};
 use crate::node::{Head, Node, NodeId};
 use crate::walk::Walk;
 use lab_model::{Label, NoMemory};
@@ -133,7 +133,7 @@ impl Arena {
         let node = link_behind(&self.nodes, &self.heads, chain, after)?;
         let dropped = node_at(&self.nodes, node);
         set_link(&mut self.nodes, &mut self.heads, chain, after, dropped.next);
-        self.nodes[node.0 as usize].next = self.free;
+        set_next(&mut self.nodes, node, self.free);
         self.free = Some(node);
         self.spare += 1;
         Some(dropped.label)

@@ -25,9 +25,17 @@ pub(crate) fn link_behind(
     ensures { result ≡ link_behind nodes.now heads.now chain after }
 {
     match after {
-        Some(node) => nodes[node.0 as usize].next,
+        Some(node) => node_at(nodes, node).next,
         None => heads[chain as usize].first,
     }
+}
+
+/// Sets the link behind a node.
+pub(crate) fn set_next(nodes: &mut [Node], node: NodeId, to: Option<NodeId>)
+    requires { node.0 < length nodes.old }
+    ensures { nodes.new ≡ nodes_linked (Some node) to nodes.old }
+{
+    nodes[node.0 as usize].next = to;
 }
 
 /// Sets the link behind a node, or to the first node of a chain.
@@ -44,7 +52,7 @@ pub(crate) fn set_link(
     ensures heads { heads.new ≡ heads_linked chain after to heads.old }
 {
     match after {
-        Some(node) => nodes[node.0 as usize].next = to,
+        Some(node) => set_next(nodes, node, to),
         None => heads[chain as usize].first = to,
     }
 }
@@ -58,8 +66,9 @@ pub(crate) fn string(nodes: &mut [Node], from: u32, list: Option<NodeId>) -> Opt
 {
     let mut first = list;
     for place in from..nodes.len() as u32 {
-        nodes[place as usize].next = first;
-        first = Some(NodeId(place));
+        let node = NodeId(place);
+        set_next(nodes, node, first);
+        first = Some(node);
     }
     first
 }
