@@ -5,7 +5,7 @@ use Rattle.std.specs.List.{Contains, sum_by}
 use Rattle.std.proofs.lemmas.Bool.{cases_eq, cases_lt}
 use Rattle.std.proofs.lemmas.List.{get_or-map, length-map, set-get_or}
 use Rattle.label_arena.specs.Chains.{HasLabel, HasLink, HasNext, HasParent, HasParents, Holdings, IsNew, IsOpen, IsSound, LinkedChain, Standing, Stands, StandsAfter, StandsIn, chain_at, ids_of, label_behind, linked_chain, node_behind, node_count, nodes_holding, nodes_with, nodes_without, standing, standing_behind, times, with_added, with_dropped, with_raised, with_seal, without_found}
-use Rattle.label_arena.specs.Links.{IsArena, Links, Lists, chain_from, chain_ids, head_at, heads_linked, holdings, ids_from, ids_within, link_behind, node_at, node_length, nodes_linked, standing_at}
+use Rattle.label_arena.specs.Links.{IsArena, Links, Lists, chain_from, chain_ids, head_at, heads_linked, heads_sealed, holdings, ids_from, ids_within, link_behind, node_at, node_length, nodes_linked, standing_at}
 use Rattle.label_arena.specs.declared.node.Head.{Head}
 use Rattle.label_arena.specs.declared.node.Node.{Node}
 use Rattle.label_arena.specs.declared.node.NodeId.{NodeId}
@@ -14,6 +14,16 @@ use Rattle.label_arena.proofs.Moves.{added, chain_within, dropped, frees_are, fr
 use Rattle.label_arena.proofs.Parents.{first_or_rest, from_holding, from_with, from_without, in_behind, in_ids, in_none, parents_stay}
 use Rattle.label_arena.proofs.Views.{chain_by_head, chain_past, count_by_ids, held_linked, held_other, held_set, holding_map, holdings_changed, ids_stand, length_linked, nodes_are, sealed_linked, standings_same, stands_counted, stands_where, with_map, without_map}
 use Rattle.label_arena.proofs.Walks.{behind_linked, first_linked, leads_within, links_parts}
+
+-- what is held, by equal nodes and beginnings
+pub same_holdings : (nodes others : List Node) (heads firsts : List Head) (spare : ℕ) → nodes ≡ others → heads ≡ firsts → holdings nodes heads spare ≡ holdings others firsts spare
+same_holdings nodes others heads firsts spare e w = ap (λ (ns : List Node). holdings ns heads spare) e ∙ ap (λ (hs : List Head). holdings others hs spare) w
+
+-- what stands of an arena, by equal parts
+pub same_arena : (nodes others : List Node) (heads firsts : List Head) (free start : Option NodeId) (spare : ℕ) → nodes ≡ others → heads ≡ firsts → free ≡ start → IsArena others firsts start spare → IsArena nodes heads free spare
+same_arena nodes others heads firsts free start spare e w f a =
+    subst (λ (ns : List Node). IsArena ns heads free spare) (sym e)
+    (subst (λ (hs : List Head). IsArena others hs free spare) (sym w) (subst (λ (o : Option NodeId). IsArena others firsts o spare) (sym f) a))
 
 -- no links lead along nothing
 pub none_within : (n : ℕ) (nodes : List Node) → ids_within n nodes None ≡ []
@@ -287,29 +297,25 @@ module _ (nodes : List Node) (heads : List Head) (free : Option NodeId) (spare :
 
     -- ---- it is sealed
 
-    -- the beginnings then
-    abbrev pub heads_sealed : List Head
-    heads_sealed = set heads c (record (head_at heads c) { sealed = true })
-
     -- the lists then
-    pub lists_sealed : Lists nodes heads_sealed free (set chains c (get_or chains c [])) (ids_from nodes free)
+    pub lists_sealed : Lists nodes (heads_sealed c heads) free (set chains c (get_or chains c [])) (ids_from nodes free)
     lists_sealed =
-        subst (λ (cs : List (List NodeId)). Lists nodes heads_sealed free cs (ids_from nodes free)) (sym (set-get_or chains c []))
+        subst (λ (cs : List (List NodeId)). Lists nodes (heads_sealed c heads) free cs (ids_from nodes free)) (sym (set-get_or chains c []))
         (sealed nodes heads free chains (ids_from nodes free) a.lists c open_within)
 
     -- what is held then
-    pub holds_sealed : holdings nodes heads_sealed spare ≡ with_seal c here
+    pub holds_sealed : holdings nodes (heads_sealed c heads) spare ≡ with_seal c here
     holds_sealed =
         let head : Head = record (head_at heads c) { sealed = true } in
-        holdings_changed nodes heads free chains (ids_from nodes free) a.lists nodes heads_sealed free c (get_or chains c []) (ids_from nodes free) lists_sealed
+        holdings_changed nodes heads free chains (ids_from nodes free) a.lists nodes (heads_sealed c heads) free c (get_or chains c []) (ids_from nodes free) lists_sealed
         (chain_at here c).nodes true spare spare (length-set heads c head) open_within (ap (λ (h : Head). h.sealed) (head_set heads c head open_within))
         (sym open_nodes) (λ e ne. ap (λ (h : Head). h.sealed) (head_other heads c e head ne)) (λ e le ne. refl)
 
     -- what stands then
-    pub stands_sealed : IsArena nodes heads_sealed free spare
+    pub stands_sealed : IsArena nodes (heads_sealed c heads) free spare
     stands_sealed =
         record {
-          lists = settled nodes heads_sealed free (set chains c (get_or chains c [])) (ids_from nodes free) lists_sealed;
+          lists = settled nodes (heads_sealed c heads) free (set chains c (get_or chains c [])) (ids_from nodes free) lists_sealed;
           count = a.count;
           few = a.few;
           parents = subst HasParents (sym holds_sealed) (open_parents (chain_at here c).nodes true spare (λ s h. a.parents c s h));

@@ -5,3 +5,4 @@ pub mod Views
 pub mod Parents
 pub mod Kept
 pub mod Room
+pub mod Steps

@@ -1,5 +1,5 @@
 -- How an arena holds its chains: nodes linked by index, and the free list.
-use Rattle.std.specs.Prelude.{◌≡◌, ℕ, zero, suc, ◌+◌, ◌<◌, ◌≤◌, false, pos, List, [], ◌∷◌, Option, None, Some, length, map, slice_index_or, slice_set}
+use Rattle.std.specs.Prelude.{◌≡◌, ℕ, zero, suc, ◌+◌, ◌<◌, ◌≤◌, true, false, pos, List, [], ◌∷◌, Option, None, Some, length, map, slice_index_or, slice_set}
 use Rattle.std.specs.List.{sum_by}
 use Rattle.lab_model.specs.declared.label.Label.{Label}
 use Rattle.label_arena.specs.Chains.{HasParents, Holdings, LinkedChain, Standing, linked_chain, standing, steps_of, times}
@@ -38,6 +38,10 @@ nodes_linked (Some k) to nodes = slice_set nodes k.0 (record (node_at nodes k) {
 abbrev pub heads_linked : ℕ → Option NodeId → Option NodeId → List Head → List Head
 heads_linked c None to heads = slice_set heads c (record (head_at heads c) { first = to })
 heads_linked c (Some k) to heads = heads
+
+-- the beginnings, of which one is sealed
+abbrev pub heads_sealed : ℕ → List Head → List Head
+heads_sealed c heads = slice_set heads c (record (head_at heads c) { sealed = true })
 
 -- the node of a place
 abbrev pub node_of : ℕ → NodeId

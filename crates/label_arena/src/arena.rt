@@ -3,7 +3,7 @@
 ghost use Rattle.std.specs.Prelude.{◌≡◌, ◌+◌, ◌<◌, ◌≤◌, IfOk, IfSome, OnErr, OnOk, length, option_map};
 ghost use Rattle.label_arena.specs.Chains.{HasLabel, HasLink, HasNext, HasParent, IsNew, IsOpen, IsSound, StandsAfter, StandsIn, StandsSealed, Stands, chain_at, empty_holdings, first_node, label_behind, node_count, standing, steps_of, with_added, with_dropped, with_raised, with_room, with_seal};
 
-use crate::links::{link_behind, node_at, set_link, set_next, string};
+use crate::links::{lengthen, link_behind, node_at, seal_head, set_link, set_next, string};
 use crate::node::{Head, Node, NodeId};
 use crate::walk::Walk;
 use lab_model::{Label, NoMemory};
@@ -15,13 +15,6 @@ pub const MOST_CHAINS: u32 = 32_000;
 
 /// The most nodes of an arena.
 pub const MOST_NODES: u32 = 4_000_000;
-
-/// What a node holds before it was ever in a chain.
-const BLANK: Node = Node {
-    label: Label { t: 0, p: 0, v: 0 },
-    next: None,
-    parent: None,
-};
 
 /// What a chain begins with before it has nodes.
 const EMPTY: Head = Head {
@@ -77,8 +70,7 @@ impl Arena {
             return Ok(());
         }
         let from = self.nodes.len() as u32;
-        let most = from + (n - self.spare);
-        self.nodes.resize(most as usize, BLANK)?;
+        lengthen(&mut self.nodes, n - self.spare)?;
         self.free = string(&mut self.nodes, from, self.free);
         self.spare = n;
         Ok(())
@@ -118,8 +110,12 @@ impl Arena {
         requires parent { HasParent self.old parent }
         ensures { self.new ≡ with_raised chain (standing node label parent) self.old }
     {
-        let next = node_at(&self.nodes, node).next;
-        self.nodes[node.0 as usize] = Node { label, next, parent };
+        let held = node_at(&self.nodes, node);
+        self.nodes[node.0 as usize] = Node {
+            label,
+            parent,
+            ..held
+        };
     }
 
     /// Takes the node behind one that stands in an open chain out of it, or the first where `after` is none, and gives
@@ -144,7 +140,7 @@ impl Arena {
         requires { IsOpen self.old chain }
         ensures { self.new ≡ with_seal chain self.old }
     {
-        self.heads[chain as usize].sealed = true;
+        seal_head(&mut self.heads, chain);
     }
 
     /// The first node of a chain, if it has any.
