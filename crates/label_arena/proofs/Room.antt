@@ -229,6 +229,26 @@ module _ (nodes : List Node) (heads : List Head) (free : Option NodeId) (spare :
         parents = subst HasParents (sym holds_wide) a.parents;
       }
 
+-- what was built: so many blank nodes behind all, strung to the free list
+module _ (nodes longer : List Node) (free : Option NodeId) (from more : ℕ) (e : longer ≡ nodes ++ replicate more blank) (w : from ≡ length nodes) where
+  -- the nodes from the old end on are the new ones
+  pub built : length longer - from ≡ more
+  built =
+      let all = ap (λ (ns : List Node). length ns) e in
+      let sum = length-append nodes (replicate more blank) in
+      let new = length-replicate more blank in
+      omega (arith, all, sum, new, w)
+
+  -- the nodes
+  pub nodes_built : nodes_strung from (length longer - from) free longer ≡ nodes_strung (length nodes) more free (nodes ++ replicate more blank)
+  nodes_built =
+      ap (λ (n : ℕ). nodes_strung from n free longer) built
+      ∙ (ap (λ (n : ℕ). nodes_strung n more free longer) w ∙ ap (λ (ns : List Node). nodes_strung (length nodes) more free ns) e)
+
+  -- where the free list begins
+  pub free_built : free_after from (length longer - from) free ≡ free_after (length nodes) more free
+  free_built = ap (λ (n : ℕ). free_after from n free) built ∙ ap (λ (n : ℕ). free_after n more free) w
+
 -- room that is there
 pub room_there : (a : Holdings) (n : ℕ) → n ≤ a.spare → with_room n a ≡ a
 room_there a n le =
@@ -287,3 +307,9 @@ stands_start n =
       few = omega arith;
       parents = λ c s h. absurd (in_none s (subst (λ (ns : List Standing). Contains ns s) (start_empty n c) h));
     }
+
+-- it has no nodes in chains
+pub none_start : (n : ℕ) → node_count (holdings [] (replicate n no_head) 0) ≡ 0
+none_start n =
+    let all = all_counted [] (replicate n no_head) None 0 (stands_start n) in
+    omega (arith, all)

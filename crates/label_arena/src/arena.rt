@@ -3,7 +3,7 @@
 ghost use Rattle.std.specs.Prelude.{◌≡◌, ◌+◌, ◌<◌, ◌≤◌, IfOk, IfSome, OnErr, OnOk, length, option_map};
 ghost use Rattle.label_arena.specs.Chains.{HasLabel, HasLink, HasNext, HasParent, IsNew, IsOpen, IsSound, StandsAfter, StandsIn, StandsSealed, Stands, chain_at, empty_holdings, first_node, label_behind, node_count, standing, steps_of, with_added, with_dropped, with_raised, with_room, with_seal};
 
-use crate::links::{lengthen, link_behind, node_at, seal_head, set_link, set_next, string};
+use crate::links::{empty_heads, lengthen, link_behind, node_at, seal_head, set_link, set_next, string};
 use crate::node::{Head, Node, NodeId};
 use crate::walk::Walk;
 use lab_model::{Label, NoMemory};
@@ -15,12 +15,6 @@ pub const MOST_CHAINS: u32 = 32_000;
 
 /// The most nodes of an arena.
 pub const MOST_NODES: u32 = 4_000_000;
-
-/// What a chain begins with before it has nodes.
-const EMPTY: Head = Head {
-    first: None,
-    sealed: false,
-};
 
 /// Chains of labels, whose nodes stand in one vector.
 #[derive(Drop)]
@@ -49,9 +43,10 @@ impl Arena {
         requires room { room ≤ 4000000 }
         ensures { IfOk result (λ a. a ≡ empty_holdings chains room) }
     {
+        let heads = empty_heads(alloc, chains)?;
         let mut arena = Arena {
             nodes: Vec::new(alloc),
-            heads: vec![in alloc; EMPTY; chains as usize]?,
+            heads,
             free: None,
             spare: 0,
         };

@@ -1,11 +1,11 @@
 //! Links: reading them, setting them, and stringing new nodes to the free list.
 
-ghost use Rattle.std.specs.Prelude.{◌≡◌, ◌+◌, ◌-◌, ◌^◌, ◌<◌, ◌≤◌, ◌++◌, IfSome, OnErr, OnOk, length, replicate};
-ghost use Rattle.label_arena.specs.Links.{blank, free_after, heads_linked, heads_sealed, link_behind, node_at, nodes_linked, nodes_strung};
+ghost use Rattle.std.specs.Prelude.{◌≡◌, ◌+◌, ◌-◌, ◌^◌, ◌<◌, ◌≤◌, ◌++◌, IfOk, IfSome, OnErr, OnOk, length, replicate};
+ghost use Rattle.label_arena.specs.Links.{blank, free_after, heads_linked, heads_sealed, link_behind, no_head, node_at, nodes_linked, nodes_strung};
 
 use crate::node::{Head, Node, NodeId};
 use lab_model::Label;
-use std::alloc::AllocError;
+use std::alloc::{AllocError, Global};
 
 /// What a node holds.
 pub(crate) fn node_at(nodes: &[Node], node: NodeId) -> Node
@@ -73,6 +73,21 @@ const BLANK: Node = Node {
     next: None,
     parent: None,
 };
+
+/// What a chain begins with before it has nodes.
+const EMPTY: Head = Head {
+    first: None,
+    sealed: false,
+};
+
+/// The beginnings of so many chains, which are open and empty.
+pub(crate) fn empty_heads(alloc: Global, chains: u32) -> Result<Vec<Head>, AllocError>
+    ensures { IfOk result (λ v. v.items ≡ replicate chains no_head) }
+{
+    let mut heads = Vec::new(alloc);
+    heads.resize(chains as usize, EMPTY)?;
+    Ok(heads)
+}
 
 /// Adds so many blank nodes at the end. After the refusal all is as before.
 pub(crate) fn lengthen(nodes: &mut Vec<Node>, more: u32) -> Result<(), AllocError>

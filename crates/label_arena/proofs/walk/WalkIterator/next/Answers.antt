@@ -3,7 +3,7 @@ use Rattle.label_arena.specs.Links.{IsLinked, node_at, steps_from}
 use Rattle.label_arena.specs.declared.node.Node.{Node}
 use Rattle.label_arena.specs.declared.node.NodeId.{NodeId}
 use Rattle.label_arena.specs.declared.walk.Step.{Step}
-use Rattle.label_arena.proofs.Steps.{linked_parts, no_steps, steps_on}
+use Rattle.label_arena.proofs.Steps.{linked_parts, steps_on}
 use Rattle.label_arena.proofs.walk.WalkIterator.next.Goals as goal
 
 pub invariant_of-self : goal.invariant_of-self
@@ -22,3 +22,8 @@ returns-clause-steps c =
     ∙ (ap (λ (o : Option NodeId). steps_from s.nodes.now o) c.in_ok-node.was
     ∙ (steps_on s.nodes.now k linked
     ∙ ap (λ (y : Node). let step : Step = record { node = k; label = y.label } in step ∷ steps_from s.nodes.now y.next) (sym c.node_at-held.ensures)))
+
+pub returns-clause-goes : goal.returns-clause-goes
+returns-clause-goes c =
+    let count = ap (λ (ss : List Step). length ss) (returns-clause-steps c) in
+    record { on = λ _. (tt, tt, omega (arith, count)); keeps = tt; rests = λ _. tt }
