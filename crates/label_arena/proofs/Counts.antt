@@ -80,7 +80,7 @@ two_in_tally f chains c d frees nil lc ld ne =
     let within : d < length (set chains c []) = rw length-set ld in
     let other = get_or-set_other chains c d [] [] (λ e. ne (sym e)) in
     let at_most : f (get_or chains d []) ≤ sum_by f (set chains c []) =
-        subst (λ (is : List NodeId). f is ≤ sum_by f (set chains c [])) other (get_or-le-sum_by f (set chains c []) d [] within) in
+    subst (λ (is : List NodeId). f is ≤ sum_by f (set chains c [])) other (get_or-le-sum_by f (set chains c []) d [] within) in
     omega (arith, without, nil, at_most)
 
 -- a node of a chain is in no other
@@ -158,16 +158,16 @@ with_counts f g step (Some k) n [] h = absurd (omega (arith, h))
 with_counts f g step (Some k) n (i ∷ is) h =
     ⊎_elim
     (λ (e : k.0 ≡ i.0).
-        let all = ap g (with_at k n i is e) in
-        let one = step i (n ∷ is) in
-        let two = step n is in
-        let old = step i is in
-        omega (arith, all, one, two, old))
+    let all = ap g (with_at k n i is e) in
+    let one = step i (n ∷ is) in
+    let two = step n is in
+    let old = step i is in
+    omega (arith, all, one, two, old))
     (λ (ne : k.0 ≡ i.0 → ⊥).
-        let all = ap g (with_later k n i is ne) in
-        let one = step i (ids_with (Some k) n is) in
-        let less : 0 < times k.0 is = subst (λ (m : ℕ). 0 < m) (counted_rest k.0 i is ne) h in
-        let rest = with_counts f g step (Some k) n is less in
-        let old = step i is in
-        omega (arith, all, one, rest, old))
+    let all = ap g (with_later k n i is ne) in
+    let one = step i (ids_with (Some k) n is) in
+    let less : 0 < times k.0 is = subst (λ (m : ℕ). 0 < m) (counted_rest k.0 i is ne) h in
+    let rest = with_counts f g step (Some k) n is less in
+    let old = step i is in
+    omega (arith, all, one, rest, old))
     (cases_eq k.0 i.0)

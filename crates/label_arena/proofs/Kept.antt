@@ -107,23 +107,23 @@ module _ (nodes : List Node) (heads : List Head) (free : Option NodeId) (spare :
       record {
         once = λ c k. ⊎_elim
             (λ (lt : c < length heads).
-                subst (λ (is : List NodeId). times k.0 is ≤ 1) (sym (ids_stand nodes heads free chains (ids_from nodes free) a.lists spare c lt))
-                (⊎_elim
-                    (λ (some : 0 < times k.0 (get_or chains c [])).
-                        let one = once_there nodes heads free chains (ids_from nodes free) a.lists c k.0 lt some in
-                        omega (arith, one))
-                    (λ (none : times k.0 (get_or chains c []) ≤ 0). omega (arith, none))
-                    (cases_lt 0 (times k.0 (get_or chains c [])))))
+            subst (λ (is : List NodeId). times k.0 is ≤ 1) (sym (ids_stand nodes heads free chains (ids_from nodes free) a.lists spare c lt))
+            (⊎_elim
+            (λ (some : 0 < times k.0 (get_or chains c [])).
+            let one = once_there nodes heads free chains (ids_from nodes free) a.lists c k.0 lt some in
+            omega (arith, one))
+            (λ (none : times k.0 (get_or chains c []) ≤ 0). omega (arith, none))
+            (cases_lt 0 (times k.0 (get_or chains c [])))))
             (λ (le : length heads ≤ c).
-                subst (λ (x : LinkedChain). times k.0 (ids_of x.nodes) ≤ 1) (sym (chain_past nodes heads spare c le)) (omega arith))
+            subst (λ (x : LinkedChain). times k.0 (ids_of x.nodes) ≤ 1) (sym (chain_past nodes heads spare c le)) (omega arith))
             (cases_lt c (length heads));
         apart = λ c d k hc hd. ⊎_elim
             (λ (e : d ≡ c). sym e)
             (λ (ne : d ≡ c → ⊥).
-                let some = stands_counted nodes heads free chains (ids_from nodes free) a.lists spare c k hc in
-                let other = stands_counted nodes heads free chains (ids_from nodes free) a.lists spare d k hd in
-                let none = nowhere_else nodes heads free chains (ids_from nodes free) a.lists c d k.0 (stands_where nodes heads spare c k hc) (stands_where nodes heads spare d k hd) ne some in
-                absurd (omega (arith, none, other)))
+            let some = stands_counted nodes heads free chains (ids_from nodes free) a.lists spare c k hc in
+            let other = stands_counted nodes heads free chains (ids_from nodes free) a.lists spare d k hd in
+            let none = nowhere_else nodes heads free chains (ids_from nodes free) a.lists c d k.0 (stands_where nodes heads spare c k hc) (stands_where nodes heads spare d k hd) ne some in
+            absurd (omega (arith, none, other)))
             (cases_eq d c);
         parents = a.parents;
         few = omega (arith, all_counted, a.few);
@@ -147,7 +147,7 @@ module _ (nodes : List Node) (heads : List Head) (free : Option NodeId) (spare :
   standing_read c s h =
       ⊎_elim
       (λ (lt : c < length heads).
-          from_standings nodes (get_or chains c []) s (subst (λ (ns : List Standing). Contains ns s) (nodes_are nodes heads free chains (ids_from nodes free) a.lists spare c lt) h))
+      from_standings nodes (get_or chains c []) s (subst (λ (ns : List Standing). Contains ns s) (nodes_are nodes heads free chains (ids_from nodes free) a.lists spare c lt) h))
       (λ (le : length heads ≤ c). absurd (in_none s (subst (λ (x : LinkedChain). Contains x.nodes s) (chain_past nodes heads spare c le) h)))
       (cases_lt c (length heads))
 
@@ -164,7 +164,7 @@ module _ (nodes : List Node) (heads : List Head) (free : Option NodeId) (spare :
   standing_there c k h =
       let lt = stands_where nodes heads spare c k h in
       let there : Contains (get_or chains c []) k =
-          subst (λ (is : List NodeId). Contains is k) (ids_stand nodes heads free chains (ids_from nodes free) a.lists spare c lt) h in
+      subst (λ (is : List NodeId). Contains is k) (ids_stand nodes heads free chains (ids_from nodes free) a.lists spare c lt) h in
       subst (λ (ns : List Standing). Contains ns (standing_at nodes k)) (sym (nodes_are nodes heads free chains (ids_from nodes free) a.lists spare c lt))
       (to_standings nodes (get_or chains c []) k there)
 
@@ -232,7 +232,7 @@ module _ (nodes : List Node) (heads : List Head) (free : Option NodeId) (spare :
         pub holds_left : holdings nodes_left heads_left (spare + 1) ≡ with_dropped c after here
         holds_left =
             let held : (i : NodeId) → standing_at nodes_left i ≡ standing_at nodes i =
-                λ i. held_linked (nodes_linked after (node_at nodes d).next nodes) (Some d) free i ∙ held_linked nodes after (node_at nodes d).next i in
+            λ i. held_linked (nodes_linked after (node_at nodes d).next nodes) (Some d) free i ∙ held_linked nodes after (node_at nodes d).next i in
             let same : (is : List NodeId) → map (standing_at nodes_left) is ≡ map (standing_at nodes) is = λ is. standings_same nodes nodes_left is (λ i h. held i) in
             holdings_changed nodes heads free chains (ids_from nodes free) a.lists nodes_left heads_left (Some d) c (ids_without after (get_or chains c [])) (d ∷ ids_from nodes free) lists_left
             (nodes_without after (chain_at here c).nodes) false spare (spare + 1) (length_linked heads c after (node_at nodes d).next) open_within
@@ -247,8 +247,8 @@ module _ (nodes : List Node) (heads : List Head) (free : Option NodeId) (spare :
         stands_left =
             let frees = ap (λ (is : List NodeId). length is) (frees_are nodes_left heads_left (Some d) (set chains c (ids_without after (get_or chains c []))) (d ∷ ids_from nodes free) lists_left) in
             let kept : HasParents (with_dropped c after here) =
-                subst (λ (s : Option Standing). HasParents (without_found s c after here)) (sym found)
-                (open_parents (nodes_without after (chain_at here c).nodes) false (spare + 1) (λ s h. a.parents c s (from_without after (chain_at here c).nodes s h))) in
+            subst (λ (s : Option Standing). HasParents (without_found s c after here)) (sym found)
+            (open_parents (nodes_without after (chain_at here c).nodes) false (spare + 1) (λ s h. a.parents c s (from_without after (chain_at here c).nodes s h))) in
             record {
               lists = settled nodes_left heads_left (Some d) (set chains c (ids_without after (get_or chains c []))) (d ∷ ids_from nodes free) lists_left;
               count = omega (arith, frees, a.count);
@@ -277,10 +277,10 @@ module _ (nodes : List Node) (heads : List Head) (free : Option NodeId) (spare :
           (holding_map nodes k held (get_or chains c []) (stands_within c k in_chain) ∙ ap (nodes_holding changed) (sym open_nodes))
           (λ e ne. refl)
           (λ e le ne. standings_same nodes (set nodes k.0 held) (get_or chains e [])
-              (λ i h. held_other nodes k i held
-                  (λ w.
-                      let none = nowhere_else nodes heads free chains (ids_from nodes free) a.lists c e k.0 open_within le ne some in
-                      omega (arith, none, subst (λ (n : ℕ). 0 < times n (get_or chains e [])) w h))))
+          (λ i h. held_other nodes k i held
+          (λ w.
+          let none = nowhere_else nodes heads free chains (ids_from nodes free) a.lists c e k.0 open_within le ne some in
+          omega (arith, none, subst (λ (n : ℕ). 0 < times n (get_or chains e [])) w h))))
 
       -- what stands then
       pub stands_changed : IsArena (set nodes k.0 held) heads free spare
@@ -292,7 +292,7 @@ module _ (nodes : List Node) (heads : List Head) (free : Option NodeId) (spare :
             few = omega (arith, a.few, length-set nodes k.0 held);
             parents = subst HasParents (sym holds_changed)
                 (open_parents (nodes_holding changed (chain_at here c).nodes) false spare
-                    (λ s h. ⊎_elim (λ (e : changed ≡ s). subst (λ (x : Standing). HasParent here x.parent) e fits) (λ q. a.parents c s q) (from_holding changed (chain_at here c).nodes s h)));
+                (λ s h. ⊎_elim (λ (e : changed ≡ s). subst (λ (x : Standing). HasParent here x.parent) e fits) (λ q. a.parents c s q) (from_holding changed (chain_at here c).nodes s h)));
           }
 
     -- ---- it is sealed
@@ -373,7 +373,7 @@ module _ (nodes : List Node) (heads : List Head) (f : NodeId) (spare : ℕ) (a :
     held_then d ld =
         standings_same nodes nodes_then (get_or (chain_ids nodes heads) d [])
         (λ i h. held_linked (set nodes f.0 held) after (Some f) i
-            ∙ held_other nodes f i held (λ w. omega (arith, in_no_chain d ld, subst (λ (n : ℕ). 0 < times n (get_or (chain_ids nodes heads) d [])) w h)))
+        ∙ held_other nodes f i held (λ w. omega (arith, in_no_chain d ld, subst (λ (n : ℕ). 0 < times n (get_or (chain_ids nodes heads) d [])) w h)))
 
     -- what is held then
     pub holds_then : holdings nodes_then heads_then (spare - 1) ≡ with_added c after new (holdings nodes heads spare)
@@ -384,8 +384,8 @@ module _ (nodes : List Node) (heads : List Head) (f : NodeId) (spare : ℕ) (a :
         (nodes_with after new (chain_at (holdings nodes heads spare) c).nodes) false spare (spare - 1) (length_linked heads c after (Some f)) chain_there
         (sealed_linked heads c after (Some f) c chain_there ∙ open_head nodes heads (Some f) spare a c o)
         (with_map nodes_then after f ids
-            ∙ (ap (λ (s : Standing). nodes_with after s (map (standing_at nodes_then) ids)) itself
-            ∙ ap (nodes_with after new) (held_then c chain_there ∙ sym (open_nodes nodes heads (Some f) spare a c o))))
+        ∙ (ap (λ (s : Standing). nodes_with after s (map (standing_at nodes_then) ids)) itself
+        ∙ ap (nodes_with after new) (held_then c chain_there ∙ sym (open_nodes nodes heads (Some f) spare a c o))))
         (λ d ne. sealed_linked heads c after (Some f) d chain_there)
         (λ d ld ne. held_then d ld)
 
@@ -401,6 +401,6 @@ module _ (nodes : List Node) (heads : List Head) (f : NodeId) (spare : ℕ) (a :
           few = omega (arith, a.few, length_nodes (set nodes f.0 held) after (Some f), length-set nodes f.0 held);
           parents = subst HasParents (sym holds_then)
               (open_parents nodes heads (Some f) spare a c o (nodes_with after new (chain_at (holdings nodes heads spare) c).nodes) false (spare - 1)
-                  (λ s h. ⊎_elim (λ (e : new ≡ s). subst (λ (x : Standing). HasParent (holdings nodes heads spare) x.parent) e fits) (λ q. a.parents c s q)
-                      (from_with after new (chain_at (holdings nodes heads spare) c).nodes s h)));
+              (λ s h. ⊎_elim (λ (e : new ≡ s). subst (λ (x : Standing). HasParent (holdings nodes heads spare) x.parent) e fits) (λ q. a.parents c s q)
+              (from_with after new (chain_at (holdings nodes heads spare) c).nodes s h)));
         }

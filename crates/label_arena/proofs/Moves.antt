@@ -47,8 +47,8 @@ module _ (nodes : List Node) (heads : List Head) (free : Option NodeId) (chains 
   chains_are =
       ext_get_or [] (chain_ids nodes heads) chains (length-map heads (λ (h : Head). ids_from nodes h.first) ∙ sym l.count)
       (λ c lt.
-          let within : c < length heads = subst (λ (n : ℕ). c < n) (length-map heads (λ (h : Head). ids_from nodes h.first)) lt in
-          get_or-map (λ (h : Head). ids_from nodes h.first) heads c no_head [] within ∙ ids_are c within)
+      let within : c < length heads = subst (λ (n : ℕ). c < n) (length-map heads (λ (h : Head). ids_from nodes h.first)) lt in
+      get_or-map (λ (h : Head). ids_from nodes h.first) heads c no_head [] within ∙ ids_are c within)
 
   -- the lists are those that the links give
   pub settled : Lists nodes heads free (chain_ids nodes heads) (ids_from nodes free)
@@ -81,12 +81,12 @@ pub changed_links : (nodes : List Node) (heads others : List Head) (chains : Lis
 changed_links nodes heads others chains c js count lc here same there d ld =
     ⊎_elim
     (λ (e : d ≡ c).
-        let at : get_or (set chains c js) c [] ≡ js = get_or-set_same chains c js [] (omega (arith, count, lc)) in
-        subst (λ (x : ℕ). Links nodes (head_at others x).first (get_or (set chains c js) x [])) (sym e)
-        (subst (λ (is : List NodeId). Links nodes (head_at others c).first is) (sym at) here))
+    let at : get_or (set chains c js) c [] ≡ js = get_or-set_same chains c js [] (omega (arith, count, lc)) in
+    subst (λ (x : ℕ). Links nodes (head_at others x).first (get_or (set chains c js) x [])) (sym e)
+    (subst (λ (is : List NodeId). Links nodes (head_at others c).first is) (sym at) here))
     (λ (ne : d ≡ c → ⊥).
-        subst (λ (o : Option NodeId). Links nodes o (get_or (set chains c js) d [])) (sym (same d ld ne))
-        (subst (λ (is : List NodeId). Links nodes (head_at heads d).first is) (sym (get_or-set_other chains c d js [] ne)) (there d ld ne)))
+    subst (λ (o : Option NodeId). Links nodes o (get_or (set chains c js) d [])) (sym (same d ld ne))
+    (subst (λ (is : List NodeId). Links nodes (head_at heads d).first is) (sym (get_or-set_other chains c d js [] ne)) (there d ld ne)))
     (cases_eq d c)
 
 -- ---- a free node that goes to a place of a chain
@@ -126,9 +126,9 @@ module _ (nodes : List Node) (heads : List Head) (chains : List (List NodeId)) (
       let len = length-set nodes f.0 held in
       let first : Head = record (head_at heads c) { first = Some f } in
       let here : Links (set nodes f.0 held) (head_at (set heads c first) c).first (f ∷ get_or chains c []) =
-          subst (λ (h : Head). Links (set nodes f.0 held) h.first (f ∷ get_or chains c [])) (sym (head_set heads c first lc))
-          (links_step (set nodes f.0 held) f f (get_or chains c []) (head_at heads c).first refl (omega (arith, len, free_within)) (ap (λ (y : Node). y.next) (at_set nodes f held free_within) ∙ next)
-          (links_apart nodes f held (head_at heads c).first (get_or chains c []) (free_alone c lc) (l.linked c lc))) in
+      subst (λ (h : Head). Links (set nodes f.0 held) h.first (f ∷ get_or chains c [])) (sym (head_set heads c first lc))
+      (links_step (set nodes f.0 held) f f (get_or chains c []) (head_at heads c).first refl (omega (arith, len, free_within)) (ap (λ (y : Node). y.next) (at_set nodes f held free_within) ∙ next)
+      (links_apart nodes f held (head_at heads c).first (get_or chains c []) (free_alone c lc) (l.linked c lc))) in
       record {
         count = length-set chains c (f ∷ get_or chains c []) ∙ (l.count ∙ sym (length-set heads c first));
         linked = λ d ld.
@@ -159,7 +159,7 @@ module _ (nodes : List Node) (heads : List Head) (chains : List (List NodeId)) (
             (links_with nodes f k held (head_at heads c).first (get_or chains c []) free_within (free_alone c lc) once next (l.linked c lc))
             (λ e le ne. refl)
             (λ e le ne. links_apart middle k turned (head_at heads e).first (get_or chains e []) (nowhere_else nodes heads (Some f) chains (f ∷ rest) l c e k.0 lc le ne there)
-                (links_apart nodes f held (head_at heads e).first (get_or chains e []) (free_alone e le) (l.linked e le)));
+            (links_apart nodes f held (head_at heads e).first (get_or chains e []) (free_alone e le) (l.linked e le)));
         unused = links_apart middle k turned (node_at nodes f).next rest apart.1 (links_apart nodes f held (node_at nodes f).next rest free_once l.unused.2);
         once = λ m lt. added_once (Some k) there m (omega (arith, lt, len));
         whole = added_whole (Some k) there ∙ sym len;
@@ -197,8 +197,8 @@ module _ (nodes : List Node) (heads : List Head) (free : Option NodeId) (chains 
       let none : times d.0 parts.0 ≡ 0 = omega (arith, counted_first d.0 d parts.0 refl, ap (times d.0) parts.1, once) in
       let rest : behind_first_id (get_or chains c []) ≡ parts.0 = ap behind_first_id parts.1 in
       let here : Links after (head_at (set heads c head) c).first (behind_first_id (get_or chains c [])) =
-          subst (λ (h : Head). Links after h.first (behind_first_id (get_or chains c []))) (sym (head_set heads c head lc))
-          (subst (λ (is : List NodeId). Links after (node_at nodes d).next is) (sym rest) (links_apart nodes d freed (node_at nodes d).next parts.0 none parts.2)) in
+      subst (λ (h : Head). Links after h.first (behind_first_id (get_or chains c []))) (sym (head_set heads c head lc))
+      (subst (λ (is : List NodeId). Links after (node_at nodes d).next is) (sym rest) (links_apart nodes d freed (node_at nodes d).next parts.0 none parts.2)) in
       record {
         count = length-set chains c (behind_first_id (get_or chains c [])) ∙ (l.count ∙ sym (length-set heads c head));
         linked = λ e le.
@@ -236,7 +236,7 @@ module _ (nodes : List Node) (heads : List Head) (free : Option NodeId) (chains 
             (links_without nodes k d free (head_at heads c).first (get_or chains c []) next once_k once_d links)
             (λ x lx ne. refl)
             (λ x lx ne. links_apart middle d freed (head_at heads x).first (get_or chains x []) (nowhere_else nodes heads free chains frees l c x d.0 lc lx ne there)
-                (links_apart nodes k passed (head_at heads x).first (get_or chains x []) (nowhere_else nodes heads free chains frees l c x k.0 lc lx ne at_k) (l.linked x lx)));
+            (links_apart nodes k passed (head_at heads x).first (get_or chains x []) (nowhere_else nodes heads free chains frees l c x k.0 lc lx ne at_k) (l.linked x lx)));
         unused = links_step after d d frees free refl (omega (arith, len, chain_within nodes heads free chains frees l c d.0 lc there)) (ap (λ (y : Node). y.next) (at_set middle d freed within))
             (links_apart middle d freed free frees busy_d (links_apart nodes k passed free frees busy_k l.unused));
         once = λ m lt. dropped_counts (one_at m) (times m) (times_step m) (ids_without (Some k) (get_or chains c []))

@@ -54,12 +54,12 @@ parents_stay a c ns flag spare o all new d s h =
     let r : LinkedChain = linked_chain ns flag in
     parent_stays a c r spare s.parent o
     (⊎_elim
-        (λ (e : d ≡ c).
-            let at : chain_at (record { chains = set a.chains c r; spare = spare }) d ≡ r =
-                ap (λ (x : ℕ). chain_at (record { chains = set a.chains c r; spare = spare }) x) e ∙ set_chain a c r spare o.0 in
-            new s (subst (λ (x : LinkedChain). Contains x.nodes s) at h))
-        (λ (ne : d ≡ c → ⊥). all d s (subst (λ (x : LinkedChain). Contains x.nodes s) (other_chain a c d r spare ne) h))
-        (cases_eq d c))
+    (λ (e : d ≡ c).
+    let at : chain_at (record { chains = set a.chains c r; spare = spare }) d ≡ r =
+    ap (λ (x : ℕ). chain_at (record { chains = set a.chains c r; spare = spare }) x) e ∙ set_chain a c r spare o.0 in
+    new s (subst (λ (x : LinkedChain). Contains x.nodes s) at h))
+    (λ (ne : d ≡ c → ⊥). all d s (subst (λ (x : LinkedChain). Contains x.nodes s) (other_chain a c d r spare ne) h))
+    (cases_eq d c))
 
 -- the nodes with one more are it and those before
 pub from_with : (after : Option NodeId) (s : Standing) (ns : List Standing) (x : Standing) → Contains (nodes_with after s ns) x → (s ≡ x) ⊎ Contains ns x
@@ -68,13 +68,13 @@ from_with (Some k) s [] x h = absurd (in_none x h)
 from_with (Some k) s (n ∷ ns) x h =
     cond_both (same_node k n.node) (n ∷ s ∷ ns) (n ∷ nodes_with (Some k) s ns) (λ (zs : List Standing). Contains zs x → (s ≡ x) ⊎ Contains (n ∷ ns) x)
     (λ t w. ⊎_elim
-        (λ (e : n ≡ x). inr (subst (λ (y : Standing). Contains (n ∷ ns) y) e (at_first n ns)))
-        (λ (r : Contains (s ∷ ns) x). ⊎_elim (λ (e : s ≡ x). inl e) (λ (q : Contains ns x). inr (in_rest n ns x q)) (first_or_rest s ns x r))
-        (first_or_rest n (s ∷ ns) x w))
+    (λ (e : n ≡ x). inr (subst (λ (y : Standing). Contains (n ∷ ns) y) e (at_first n ns)))
+    (λ (r : Contains (s ∷ ns) x). ⊎_elim (λ (e : s ≡ x). inl e) (λ (q : Contains ns x). inr (in_rest n ns x q)) (first_or_rest s ns x r))
+    (first_or_rest n (s ∷ ns) x w))
     (λ t w. ⊎_elim
-        (λ (e : n ≡ x). inr (subst (λ (y : Standing). Contains (n ∷ ns) y) e (at_first n ns)))
-        (λ (r : Contains (nodes_with (Some k) s ns) x). ⊎_elim (λ (e : s ≡ x). inl e) (λ (q : Contains ns x). inr (in_rest n ns x q)) (from_with (Some k) s ns x r))
-        (first_or_rest n (nodes_with (Some k) s ns) x w)) h
+    (λ (e : n ≡ x). inr (subst (λ (y : Standing). Contains (n ∷ ns) y) e (at_first n ns)))
+    (λ (r : Contains (nodes_with (Some k) s ns) x). ⊎_elim (λ (e : s ≡ x). inl e) (λ (q : Contains ns x). inr (in_rest n ns x q)) (from_with (Some k) s ns x r))
+    (first_or_rest n (nodes_with (Some k) s ns) x w)) h
 
 -- all but the first are among all
 pub from_behind : (ns : List Standing) (x : Standing) → Contains (behind_first ns) x → Contains ns x
@@ -88,13 +88,13 @@ from_without (Some k) [] x h = h
 from_without (Some k) (n ∷ ns) x h =
     cond_both (same_node k n.node) (n ∷ behind_first ns) (n ∷ nodes_without (Some k) ns) (λ (zs : List Standing). Contains zs x → Contains (n ∷ ns) x)
     (λ t w. ⊎_elim
-        (λ (e : n ≡ x). subst (λ (y : Standing). Contains (n ∷ ns) y) e (at_first n ns))
-        (λ (r : Contains (behind_first ns) x). in_rest n ns x (from_behind ns x r))
-        (first_or_rest n (behind_first ns) x w))
+    (λ (e : n ≡ x). subst (λ (y : Standing). Contains (n ∷ ns) y) e (at_first n ns))
+    (λ (r : Contains (behind_first ns) x). in_rest n ns x (from_behind ns x r))
+    (first_or_rest n (behind_first ns) x w))
     (λ t w. ⊎_elim
-        (λ (e : n ≡ x). subst (λ (y : Standing). Contains (n ∷ ns) y) e (at_first n ns))
-        (λ (r : Contains (nodes_without (Some k) ns) x). in_rest n ns x (from_without (Some k) ns x r))
-        (first_or_rest n (nodes_without (Some k) ns) x w)) h
+    (λ (e : n ≡ x). subst (λ (y : Standing). Contains (n ∷ ns) y) e (at_first n ns))
+    (λ (r : Contains (nodes_without (Some k) ns) x). in_rest n ns x (from_without (Some k) ns x r))
+    (first_or_rest n (nodes_without (Some k) ns) x w)) h
 
 -- the nodes of which one holds something else are it and those before
 pub from_holding : (s : Standing) (ns : List Standing) (x : Standing) → Contains (nodes_holding s ns) x → (s ≡ x) ⊎ Contains ns x
@@ -102,9 +102,9 @@ from_holding s [] x h = absurd (in_none x h)
 from_holding s (n ∷ ns) x h =
     ⊎_elim
     (λ (e : cond (same_node s.node n.node) s n ≡ x).
-        cond_both (same_node s.node n.node) s n (λ (z : Standing). z ≡ x → (s ≡ x) ⊎ Contains (n ∷ ns) x)
-        (λ t w. inl w)
-        (λ t w. inr (subst (λ (y : Standing). Contains (n ∷ ns) y) w (at_first n ns))) e)
+    cond_both (same_node s.node n.node) s n (λ (z : Standing). z ≡ x → (s ≡ x) ⊎ Contains (n ∷ ns) x)
+    (λ t w. inl w)
+    (λ t w. inr (subst (λ (y : Standing). Contains (n ∷ ns) y) w (at_first n ns))) e)
     (λ (r : Contains (nodes_holding s ns) x). ⊎_elim (λ (e : s ≡ x). inl e) (λ (q : Contains ns x). inr (in_rest n ns x q)) (from_holding s ns x r))
     (first_or_rest (cond (same_node s.node n.node) s n) (nodes_holding s ns) x h)
 

@@ -39,9 +39,9 @@ strung_among from zero m fs low high = absurd (omega (arith, low, high))
 strung_among from (suc n) m fs low high =
     ⊎_elim
     (λ (e : m ≡ from + n).
-        counted_first m (node_of (from + n)) (ids_strung from n fs) e ∙ ap (λ (x : ℕ). 1 + x) (strung_behind from n m fs (omega (arith, e))))
+    counted_first m (node_of (from + n)) (ids_strung from n fs) e ∙ ap (λ (x : ℕ). 1 + x) (strung_behind from n m fs (omega (arith, e))))
     (λ (ne : m ≡ from + n → ⊥).
-        counted_rest m (node_of (from + n)) (ids_strung from n fs) ne ∙ strung_among from n m fs low (omega (arith, high, ne)))
+    counted_rest m (node_of (from + n)) (ids_strung from n fs) ne ∙ strung_among from n m fs low (omega (arith, high, ne)))
     (cases_eq m (from + n))
 
 -- the list is longer by so many
@@ -139,8 +139,8 @@ module _ (nodes : List Node) (heads : List Head) (free : Option NodeId) (chains 
   not_chained c lc m le =
       ⊎_elim
       (λ (some : 0 < times m (get_or chains c [])).
-          let within = chain_within nodes heads free chains frees l c m lc some in
-          absurd (omega (arith, within, le)))
+      let within = chain_within nodes heads free chains frees l c m lc some in
+      absurd (omega (arith, within, le)))
       (λ (none : times m (get_or chains c []) ≤ 0). omega (arith, none))
       (cases_lt 0 (times m (get_or chains c [])))
 
@@ -149,8 +149,8 @@ module _ (nodes : List Node) (heads : List Head) (free : Option NodeId) (chains 
   not_freed m le =
       ⊎_elim
       (λ (some : 0 < times m frees).
-          let within = linked_within nodes free frees m l.unused some in
-          absurd (omega (arith, within, le)))
+      let within = linked_within nodes free frees m l.unused some in
+      absurd (omega (arith, within, le)))
       (λ (none : times m frees ≤ 0). omega (arith, none))
       (cases_lt 0 (times m frees))
 
@@ -170,10 +170,10 @@ module _ (nodes : List Node) (heads : List Head) (free : Option NodeId) (chains 
             ⊎_elim
             (λ (old : m < length nodes). ap (λ (x : ℕ). sum_by (times m) chains + x) (strung_before (length nodes) n m frees old) ∙ l.once m old)
             (λ (new : length nodes ≤ m).
-                let chained = all_zero (times m) [] chains (λ c lc. not_chained c (omega (arith, lc, l.count)) m new) in
-                let freed = not_freed m new in
-                let one = strung_among (length nodes) n m frees new (omega (arith, lt, length_room)) in
-                omega (arith, chained, freed, one))
+            let chained = all_zero (times m) [] chains (λ c lc. not_chained c (omega (arith, lc, l.count)) m new) in
+            let freed = not_freed m new in
+            let one = strung_among (length nodes) n m frees new (omega (arith, lt, length_room)) in
+            omega (arith, chained, freed, one))
             (cases_lt m (length nodes));
         whole =
             let longer = length_strung (length nodes) n frees in
@@ -185,17 +185,17 @@ module _ (nodes : List Node) (heads : List Head) (free : Option NodeId) (chains 
   chains_room =
       ext_get_or no_chain (map (chain_from nodes_room) heads) (map (chain_from nodes) heads) (length-map heads (chain_from nodes_room) ∙ sym (length-map heads (chain_from nodes)))
       (λ d ld.
-          let at : d < length heads = subst (λ (x : ℕ). d < x) (length-map heads (chain_from nodes_room)) ld in
-          let same : map (standing_at nodes_room) (get_or chains d []) ≡ map (standing_at nodes) (get_or chains d []) =
-              standings_same nodes nodes_room (get_or chains d [])
-              (λ i h.
-                  held_strung nodes_longer (length nodes) n free i
-                  ∙ ap (λ (y : Node). standing i y.label y.parent) (get_or_append_left nodes (replicate n blank) blank i.0 (chain_within nodes heads free chains frees l d i.0 at h))) in
-          get_or-map (chain_from nodes_room) heads d no_head no_chain at
-          ∙ (chain_is nodes_room heads (free_after (length nodes) n free) chains (ids_strung (length nodes) n frees) lists_room 0 d at
-          ∙ (ap (λ (ss : List Standing). linked_chain ss (head_at heads d).sealed) same
-          ∙ (sym (chain_is nodes heads free chains frees l 0 d at)
-          ∙ sym (get_or-map (chain_from nodes) heads d no_head no_chain at)))))
+      let at : d < length heads = subst (λ (x : ℕ). d < x) (length-map heads (chain_from nodes_room)) ld in
+      let same : map (standing_at nodes_room) (get_or chains d []) ≡ map (standing_at nodes) (get_or chains d []) =
+      standings_same nodes nodes_room (get_or chains d [])
+      (λ i h.
+      held_strung nodes_longer (length nodes) n free i
+      ∙ ap (λ (y : Node). standing i y.label y.parent) (get_or_append_left nodes (replicate n blank) blank i.0 (chain_within nodes heads free chains frees l d i.0 at h))) in
+      get_or-map (chain_from nodes_room) heads d no_head no_chain at
+      ∙ (chain_is nodes_room heads (free_after (length nodes) n free) chains (ids_strung (length nodes) n frees) lists_room 0 d at
+      ∙ (ap (λ (ss : List Standing). linked_chain ss (head_at heads d).sealed) same
+      ∙ (sym (chain_is nodes heads free chains frees l 0 d at)
+      ∙ sym (get_or-map (chain_from nodes) heads d no_head no_chain at)))))
 
 module _ (nodes : List Node) (heads : List Head) (free : Option NodeId) (spare : ℕ) (a : IsArena nodes heads free spare) (n : ℕ) (more : spare < n) where
   -- the nodes then
@@ -286,21 +286,21 @@ stands_start n =
     let heads : List Head = replicate n no_head in
     let count = length-map heads (λ (h : Head). ids_from [] h.first) in
     let empty : (c : ℕ) → c < length heads → get_or (chain_ids [] heads) c [] ≡ [] =
-        λ c lt. get_or-map (λ (h : Head). ids_from [] h.first) heads c no_head [] lt in
+    λ c lt. get_or-map (λ (h : Head). ids_from [] h.first) heads c no_head [] lt in
     let first : (c : ℕ) → c < length heads → head_at heads c ≡ no_head =
-        λ c lt. get_or-replicate n c no_head no_head (subst (λ (x : ℕ). c < x) (length-replicate n no_head) lt) in
+    λ c lt. get_or-replicate n c no_head no_head (subst (λ (x : ℕ). c < x) (length-replicate n no_head) lt) in
     let lists : Lists [] heads None (chain_ids [] heads) (ids_from [] None) =
-        record {
-          count = count;
-          linked = λ c lt.
-              subst (λ (is : List NodeId). Links [] (head_at heads c).first is) (sym (empty c lt))
-              (subst (λ (h : Head). Links [] h.first []) (sym (first c lt)) tt);
-          unused = tt;
-          once = λ k lt. absurd (omega (arith, lt));
-          whole =
-              let none = all_zero node_length [] (chain_ids [] heads) (λ c lt. ap node_length (empty c (omega (arith, lt, count)))) in
-              omega (arith, none);
-        } in
+    record {
+      count = count;
+      linked = λ c lt.
+          subst (λ (is : List NodeId). Links [] (head_at heads c).first is) (sym (empty c lt))
+          (subst (λ (h : Head). Links [] h.first []) (sym (first c lt)) tt);
+      unused = tt;
+      once = λ k lt. absurd (omega (arith, lt));
+      whole =
+          let none = all_zero node_length [] (chain_ids [] heads) (λ c lt. ap node_length (empty c (omega (arith, lt, count)))) in
+          omega (arith, none);
+    } in
     record {
       lists = lists;
       count = refl;

@@ -36,8 +36,8 @@ pub stands_where : (nodes : List Node) (heads : List Head) (spare c : ℕ) (k : 
 stands_where nodes heads spare c k h =
     ⊎_elim (λ (lt : c < length heads). lt)
     (λ (le : length heads ≤ c).
-        let none = subst (λ (x : LinkedChain). Contains (ids_of x.nodes) k) (chain_past nodes heads spare c le) h in
-        absurd (omega (arith, none.1)))
+    let none = subst (λ (x : LinkedChain). Contains (ids_of x.nodes) k) (chain_past nodes heads spare c le) h in
+    absurd (omega (arith, none.1)))
     (cases_lt c (length heads))
 
 module _ (nodes : List Node) (heads : List Head) (free : Option NodeId) (chains : List (List NodeId)) (frees : List NodeId) (l : Lists nodes heads free chains frees) (spare : ℕ) where
@@ -69,15 +69,15 @@ one_changed nodes others heads firsts c r len lc here there =
     ext_get_or no_chain (map (chain_from others) firsts) (set old c r)
     (length-map firsts (chain_from others) ∙ (len ∙ (sym count ∙ sym (length-set old c r))))
     (λ d ld.
-        let low : d < length firsts = subst (λ (n : ℕ). d < n) (length-map firsts (chain_from others)) ld in
-        let at : d < length heads = omega (arith, low, len) in
-        get_or-map (chain_from others) firsts d no_head no_chain low
-        ∙ ⊎_elim
-        (λ (e : d ≡ c).
-            subst (λ (x : ℕ). chain_from others (head_at firsts x) ≡ get_or (set old c r) x no_chain) (sym e)
-            (here ∙ sym (get_or-set_same old c r no_chain (omega (arith, count, lc)))))
-        (λ (ne : d ≡ c → ⊥). there d at ne ∙ (sym (get_or-map (chain_from nodes) heads d no_head no_chain at) ∙ sym (get_or-set_other old c d r no_chain ne)))
-        (cases_eq d c))
+    let low : d < length firsts = subst (λ (n : ℕ). d < n) (length-map firsts (chain_from others)) ld in
+    let at : d < length heads = omega (arith, low, len) in
+    get_or-map (chain_from others) firsts d no_head no_chain low
+    ∙ ⊎_elim
+    (λ (e : d ≡ c).
+    subst (λ (x : ℕ). chain_from others (head_at firsts x) ≡ get_or (set old c r) x no_chain) (sym e)
+    (here ∙ sym (get_or-set_same old c r no_chain (omega (arith, count, lc)))))
+    (λ (ne : d ≡ c → ⊥). there d at ne ∙ (sym (get_or-map (chain_from nodes) heads d no_head no_chain at) ∙ sym (get_or-set_other old c d r no_chain ne)))
+    (cases_eq d c))
 
 -- what an arena holds, of which one chain changed
 pub holdings_changed : (nodes : List Node) (heads : List Head) (free : Option NodeId) (chains : List (List NodeId)) (frees : List NodeId) → Lists nodes heads free chains frees
@@ -89,15 +89,15 @@ pub holdings_changed : (nodes : List Node) (heads : List Head) (free : Option No
 holdings_changed nodes heads free chains frees l others firsts start c js rest l2 ns flag spare now len lc shut here same there =
     let there_c : get_or (set chains c js) c [] ≡ js = get_or-set_same chains c js [] (omega (arith, l.count, lc)) in
     let at_c : chain_from others (head_at firsts c) ≡ linked_chain ns flag =
-        chain_is others firsts start (set chains c js) rest l2 now c (omega (arith, len, lc))
-        ∙ (ap (λ (b : Bool). linked_chain (map (standing_at others) (get_or (set chains c js) c [])) b) shut
-        ∙ ap (λ (xs : List Standing). linked_chain xs flag) (ap (map (standing_at others)) there_c ∙ here)) in
+    chain_is others firsts start (set chains c js) rest l2 now c (omega (arith, len, lc))
+    ∙ (ap (λ (b : Bool). linked_chain (map (standing_at others) (get_or (set chains c js) c [])) b) shut
+    ∙ ap (λ (xs : List Standing). linked_chain xs flag) (ap (map (standing_at others)) there_c ∙ here)) in
     let at_d : (d : ℕ) → d < length heads → (d ≡ c → ⊥) → chain_from others (head_at firsts d) ≡ chain_from nodes (head_at heads d) =
-        λ d ld ne.
-        chain_is others firsts start (set chains c js) rest l2 now d (omega (arith, len, ld))
-        ∙ (ap (λ (b : Bool). linked_chain (map (standing_at others) (get_or (set chains c js) d [])) b) (same d ne)
-        ∙ (ap (λ (xs : List Standing). linked_chain xs (head_at heads d).sealed) (ap (map (standing_at others)) (get_or-set_other chains c d js [] ne) ∙ there d ld ne)
-        ∙ sym (chain_is nodes heads free chains frees l spare d ld))) in
+    λ d ld ne.
+    chain_is others firsts start (set chains c js) rest l2 now d (omega (arith, len, ld))
+    ∙ (ap (λ (b : Bool). linked_chain (map (standing_at others) (get_or (set chains c js) d [])) b) (same d ne)
+    ∙ (ap (λ (xs : List Standing). linked_chain xs (head_at heads d).sealed) (ap (map (standing_at others)) (get_or-set_other chains c d js [] ne) ∙ there d ld ne)
+    ∙ sym (chain_is nodes heads free chains frees l spare d ld))) in
     ap (λ (cs : List LinkedChain). let a : Holdings = record { chains = cs; spare = now } in a) (one_changed nodes others heads firsts c (linked_chain ns flag) len lc at_c at_d)
 
 -- ---- what nodes hold
@@ -117,10 +117,10 @@ held_linked nodes (Some k) to j =
     let x : Node = record (node_at nodes k) { next = to } in
     ⊎_elim
     (λ (lt : k.0 < length nodes).
-        ⊎_elim
-        (λ (e : j.0 ≡ k.0). subst (λ (m : NodeId). standing_at (set nodes k.0 x) m ≡ standing_at nodes m) (same_id k j (sym e)) (held_set nodes k x lt))
-        (λ (ne : j.0 ≡ k.0 → ⊥). held_other nodes k j x ne)
-        (cases_eq j.0 k.0))
+    ⊎_elim
+    (λ (e : j.0 ≡ k.0). subst (λ (m : NodeId). standing_at (set nodes k.0 x) m ≡ standing_at nodes m) (same_id k j (sym e)) (held_set nodes k x lt))
+    (λ (ne : j.0 ≡ k.0 → ⊥). held_other nodes k j x ne)
+    (cases_eq j.0 k.0))
     (λ (le : length nodes ≤ k.0). ap (λ (ns : List Node). standing_at ns j) (set_past nodes k.0 x le))
     (cases_lt k.0 (length nodes))
 
@@ -154,9 +154,9 @@ with_map nodes None f is = refl
 with_map nodes (Some k) f [] = refl
 with_map nodes (Some k) f (i ∷ is) =
     elim (same_node k i) as (λ b. map (standing_at nodes) (cond b (i ∷ f ∷ is) (i ∷ ids_with (Some k) f is))
-        ≡ cond b (standing_at nodes i ∷ standing_at nodes f ∷ map (standing_at nodes) is) (standing_at nodes i ∷ nodes_with (Some k) (standing_at nodes f) (map (standing_at nodes) is)))
-    [ true ↦ refl
-    | false ↦ ap (λ (ss : List Standing). standing_at nodes i ∷ ss) (with_map nodes (Some k) f is)
+    ≡ cond b (standing_at nodes i ∷ standing_at nodes f ∷ map (standing_at nodes) is) (standing_at nodes i ∷ nodes_with (Some k) (standing_at nodes f) (map (standing_at nodes) is))) [
+      | true ↦ refl
+      | false ↦ ap (λ (ss : List Standing). standing_at nodes i ∷ ss) (with_map nodes (Some k) f is)
     ]
 
 -- without the first
@@ -170,9 +170,9 @@ without_map nodes None is = behind_map nodes is
 without_map nodes (Some k) [] = refl
 without_map nodes (Some k) (i ∷ is) =
     elim (same_node k i) as (λ b. map (standing_at nodes) (cond b (i ∷ behind_first_id is) (i ∷ ids_without (Some k) is))
-        ≡ cond b (standing_at nodes i ∷ behind_first (map (standing_at nodes) is)) (standing_at nodes i ∷ nodes_without (Some k) (map (standing_at nodes) is)))
-    [ true ↦ ap (λ (ss : List Standing). standing_at nodes i ∷ ss) (behind_map nodes is)
-    | false ↦ ap (λ (ss : List Standing). standing_at nodes i ∷ ss) (without_map nodes (Some k) is)
+    ≡ cond b (standing_at nodes i ∷ behind_first (map (standing_at nodes) is)) (standing_at nodes i ∷ nodes_without (Some k) (map (standing_at nodes) is))) [
+      | true ↦ ap (λ (ss : List Standing). standing_at nodes i ∷ ss) (behind_map nodes is)
+      | false ↦ ap (λ (ss : List Standing). standing_at nodes i ∷ ss) (without_map nodes (Some k) is)
     ]
 
 -- where a node holds something else
@@ -181,11 +181,11 @@ holding_map nodes k x [] lt = refl
 holding_map nodes k x (i ∷ is) lt =
     let s : Standing = standing k x.label x.parent in
     let first : standing_at (set nodes k.0 x) i ≡ cond (same_node k i) s (standing_at nodes i) =
-        ⊎_elim
-        (λ (e : k.0 ≡ i.0).
-            subst (λ (m : NodeId). standing_at (set nodes k.0 x) m ≡ s) (same_id k i e) (held_set nodes k x lt) ∙ sym (cond-true _ _ _ (eq-eqb k.0 i.0 e)))
-        (λ (ne : k.0 ≡ i.0 → ⊥). held_other nodes k i x (λ w. ne (sym w)) ∙ sym (cond-false _ _ _ (ne_eqb k.0 i.0 ne)))
-        (cases_eq k.0 i.0) in
+    ⊎_elim
+    (λ (e : k.0 ≡ i.0).
+    subst (λ (m : NodeId). standing_at (set nodes k.0 x) m ≡ s) (same_id k i e) (held_set nodes k x lt) ∙ sym (cond-true _ _ _ (eq-eqb k.0 i.0 e)))
+    (λ (ne : k.0 ≡ i.0 → ⊥). held_other nodes k i x (λ w. ne (sym w)) ∙ sym (cond-false _ _ _ (ne_eqb k.0 i.0 ne)))
+    (cases_eq k.0 i.0) in
     ap (λ (y : Standing). y ∷ map (standing_at (set nodes k.0 x)) is) first
     ∙ ap (λ (ss : List Standing). cond (same_node k i) s (standing_at nodes i) ∷ ss) (holding_map nodes k x is lt)
 

@@ -58,8 +58,8 @@ pub next_kept : (nodes : List Node) (k j : NodeId) (x : Node) → k.0 < length n
 next_kept nodes k j x lt same =
     ⊎_elim
     (λ (e : j.0 ≡ k.0).
-        subst (λ (m : NodeId). (node_at (set nodes k.0 x) m).next ≡ (node_at nodes m).next) (same_id k j (sym e))
-        (ap (λ (y : Node). y.next) (at_set nodes k x lt) ∙ same))
+    subst (λ (m : NodeId). (node_at (set nodes k.0 x) m).next ≡ (node_at nodes m).next) (same_id k j (sym e))
+    (ap (λ (y : Node). y.next) (at_set nodes k x lt) ∙ same))
     (λ (ne : j.0 ≡ k.0 → ⊥). ap (λ (y : Node). y.next) (at_other nodes k j x ne))
     (cases_eq j.0 k.0)
 
@@ -89,10 +89,10 @@ linked_within nodes None (i ∷ is) k p h = absurd p
 linked_within nodes (Some j) (i ∷ is) k p h =
     ⊎_elim
     (λ (e : k ≡ i.0).
-        let same = ap (λ (m : NodeId). m.0) p.0 in
-        omega (arith, e, same, p.1))
+    let same = ap (λ (m : NodeId). m.0) p.0 in
+    omega (arith, e, same, p.1))
     (λ (ne : k ≡ i.0 → ⊥).
-        linked_within nodes (node_at nodes j).next is k p.2 (subst (λ (m : ℕ). 0 < m) (counted_rest k i is ne) h))
+    linked_within nodes (node_at nodes j).next is k p.2 (subst (λ (m : ℕ). 0 < m) (counted_rest k i is ne) h))
     (cases_eq k i.0)
 
 -- the first of the nodes
@@ -121,13 +121,13 @@ leads_within nodes None (i ∷ is) k d p h next = absurd p
 leads_within nodes (Some j) (i ∷ is) k d p h next =
     ⊎_elim
     (λ (e : k.0 ≡ i.0).
-        let same : k ≡ j = same_id k i e ∙ sym p.0 in
-        let to : (node_at nodes j).next ≡ Some d = subst (λ (m : NodeId). (node_at nodes m).next ≡ Some d) same next in
-        let rest = first_counted nodes d is (subst (λ (o : Option NodeId). Links nodes o is) to p.2) in
-        omega (arith, rest))
+    let same : k ≡ j = same_id k i e ∙ sym p.0 in
+    let to : (node_at nodes j).next ≡ Some d = subst (λ (m : NodeId). (node_at nodes m).next ≡ Some d) same next in
+    let rest = first_counted nodes d is (subst (λ (o : Option NodeId). Links nodes o is) to p.2) in
+    omega (arith, rest))
     (λ (ne : k.0 ≡ i.0 → ⊥).
-        let rest = leads_within nodes (node_at nodes j).next is k d p.2 (subst (λ (m : ℕ). 0 < m) (counted_rest k.0 i is ne) h) next in
-        omega (arith, rest))
+    let rest = leads_within nodes (node_at nodes j).next is k d p.2 (subst (λ (m : ℕ). 0 < m) (counted_rest k.0 i is ne) h) next in
+    omega (arith, rest))
     (cases_eq k.0 i.0)
 
 -- what stands behind a node of the links
@@ -137,10 +137,10 @@ behind_linked nodes None (i ∷ is) k p h = absurd p
 behind_linked nodes (Some j) (i ∷ is) k p h =
     ⊎_elim
     (λ (e : k.0 ≡ i.0).
-        let same : k ≡ j = same_id k i e ∙ sym p.0 in
-        cond-true _ _ _ (eq-eqb k.0 i.0 e) ∙ (first_linked nodes (node_at nodes j).next is p.2 ∙ ap (λ (m : NodeId). option_map (standing_at nodes) (node_at nodes m).next) (sym same)))
+    let same : k ≡ j = same_id k i e ∙ sym p.0 in
+    cond-true _ _ _ (eq-eqb k.0 i.0 e) ∙ (first_linked nodes (node_at nodes j).next is p.2 ∙ ap (λ (m : NodeId). option_map (standing_at nodes) (node_at nodes m).next) (sym same)))
     (λ (ne : k.0 ≡ i.0 → ⊥).
-        cond-false _ _ _ (ne_eqb k.0 i.0 ne) ∙ behind_linked nodes (node_at nodes j).next is k p.2 (subst (λ (m : ℕ). 0 < m) (counted_rest k.0 i is ne) h))
+    cond-false _ _ _ (ne_eqb k.0 i.0 ne) ∙ behind_linked nodes (node_at nodes j).next is k p.2 (subst (λ (m : ℕ). 0 < m) (counted_rest k.0 i is ne) h))
     (cases_eq k.0 i.0)
 
 -- with one more node behind one
@@ -159,25 +159,25 @@ links_with nodes f k held (Some j) (i ∷ is) lf zf one hn p =
     let number = ap (λ (m : NodeId). m.0) p.0 in
     ⊎_elim
     (λ (e : k.0 ≡ i.0).
-        let none : times k.0 is ≡ 0 = omega (arith, counted_first k.0 i is e, one) in
-        let same : k ≡ j = same_id k i e ∙ sym p.0 in
-        let far : f.0 ≡ k.0 → ⊥ = λ w. away.0 (w ∙ e) in
-        let lk : k.0 < length middle = omega (arith, length-set nodes f.0 held, e, number, p.1) in
-        let lf2 : f.0 < length after = omega (arith, len, lf) in
-        let to : (node_at after j).next ≡ Some f =
-            subst (λ (m : NodeId). (node_at after m).next ≡ Some f) same (ap (λ (y : Node). y.next) (at_set middle k turned lk)) in
-        let on : (node_at after f).next ≡ (node_at nodes j).next =
-            ap (λ (y : Node). y.next) (at_other middle k f turned far ∙ at_set nodes f held lf) ∙ (hn ∙ ap (λ (m : NodeId). (node_at nodes m).next) same) in
-        let rest : Links after (node_at nodes j).next is =
-            links_apart middle k turned (node_at nodes j).next is none (links_apart nodes f held (node_at nodes j).next is away.1 p.2) in
-        subst (λ (js : List NodeId). Links after (Some j) js) (sym (with_at k f i is e))
-        (links_step after j i (f ∷ is) (Some f) p.0 lj to (links_step after f f is (node_at nodes j).next refl lf2 on rest)))
+    let none : times k.0 is ≡ 0 = omega (arith, counted_first k.0 i is e, one) in
+    let same : k ≡ j = same_id k i e ∙ sym p.0 in
+    let far : f.0 ≡ k.0 → ⊥ = λ w. away.0 (w ∙ e) in
+    let lk : k.0 < length middle = omega (arith, length-set nodes f.0 held, e, number, p.1) in
+    let lf2 : f.0 < length after = omega (arith, len, lf) in
+    let to : (node_at after j).next ≡ Some f =
+    subst (λ (m : NodeId). (node_at after m).next ≡ Some f) same (ap (λ (y : Node). y.next) (at_set middle k turned lk)) in
+    let on : (node_at after f).next ≡ (node_at nodes j).next =
+    ap (λ (y : Node). y.next) (at_other middle k f turned far ∙ at_set nodes f held lf) ∙ (hn ∙ ap (λ (m : NodeId). (node_at nodes m).next) same) in
+    let rest : Links after (node_at nodes j).next is =
+    links_apart middle k turned (node_at nodes j).next is none (links_apart nodes f held (node_at nodes j).next is away.1 p.2) in
+    subst (λ (js : List NodeId). Links after (Some j) js) (sym (with_at k f i is e))
+    (links_step after j i (f ∷ is) (Some f) p.0 lj to (links_step after f f is (node_at nodes j).next refl lf2 on rest)))
     (λ (ne : k.0 ≡ i.0 → ⊥).
-        let rest = links_with nodes f k held (node_at nodes j).next is lf away.1 (sym (counted_rest k.0 i is ne) ∙ one) hn p.2 in
-        let not_k : j.0 ≡ k.0 → ⊥ = λ w. ne (sym w ∙ number) in
-        let not_f : j.0 ≡ f.0 → ⊥ = λ w. away.0 (sym w ∙ number) in
-        subst (λ (js : List NodeId). Links after (Some j) js) (sym (with_later k f i is ne))
-        (links_step after j i (ids_with (Some k) f is) (node_at nodes j).next p.0 lj (ap (λ (y : Node). y.next) (at_other middle k j turned not_k ∙ at_other nodes f j held not_f)) rest))
+    let rest = links_with nodes f k held (node_at nodes j).next is lf away.1 (sym (counted_rest k.0 i is ne) ∙ one) hn p.2 in
+    let not_k : j.0 ≡ k.0 → ⊥ = λ w. ne (sym w ∙ number) in
+    let not_f : j.0 ≡ f.0 → ⊥ = λ w. away.0 (sym w ∙ number) in
+    subst (λ (js : List NodeId). Links after (Some j) js) (sym (with_later k f i is ne))
+    (links_step after j i (ids_with (Some k) f is) (node_at nodes j).next p.0 lj (ap (λ (y : Node). y.next) (at_other middle k j turned not_k ∙ at_other nodes f j held not_f)) rest))
     (cases_eq k.0 i.0)
 
 -- without the node behind one
@@ -196,32 +196,32 @@ links_without nodes k d free (Some j) (i ∷ is) next one_k one_d p =
     let number = ap (λ (m : NodeId). m.0) p.0 in
     ⊎_elim
     (λ (e : k.0 ≡ i.0).
-        let same : k ≡ j = same_id k i e ∙ sym p.0 in
-        let to : (node_at nodes j).next ≡ Some d = subst (λ (m : NodeId). (node_at nodes m).next ≡ Some d) same next in
-        let parts = links_parts nodes d is (subst (λ (o : Option NodeId). Links nodes o is) to p.2) in
-        let none_k : times k.0 is ≡ 0 = omega (arith, counted_first k.0 i is e, one_k) in
-        let away = absent_parts k.0 d parts.0 (sym (ap (times k.0) parts.1) ∙ none_k) in
-        let apart : d.0 ≡ i.0 → ⊥ = λ w. away.0 (e ∙ sym w) in
-        let once : times d.0 (d ∷ parts.0) ≡ 1 = sym (ap (times d.0) parts.1) ∙ (sym (counted_rest d.0 i is apart) ∙ one_d) in
-        let none_d : times d.0 parts.0 ≡ 0 = omega (arith, counted_first d.0 d parts.0 refl, once) in
-        let not_d : j.0 ≡ d.0 → ⊥ = λ w. apart (sym w ∙ number) in
-        let lk : k.0 < length nodes = omega (arith, e, number, p.1) in
-        let on : (node_at after j).next ≡ (node_at nodes d).next =
-            ap (λ (y : Node). y.next) (at_other middle d j freed not_d)
-            ∙ subst (λ (m : NodeId). (node_at middle m).next ≡ (node_at nodes d).next) same (ap (λ (y : Node). y.next) (at_set nodes k passed lk)) in
-        let rest : Links after (node_at nodes d).next parts.0 =
-            links_apart middle d freed (node_at nodes d).next parts.0 none_d (links_apart nodes k passed (node_at nodes d).next parts.0 away.1 parts.2) in
-        subst (λ (js : List NodeId). Links after (Some j) js) (sym (without_at k i is e ∙ ap (λ (js : List NodeId). i ∷ behind_first_id js) parts.1))
-        (links_step after j i parts.0 (node_at nodes d).next p.0 lj on rest))
+    let same : k ≡ j = same_id k i e ∙ sym p.0 in
+    let to : (node_at nodes j).next ≡ Some d = subst (λ (m : NodeId). (node_at nodes m).next ≡ Some d) same next in
+    let parts = links_parts nodes d is (subst (λ (o : Option NodeId). Links nodes o is) to p.2) in
+    let none_k : times k.0 is ≡ 0 = omega (arith, counted_first k.0 i is e, one_k) in
+    let away = absent_parts k.0 d parts.0 (sym (ap (times k.0) parts.1) ∙ none_k) in
+    let apart : d.0 ≡ i.0 → ⊥ = λ w. away.0 (e ∙ sym w) in
+    let once : times d.0 (d ∷ parts.0) ≡ 1 = sym (ap (times d.0) parts.1) ∙ (sym (counted_rest d.0 i is apart) ∙ one_d) in
+    let none_d : times d.0 parts.0 ≡ 0 = omega (arith, counted_first d.0 d parts.0 refl, once) in
+    let not_d : j.0 ≡ d.0 → ⊥ = λ w. apart (sym w ∙ number) in
+    let lk : k.0 < length nodes = omega (arith, e, number, p.1) in
+    let on : (node_at after j).next ≡ (node_at nodes d).next =
+    ap (λ (y : Node). y.next) (at_other middle d j freed not_d)
+    ∙ subst (λ (m : NodeId). (node_at middle m).next ≡ (node_at nodes d).next) same (ap (λ (y : Node). y.next) (at_set nodes k passed lk)) in
+    let rest : Links after (node_at nodes d).next parts.0 =
+    links_apart middle d freed (node_at nodes d).next parts.0 none_d (links_apart nodes k passed (node_at nodes d).next parts.0 away.1 parts.2) in
+    subst (λ (js : List NodeId). Links after (Some j) js) (sym (without_at k i is e ∙ ap (λ (js : List NodeId). i ∷ behind_first_id js) parts.1))
+    (links_step after j i parts.0 (node_at nodes d).next p.0 lj on rest))
     (λ (ne : k.0 ≡ i.0 → ⊥).
-        let tail : times k.0 is ≡ 1 = sym (counted_rest k.0 i is ne) ∙ one_k in
-        let there = leads_within nodes (node_at nodes j).next is k d p.2 (omega (arith, tail)) next in
-        let apart : d.0 ≡ i.0 → ⊥ = λ w. omega (arith, counted_first d.0 i is w, one_d, there) in
-        let rest = links_without nodes k d free (node_at nodes j).next is next tail (sym (counted_rest d.0 i is apart) ∙ one_d) p.2 in
-        let not_k : j.0 ≡ k.0 → ⊥ = λ w. ne (sym w ∙ number) in
-        let not_d : j.0 ≡ d.0 → ⊥ = λ w. apart (sym w ∙ number) in
-        subst (λ (js : List NodeId). Links after (Some j) js) (sym (without_later k i is ne))
-        (links_step after j i (ids_without (Some k) is) (node_at nodes j).next p.0 lj (ap (λ (y : Node). y.next) (at_other middle d j freed not_d ∙ at_other nodes k j passed not_k)) rest))
+    let tail : times k.0 is ≡ 1 = sym (counted_rest k.0 i is ne) ∙ one_k in
+    let there = leads_within nodes (node_at nodes j).next is k d p.2 (omega (arith, tail)) next in
+    let apart : d.0 ≡ i.0 → ⊥ = λ w. omega (arith, counted_first d.0 i is w, one_d, there) in
+    let rest = links_without nodes k d free (node_at nodes j).next is next tail (sym (counted_rest d.0 i is apart) ∙ one_d) p.2 in
+    let not_k : j.0 ≡ k.0 → ⊥ = λ w. ne (sym w ∙ number) in
+    let not_d : j.0 ≡ d.0 → ⊥ = λ w. apart (sym w ∙ number) in
+    subst (λ (js : List NodeId). Links after (Some j) js) (sym (without_later k i is ne))
+    (links_step after j i (ids_without (Some k) is) (node_at nodes j).next p.0 lj (ap (λ (y : Node). y.next) (at_other middle d j freed not_d ∙ at_other nodes k j passed not_k)) rest))
     (cases_eq k.0 i.0)
 
 -- one less is counted once less
@@ -232,18 +232,18 @@ without_counts f g step nodes k d None (i ∷ is) next h p = absurd p
 without_counts f g step nodes k d (Some j) (i ∷ is) next h p =
     ⊎_elim
     (λ (e : k.0 ≡ i.0).
-        let same : k ≡ j = same_id k i e ∙ sym p.0 in
-        let to : (node_at nodes j).next ≡ Some d = subst (λ (m : NodeId). (node_at nodes m).next ≡ Some d) same next in
-        let parts = links_parts nodes d is (subst (λ (o : Option NodeId). Links nodes o is) to p.2) in
-        let all = ap g (without_at k i is e ∙ ap (λ (js : List NodeId). i ∷ behind_first_id js) parts.1) in
-        let one = step i parts.0 in
-        let old = step i is in
-        let two = ap g parts.1 ∙ step d parts.0 in
-        omega (arith, all, one, old, two))
+    let same : k ≡ j = same_id k i e ∙ sym p.0 in
+    let to : (node_at nodes j).next ≡ Some d = subst (λ (m : NodeId). (node_at nodes m).next ≡ Some d) same next in
+    let parts = links_parts nodes d is (subst (λ (o : Option NodeId). Links nodes o is) to p.2) in
+    let all = ap g (without_at k i is e ∙ ap (λ (js : List NodeId). i ∷ behind_first_id js) parts.1) in
+    let one = step i parts.0 in
+    let old = step i is in
+    let two = ap g parts.1 ∙ step d parts.0 in
+    omega (arith, all, one, old, two))
     (λ (ne : k.0 ≡ i.0 → ⊥).
-        let all = ap g (without_later k i is ne) in
-        let one = step i (ids_without (Some k) is) in
-        let old = step i is in
-        let rest = without_counts f g step nodes k d (node_at nodes j).next is next (subst (λ (m : ℕ). 0 < m) (counted_rest k.0 i is ne) h) p.2 in
-        omega (arith, all, one, old, rest))
+    let all = ap g (without_later k i is ne) in
+    let one = step i (ids_without (Some k) is) in
+    let old = step i is in
+    let rest = without_counts f g step nodes k d (node_at nodes j).next is next (subst (λ (m : ℕ). 0 < m) (counted_rest k.0 i is ne) h) p.2 in
+    omega (arith, all, one, old, rest))
     (cases_eq k.0 i.0)

@@ -3,7 +3,9 @@
 ghost use Rattle.std.specs.Prelude.{◌≡◌, ◌+◌, ◌<◌, ◌≤◌, IfOk, IfSome, OnErr, OnOk, length, option_map};
 ghost use Rattle.label_arena.specs.Chains.{HasLabel, HasLink, HasNext, HasParent, IsNew, IsOpen, IsSound, StandsAfter, StandsIn, StandsSealed, Stands, chain_at, empty_holdings, first_node, label_behind, node_count, standing, steps_of, with_added, with_dropped, with_raised, with_room, with_seal};
 
-use crate::links::{empty_heads, lengthen, link_behind, node_at, seal_head, set_link, set_next, string};
+use crate::links::{
+    empty_heads, lengthen, link_behind, node_at, seal_head, set_link, set_next, string,
+};
 use crate::node::{Head, Node, NodeId};
 use crate::walk::Walk;
 use lab_model::{Label, NoMemory};
@@ -92,7 +94,11 @@ impl Arena {
         };
         let next = link_behind(&self.nodes, &self.heads, chain, after);
         self.free = node_at(&self.nodes, node).next;
-        self.nodes[node.0 as usize] = Node { label, next, parent };
+        self.nodes[node.0 as usize] = Node {
+            label,
+            next,
+            parent,
+        };
         set_link(&mut self.nodes, &mut self.heads, chain, after, Some(node));
         self.spare -= 1;
         node

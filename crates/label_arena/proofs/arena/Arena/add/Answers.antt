@@ -33,8 +33,8 @@ invariant_of-self c =
     let arena = subst (λ (x : Option NodeId). IsArena s.nodes.items s.heads.items x s.spare) c.in-Some.is c.self.invariant in
     let held : Node = record { label = c.args.label; next = c.link_behind-next.result; parent = c.args.parent } in
     let next = c.link_behind-next.ensures
-        ∙ (ap (λ (ns : List Node). link_behind ns c.deref-2.result.now c.args.chain c.args.after) c.deref.ensures.value
-        ∙ ap (λ (hs : List Head). link_behind s.nodes.items hs c.args.chain c.args.after) c.deref-2.ensures.value) in
+    ∙ (ap (λ (ns : List Node). link_behind ns c.deref-2.result.now c.args.chain c.args.after) c.deref.ensures.value
+    ∙ ap (λ (hs : List Head). link_behind s.nodes.items hs c.args.chain c.args.after) c.deref-2.ensures.value) in
     let rest = ap (λ (y : Node). y.next) (c.node_at.ensures ∙ ap (λ (ns : List Node). node_at ns f) c.deref-3.ensures.value) in
     same_arena c.set_link.new.nodes.items (nodes_linked c.args.after (Some f) (set s.nodes.items f.0 held)) c.set_link.new.heads.items (heads_linked c.args.chain c.args.after (Some f) s.heads.items)
     c.node_at.result.next (node_at s.nodes.items f).next (s.spare - 1) c.set_link.ensures.nodes c.set_link.ensures.heads rest
@@ -50,8 +50,8 @@ returns-clause-added c =
     let arena = subst (λ (x : Option NodeId). IsArena s.nodes.items s.heads.items x s.spare) c.in-Some.is c.self.invariant in
     let held : Node = record { label = c.args.label; next = c.link_behind-next.result; parent = c.args.parent } in
     let next = c.link_behind-next.ensures
-        ∙ (ap (λ (ns : List Node). link_behind ns c.deref-2.result.now c.args.chain c.args.after) c.deref.ensures.value
-        ∙ ap (λ (hs : List Head). link_behind s.nodes.items hs c.args.chain c.args.after) c.deref-2.ensures.value) in
+    ∙ (ap (λ (ns : List Node). link_behind ns c.deref-2.result.now c.args.chain c.args.after) c.deref.ensures.value
+    ∙ ap (λ (hs : List Head). link_behind s.nodes.items hs c.args.chain c.args.after) c.deref-2.ensures.value) in
     same_holdings c.set_link.new.nodes.items (nodes_linked c.args.after (Some f) (set s.nodes.items f.0 held)) c.set_link.new.heads.items (heads_linked c.args.chain c.args.after (Some f) s.heads.items)
     (s.spare - 1) c.set_link.ensures.nodes c.set_link.ensures.heads
     ∙ (holds_then s.nodes.items s.heads.items f s.spare arena c.args.chain o c.args.after place held next fits

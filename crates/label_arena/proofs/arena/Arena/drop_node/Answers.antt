@@ -21,8 +21,8 @@ returns-in_err-node-clause-label c =
     let o = subst (λ (a : Holdings). IsOpen a c.args.chain) (sym c.self.view_is) c.requires.chain in
     let place = subst (λ (a : Holdings). StandsAfter a c.args.chain c.args.after) (sym c.self.view_is) c.requires.after in
     let link = sym (c.link_behind.ensures
-        ∙ (ap (λ (ns : List Node). link_behind ns c.deref-2.result.now c.args.chain c.args.after) c.deref.ensures.value
-        ∙ ap (λ (hs : List Head). link_behind s.nodes.items hs c.args.chain c.args.after) c.deref-2.ensures.value)) in
+    ∙ (ap (λ (ns : List Node). link_behind ns c.deref-2.result.now c.args.chain c.args.after) c.deref.ensures.value
+    ∙ ap (λ (hs : List Head). link_behind s.nodes.items hs c.args.chain c.args.after) c.deref-2.ensures.value)) in
     c.from_residual.ensures
     ∙ (sym (none_label s.nodes.items s.heads.items s.free s.spare c.self.invariant c.args.chain o c.args.after place (link ∙ c.in_err-node.was))
     ∙ ap (λ (a : Holdings). label_behind c.args.after (chain_at a c.args.chain).nodes) c.self.view_is)
@@ -33,8 +33,8 @@ returns-in_err-node-clause-dropped c =
     let o = subst (λ (a : Holdings). IsOpen a c.args.chain) (sym c.self.view_is) c.requires.chain in
     let place = subst (λ (a : Holdings). StandsAfter a c.args.chain c.args.after) (sym c.self.view_is) c.requires.after in
     let link = sym (c.link_behind.ensures
-        ∙ (ap (λ (ns : List Node). link_behind ns c.deref-2.result.now c.args.chain c.args.after) c.deref.ensures.value
-        ∙ ap (λ (hs : List Head). link_behind s.nodes.items hs c.args.chain c.args.after) c.deref-2.ensures.value)) in
+    ∙ (ap (λ (ns : List Node). link_behind ns c.deref-2.result.now c.args.chain c.args.after) c.deref.ensures.value
+    ∙ ap (λ (hs : List Head). link_behind s.nodes.items hs c.args.chain c.args.after) c.deref-2.ensures.value)) in
     sym c.self.view_is
     ∙ (sym (none_dropped s.nodes.items s.heads.items s.free s.spare c.self.invariant c.args.chain o c.args.after place (link ∙ c.in_err-node.was))
     ∙ ap (with_dropped c.args.chain c.args.after) c.self.view_is)
@@ -45,8 +45,8 @@ node_at-dropped-requires c =
     let o = subst (λ (a : Holdings). IsOpen a c.args.chain) (sym c.self.view_is) c.requires.chain in
     let place = subst (λ (a : Holdings). StandsAfter a c.args.chain c.args.after) (sym c.self.view_is) c.requires.after in
     let link = sym (c.link_behind.ensures
-        ∙ (ap (λ (ns : List Node). link_behind ns c.deref-2.result.now c.args.chain c.args.after) c.deref.ensures.value
-        ∙ ap (λ (hs : List Head). link_behind s.nodes.items hs c.args.chain c.args.after) c.deref-2.ensures.value)) in
+    ∙ (ap (λ (ns : List Node). link_behind ns c.deref-2.result.now c.args.chain c.args.after) c.deref.ensures.value
+    ∙ ap (λ (hs : List Head). link_behind s.nodes.items hs c.args.chain c.args.after) c.deref-2.ensures.value)) in
     let d = c.in_ok-node.node in
     let found = link ∙ c.in_ok-node.was in
     subst (λ (ns : List Node). d.0 < length ns) (sym c.deref-3.ensures.value)
@@ -58,8 +58,8 @@ set_next-requires c =
     let o = subst (λ (a : Holdings). IsOpen a c.args.chain) (sym c.self.view_is) c.requires.chain in
     let place = subst (λ (a : Holdings). StandsAfter a c.args.chain c.args.after) (sym c.self.view_is) c.requires.after in
     let link = sym (c.link_behind.ensures
-        ∙ (ap (λ (ns : List Node). link_behind ns c.deref-2.result.now c.args.chain c.args.after) c.deref.ensures.value
-        ∙ ap (λ (hs : List Head). link_behind s.nodes.items hs c.args.chain c.args.after) c.deref-2.ensures.value)) in
+    ∙ (ap (λ (ns : List Node). link_behind ns c.deref-2.result.now c.args.chain c.args.after) c.deref.ensures.value
+    ∙ ap (λ (hs : List Head). link_behind s.nodes.items hs c.args.chain c.args.after) c.deref-2.ensures.value)) in
     let d = c.in_ok-node.node in
     let found = link ∙ c.in_ok-node.was in
     let within = dropped_within s.nodes.items s.heads.items s.free s.spare c.self.invariant c.args.chain o c.args.after place d found in
@@ -71,14 +71,14 @@ invariant_of-self c =
     let o = subst (λ (a : Holdings). IsOpen a c.args.chain) (sym c.self.view_is) c.requires.chain in
     let place = subst (λ (a : Holdings). StandsAfter a c.args.chain c.args.after) (sym c.self.view_is) c.requires.after in
     let link = sym (c.link_behind.ensures
-        ∙ (ap (λ (ns : List Node). link_behind ns c.deref-2.result.now c.args.chain c.args.after) c.deref.ensures.value
-        ∙ ap (λ (hs : List Head). link_behind s.nodes.items hs c.args.chain c.args.after) c.deref-2.ensures.value)) in
+    ∙ (ap (λ (ns : List Node). link_behind ns c.deref-2.result.now c.args.chain c.args.after) c.deref.ensures.value
+    ∙ ap (λ (hs : List Head). link_behind s.nodes.items hs c.args.chain c.args.after) c.deref-2.ensures.value)) in
     let d = c.in_ok-node.node in
     let found = link ∙ c.in_ok-node.was in
     let to = ap (λ (y : Node). y.next) (c.node_at-dropped.ensures ∙ ap (λ (ns : List Node). node_at ns d) c.deref-3.ensures.value) in
     let nodes = c.set_next.ensures
-        ∙ (ap (λ (ns : List Node). nodes_linked (Some d) s.free ns) c.set_link.ensures.nodes
-        ∙ ap (λ (x : Option NodeId). nodes_linked (Some d) s.free (nodes_linked c.args.after x s.nodes.items)) to) in
+    ∙ (ap (λ (ns : List Node). nodes_linked (Some d) s.free ns) c.set_link.ensures.nodes
+    ∙ ap (λ (x : Option NodeId). nodes_linked (Some d) s.free (nodes_linked c.args.after x s.nodes.items)) to) in
     let heads = c.set_link.ensures.heads ∙ ap (λ (x : Option NodeId). heads_linked c.args.chain c.args.after x s.heads.items) to in
     same_arena c.set_next.new.nodes.items (nodes_linked (Some d) s.free (nodes_linked c.args.after (node_at s.nodes.items d).next s.nodes.items))
     c.set_link.new.heads.items (heads_linked c.args.chain c.args.after (node_at s.nodes.items d).next s.heads.items) (Some d) (Some d) (s.spare + 1) nodes heads refl
@@ -90,8 +90,8 @@ returns-clause-label c =
     let o = subst (λ (a : Holdings). IsOpen a c.args.chain) (sym c.self.view_is) c.requires.chain in
     let place = subst (λ (a : Holdings). StandsAfter a c.args.chain c.args.after) (sym c.self.view_is) c.requires.after in
     let link = sym (c.link_behind.ensures
-        ∙ (ap (λ (ns : List Node). link_behind ns c.deref-2.result.now c.args.chain c.args.after) c.deref.ensures.value
-        ∙ ap (λ (hs : List Head). link_behind s.nodes.items hs c.args.chain c.args.after) c.deref-2.ensures.value)) in
+    ∙ (ap (λ (ns : List Node). link_behind ns c.deref-2.result.now c.args.chain c.args.after) c.deref.ensures.value
+    ∙ ap (λ (hs : List Head). link_behind s.nodes.items hs c.args.chain c.args.after) c.deref-2.ensures.value)) in
     let d = c.in_ok-node.node in
     let found = link ∙ c.in_ok-node.was in
     let held = c.node_at-dropped.ensures ∙ ap (λ (ns : List Node). node_at ns d) c.deref-3.ensures.value in
@@ -105,14 +105,14 @@ returns-clause-dropped c =
     let o = subst (λ (a : Holdings). IsOpen a c.args.chain) (sym c.self.view_is) c.requires.chain in
     let place = subst (λ (a : Holdings). StandsAfter a c.args.chain c.args.after) (sym c.self.view_is) c.requires.after in
     let link = sym (c.link_behind.ensures
-        ∙ (ap (λ (ns : List Node). link_behind ns c.deref-2.result.now c.args.chain c.args.after) c.deref.ensures.value
-        ∙ ap (λ (hs : List Head). link_behind s.nodes.items hs c.args.chain c.args.after) c.deref-2.ensures.value)) in
+    ∙ (ap (λ (ns : List Node). link_behind ns c.deref-2.result.now c.args.chain c.args.after) c.deref.ensures.value
+    ∙ ap (λ (hs : List Head). link_behind s.nodes.items hs c.args.chain c.args.after) c.deref-2.ensures.value)) in
     let d = c.in_ok-node.node in
     let found = link ∙ c.in_ok-node.was in
     let to = ap (λ (y : Node). y.next) (c.node_at-dropped.ensures ∙ ap (λ (ns : List Node). node_at ns d) c.deref-3.ensures.value) in
     let nodes = c.set_next.ensures
-        ∙ (ap (λ (ns : List Node). nodes_linked (Some d) s.free ns) c.set_link.ensures.nodes
-        ∙ ap (λ (x : Option NodeId). nodes_linked (Some d) s.free (nodes_linked c.args.after x s.nodes.items)) to) in
+    ∙ (ap (λ (ns : List Node). nodes_linked (Some d) s.free ns) c.set_link.ensures.nodes
+    ∙ ap (λ (x : Option NodeId). nodes_linked (Some d) s.free (nodes_linked c.args.after x s.nodes.items)) to) in
     let heads = c.set_link.ensures.heads ∙ ap (λ (x : Option NodeId). heads_linked c.args.chain c.args.after x s.heads.items) to in
     same_holdings c.set_next.new.nodes.items (nodes_linked (Some d) s.free (nodes_linked c.args.after (node_at s.nodes.items d).next s.nodes.items))
     c.set_link.new.heads.items (heads_linked c.args.chain c.args.after (node_at s.nodes.items d).next s.heads.items) (s.spare + 1) nodes heads
