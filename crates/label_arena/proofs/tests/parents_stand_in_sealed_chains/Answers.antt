@@ -27,7 +27,7 @@ raise-requires-clause-parent g c =
     let a = c.add-a.result in
     let b = c.add-b.result in
     let old = c.add-b.ensures.added
-        ∙ ap (with_added 1 None (standing b c.label-2.result None)) (c.seal.ensures ∙ ap (with_seal 0) (c.add-a.ensures.added ∙ ap (with_added 0 None (standing a c.label.result None)) c.in_ok-arena.ensures)) in
+    ∙ ap (with_added 1 None (standing b c.label-2.result None)) (c.seal.ensures ∙ ap (with_seal 0) (c.add-a.ensures.added ∙ ap (with_added 0 None (standing a c.label.result None)) c.in_ok-arena.ensures)) in
     subst (λ (x : Holdings). StandsSealed x a) (sym old) (sealed_there a b c.label.result c.label-2.result)
 
 pub label-requires-4 : goal.label-requires-4
@@ -35,7 +35,7 @@ label-requires-4 g c =
     let a = c.add-a.result in
     let b = c.add-b.result in
     let old = c.add-b.ensures.added
-        ∙ ap (with_added 1 None (standing b c.label-2.result None)) (c.seal.ensures ∙ ap (with_seal 0) (c.add-a.ensures.added ∙ ap (with_added 0 None (standing a c.label.result None)) c.in_ok-arena.ensures)) in
+    ∙ ap (with_added 1 None (standing b c.label-2.result None)) (c.seal.ensures ∙ ap (with_seal 0) (c.add-a.ensures.added ∙ ap (with_added 0 None (standing a c.label.result None)) c.in_ok-arena.ensures)) in
     let now = c.raise.ensures ∙ ap (with_raised 1 (standing b c.label-3.result (Some a))) old in
     subst (λ (x : Holdings). Stands x b) (sym now) (second_there a b c.label.result c.label-2.result c.label-3.result)
 
@@ -44,7 +44,7 @@ parent-requires g c =
     let a = c.add-a.result in
     let b = c.add-b.result in
     let old = c.add-b.ensures.added
-        ∙ ap (with_added 1 None (standing b c.label-2.result None)) (c.seal.ensures ∙ ap (with_seal 0) (c.add-a.ensures.added ∙ ap (with_added 0 None (standing a c.label.result None)) c.in_ok-arena.ensures)) in
+    ∙ ap (with_added 1 None (standing b c.label-2.result None)) (c.seal.ensures ∙ ap (with_seal 0) (c.add-a.ensures.added ∙ ap (with_added 0 None (standing a c.label.result None)) c.in_ok-arena.ensures)) in
     let now = c.raise.ensures ∙ ap (with_raised 1 (standing b c.label-3.result (Some a))) old in
     subst (λ (x : Holdings). Stands x b) (sym now) (second_there a b c.label.result c.label-2.result c.label-3.result)
 
@@ -53,6 +53,6 @@ parent-requires-2 g c =
     let a = c.add-a.result in
     let b = c.add-b.result in
     let old = c.add-b.ensures.added
-        ∙ ap (with_added 1 None (standing b c.label-2.result None)) (c.seal.ensures ∙ ap (with_seal 0) (c.add-a.ensures.added ∙ ap (with_added 0 None (standing a c.label.result None)) c.in_ok-arena.ensures)) in
+    ∙ ap (with_added 1 None (standing b c.label-2.result None)) (c.seal.ensures ∙ ap (with_seal 0) (c.add-a.ensures.added ∙ ap (with_added 0 None (standing a c.label.result None)) c.in_ok-arena.ensures)) in
     let now = c.raise.ensures ∙ ap (with_raised 1 (standing b c.label-3.result (Some a))) old in
     subst (λ (x : Holdings). Stands x a) (sym now) (first_there a b c.label.result c.label-2.result c.label-3.result)
