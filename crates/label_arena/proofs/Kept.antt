@@ -1,11 +1,11 @@
 -- What stands of an arena, before and after each change.
-use Rattle.std.proofs.Common.{◌≡◌, ℕ, zero, suc, ◌+◌, ◌-◌, ◌<◌, ◌≤◌, ◌⊎◌, Bool, true, false, List, [], ◌∷◌, Option, None, Some, length, get_or, set, map, refl, sym, ◌∙◌, ap, subst, inl, inr, ⊎_elim, arith, length-set, get_or-set_other, get_or-set_same}
+use Rattle.std.proofs.Common.{◌≡◌, ℕ, zero, suc, ◌+◌, ◌-◌, ◌<◌, ◌≤◌, Bool, true, false, List, [], ◌∷◌, Option, None, Some, length, get_or, set, map, refl, sym, ◌∙◌, ap, subst, ⊎_elim, arith, length-set}
 use Rattle.std.specs.Prelude.{IfSome, option_map}
-use Rattle.std.specs.List.{Contains, sum_by}
+use Rattle.std.specs.List.{Contains}
 use Rattle.std.proofs.lemmas.Bool.{cases_eq, cases_lt}
 use Rattle.std.proofs.lemmas.List.{get_or-map, length-map, set-get_or}
 use Rattle.label_arena.specs.Chains.{HasLabel, HasLink, HasNext, HasParent, HasParents, Holdings, IsNew, IsOpen, IsSound, LinkedChain, Standing, Stands, StandsAfter, StandsIn, chain_at, ids_of, label_behind, linked_chain, node_behind, node_count, nodes_holding, nodes_with, nodes_without, standing, standing_behind, times, with_added, with_dropped, with_raised, with_seal, without_found}
-use Rattle.label_arena.specs.Links.{IsArena, Links, Lists, chain_from, chain_ids, head_at, heads_linked, heads_sealed, holdings, ids_from, ids_within, link_behind, node_at, node_length, nodes_linked, standing_at}
+use Rattle.label_arena.specs.Links.{IsArena, Links, Lists, chain_from, chain_ids, head_at, heads_linked, heads_sealed, holdings, ids_from, ids_within, link_behind, node_at, nodes_linked, standing_at}
 use Rattle.label_arena.specs.declared.node.Head.{Head}
 use Rattle.label_arena.specs.declared.node.Node.{Node}
 use Rattle.label_arena.specs.declared.node.NodeId.{NodeId}
@@ -13,7 +13,7 @@ use Rattle.label_arena.proofs.Counts.{IsPlaceIn, ids_with, ids_without}
 use Rattle.label_arena.proofs.Moves.{added, chain_within, dropped, frees_are, free_alone, free_within, head_other, head_set, nowhere_else, once_there, raised, sealed, settled}
 use Rattle.label_arena.proofs.Parents.{first_or_rest, from_holding, from_with, from_without, in_behind, in_ids, in_none, parents_stay}
 use Rattle.label_arena.proofs.Views.{chain_by_head, chain_past, count_by_ids, held_linked, held_other, held_set, holding_map, holdings_changed, ids_stand, length_linked, nodes_are, sealed_linked, standings_same, stands_counted, stands_where, with_map, without_map}
-use Rattle.label_arena.proofs.Walks.{behind_linked, first_linked, leads_within, links_parts}
+use Rattle.label_arena.proofs.Walks.{behind_linked, first_linked, links_parts}
 
 -- what is held, by equal nodes and beginnings
 pub same_holdings : (nodes others : List Node) (heads firsts : List Head) (spare : ℕ) → nodes ≡ others → heads ≡ firsts → holdings nodes heads spare ≡ holdings others firsts spare

@@ -1,15 +1,14 @@
 -- What each change leaves of the chains and the free list.
-use Rattle.std.proofs.Common.{◌≡◌, ℕ, zero, suc, ◌+◌, ◌<◌, ◌≤◌, ◌⊎◌, true, List, [], ◌∷◌, Option, None, Some, length, get_or, set, map, refl, sym, ◌∙◌, ap, subst, inl, inr, ⊎_elim, arith, length-set, get_or-set_other, get_or-set_same}
+use Rattle.std.proofs.Common.{◌≡◌, ℕ, ◌+◌, ◌<◌, true, List, [], ◌∷◌, Option, None, Some, length, get_or, set, refl, sym, ◌∙◌, ap, subst, ⊎_elim, arith, length-set, get_or-set_other, get_or-set_same}
 use Rattle.std.proofs.lemmas.Bool.{cases_eq}
 use Rattle.std.proofs.lemmas.List.{ext_get_or, get_or-map, length-map}
-use Rattle.std.specs.List.{sum_by}
 use Rattle.label_arena.specs.Chains.{one_at, times}
-use Rattle.label_arena.specs.Links.{Links, Lists, blank, chain_ids, head_at, heads_linked, ids_from, link_behind, no_head, node_at, node_length, nodes_linked, tally}
+use Rattle.label_arena.specs.Links.{Links, Lists, chain_ids, head_at, heads_linked, ids_from, link_behind, no_head, node_at, node_length, nodes_linked, tally}
 use Rattle.label_arena.specs.declared.node.Head.{Head}
 use Rattle.label_arena.specs.declared.node.Node.{Node}
 use Rattle.label_arena.specs.declared.node.NodeId.{NodeId}
 use Rattle.label_arena.proofs.Counts.{IsPlaceIn, absent_parts, behind_first_id, counted_first, ids_with, ids_without, in_tally, not_free, not_in_chain, not_in_other, tally_kept, there_once, with_counts}
-use Rattle.label_arena.proofs.Walks.{at_other, at_set, first_counted, leads_within, linked_within, links_apart, links_kept, links_parts, links_step, links_with, links_without, within_is, without_counts}
+use Rattle.label_arena.proofs.Walks.{at_set, first_counted, leads_within, linked_within, links_apart, links_kept, links_parts, links_step, links_with, links_without, within_is, without_counts}
 
 -- the length counts each node once
 pub length_step : (i : NodeId) (is : List NodeId) → node_length (i ∷ is) ≡ 1 + node_length is

@@ -1,17 +1,17 @@
 -- Room: nodes that are added at the end and strung to the free list.
-use Rattle.std.proofs.Common.{◌≡◌, ℕ, zero, suc, ◌+◌, ◌-◌, ◌<◌, ◌≤◌, ◌⊎◌, true, false, List, [], ◌∷◌, ◌++◌, Option, None, Some, length, get_or, set, map, refl, sym, ◌∙◌, ap, subst, inl, inr, ⊎_elim, arith, length-set, length-append}
+use Rattle.std.proofs.Common.{◌≡◌, ℕ, zero, suc, ◌+◌, ◌-◌, ◌<◌, ◌≤◌, List, [], ◌∷◌, ◌++◌, Option, None, Some, length, get_or, set, map, refl, sym, ◌∙◌, ap, subst, ⊎_elim, arith, length-set, length-append}
 use Rattle.std.specs.Prelude.{max, replicate}
 use Rattle.std.specs.List.{Contains, sum_by}
 use Rattle.std.proofs.lemmas.Bool.{cases_eq, cases_lt}
 use Rattle.std.proofs.lemmas.List.{ext_get_or, get_or-map, get_or-replicate, get_or_append_left, length-map, length-replicate}
 use Rattle.label_arena.specs.Chains.{HasParents, Holdings, LinkedChain, Standing, chain_at, empty_holdings, linked_chain, node_count, standing, times, with_room}
-use Rattle.label_arena.specs.Links.{IsArena, Links, Lists, blank, chain_from, chain_ids, free_after, head_at, holdings, ids_from, no_head, node_at, node_length, node_of, nodes_linked, nodes_strung, standing_at, tally}
+use Rattle.label_arena.specs.Links.{IsArena, Links, Lists, blank, chain_from, chain_ids, free_after, head_at, holdings, ids_from, no_head, node_at, node_length, node_of, nodes_linked, nodes_strung, standing_at}
 use Rattle.label_arena.specs.declared.node.Head.{Head}
 use Rattle.label_arena.specs.declared.node.Node.{Node}
 use Rattle.label_arena.specs.declared.node.NodeId.{NodeId}
 use Rattle.label_arena.proofs.Counts.{all_zero, counted_first, counted_rest}
 use Rattle.label_arena.proofs.Kept.{all_counted}
-use Rattle.label_arena.proofs.Moves.{chain_within, frees_are, inside, settled}
+use Rattle.label_arena.proofs.Moves.{chain_within, frees_are, settled}
 use Rattle.label_arena.proofs.Parents.{in_none}
 use Rattle.label_arena.proofs.Views.{chain_by_head, chain_is, chain_past, held_linked, no_chain, standings_same}
 use Rattle.label_arena.proofs.Walks.{at_set, linked_within, links_apart, links_more, links_step}

@@ -1,10 +1,9 @@
 -- Walking along links, step by step.
-use Rattle.std.proofs.Common.{◌≡◌, ◌<◌, List, [], ◌∷◌, Option, None, Some, length, map, refl, sym, ◌∙◌, ap, subst, arith}
+use Rattle.std.proofs.Common.{◌≡◌, ◌<◌, List, [], ◌∷◌, None, Some, length, map, sym, ◌∙◌, ap, subst, arith}
 use Rattle.label_arena.specs.Chains.{steps_of}
 use Rattle.label_arena.specs.Links.{IsLinked, Links, ids_from, node_at, standing_at, steps_from}
 use Rattle.label_arena.specs.declared.node.Node.{Node}
 use Rattle.label_arena.specs.declared.node.NodeId.{NodeId}
-use Rattle.label_arena.specs.declared.walk.Step.{Step}
 use Rattle.label_arena.proofs.Kept.{none_within}
 use Rattle.label_arena.proofs.Walks.{first_counted, length_within, linked_within, links_parts, within_is}
 

@@ -1,11 +1,11 @@
 -- What an arena holds after a change.
-use Rattle.std.proofs.Common.{◌≡◌, ℕ, zero, suc, ◌+◌, ◌<◌, ◌≤◌, ◌⊎◌, Bool, true, false, cond, List, [], ◌∷◌, Option, None, Some, length, get_or, set, map, refl, sym, ◌∙◌, ap, subst, inl, inr, ⊎_elim, arith, length-set, get_or-set_other, get_or-set_same}
+use Rattle.std.proofs.Common.{◌≡◌, ℕ, ◌+◌, ◌<◌, ◌≤◌, Bool, true, false, cond, List, [], ◌∷◌, Option, None, Some, length, get_or, set, map, refl, sym, ◌∙◌, ap, subst, ⊎_elim, arith, length-set, get_or-set_other, get_or-set_same}
 use Rattle.std.specs.List.{Contains, sum_by}
 use Rattle.std.proofs.lemmas.Bool.{cases_eq, cases_lt, cond-false, cond-true, eq-eqb, ne_eqb}
 use Rattle.std.proofs.lemmas.List.{ext_get_or, get_or-map, get_or_past, length-map, set_past}
 use Rattle.std.proofs.lemmas.List.Sums.{sum_by-cons}
 use Rattle.label_arena.specs.Chains.{Holdings, LinkedChain, Standing, StandsIn, behind_first, chain_at, ids_of, linked_chain, node_count, nodes_holding, nodes_with, nodes_without, same_node, standing, times}
-use Rattle.label_arena.specs.Links.{Links, Lists, chain_from, chain_ids, head_at, heads_linked, holdings, ids_from, no_head, node_at, node_length, nodes_linked, standing_at}
+use Rattle.label_arena.specs.Links.{Lists, chain_from, chain_ids, head_at, heads_linked, holdings, ids_from, no_head, node_at, node_length, nodes_linked, standing_at}
 use Rattle.label_arena.specs.declared.node.Head.{Head}
 use Rattle.label_arena.specs.declared.node.Node.{Node}
 use Rattle.label_arena.specs.declared.node.NodeId.{NodeId}

@@ -1,7 +1,6 @@
 -- How an arena holds its chains: nodes linked by index, and the free list.
 use Rattle.std.specs.Prelude.{◌≡◌, ℕ, zero, suc, ◌+◌, ◌<◌, ◌≤◌, true, false, pos, List, [], ◌∷◌, Option, None, Some, length, map, slice_index_or, slice_set}
 use Rattle.std.specs.List.{sum_by}
-use Rattle.lab_model.specs.declared.label.Label.{Label}
 use Rattle.label_arena.specs.Chains.{HasParents, Holdings, LinkedChain, Standing, linked_chain, standing, steps_of, times}
 use Rattle.label_arena.specs.declared.node.Head.{Head}
 use Rattle.label_arena.specs.declared.node.Node.{Node}

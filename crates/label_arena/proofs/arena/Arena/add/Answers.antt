@@ -1,7 +1,7 @@
-use Rattle.std.proofs.Common.{◌≡◌, ℕ, ◌-◌, ◌<◌, ◌∙◌, List, Option, Some, length, set, refl, sym, ap, subst, length-set}
+use Rattle.std.proofs.Common.{ℕ, ◌-◌, ◌<◌, ◌∙◌, List, Option, Some, length, set, sym, ap, subst, length-set}
 use Rattle.std.specs.Prelude.{IfSome}
 use Rattle.label_arena.specs.Chains.{HasParent, Holdings, IsOpen, Stands, StandsAfter, standing, with_added}
-use Rattle.label_arena.specs.Links.{IsArena, heads_linked, holdings, link_behind, node_at, nodes_linked}
+use Rattle.label_arena.specs.Links.{IsArena, heads_linked, link_behind, node_at, nodes_linked}
 use Rattle.label_arena.specs.declared.node.Head.{Head}
 use Rattle.label_arena.specs.declared.node.Node.{Node}
 use Rattle.label_arena.specs.declared.node.NodeId.{NodeId}

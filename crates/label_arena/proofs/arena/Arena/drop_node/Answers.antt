@@ -1,7 +1,7 @@
-use Rattle.std.proofs.Common.{◌≡◌, ℕ, ◌+◌, ◌<◌, ◌∙◌, List, Option, Some, None, length, refl, sym, ap, subst, arith, length-set}
+use Rattle.std.proofs.Common.{ℕ, ◌+◌, ◌<◌, ◌∙◌, List, Option, Some, length, refl, sym, ap, subst}
 use Rattle.std.specs.Prelude.{IfSome}
 use Rattle.label_arena.specs.Chains.{Holdings, IsOpen, StandsAfter, chain_at, label_behind, with_dropped}
-use Rattle.label_arena.specs.Links.{heads_linked, holdings, link_behind, node_at, nodes_linked}
+use Rattle.label_arena.specs.Links.{heads_linked, link_behind, node_at, nodes_linked}
 use Rattle.label_arena.specs.declared.node.Head.{Head}
 use Rattle.label_arena.specs.declared.node.Node.{Node}
 use Rattle.label_arena.specs.declared.node.NodeId.{NodeId}

@@ -1,9 +1,8 @@
-use Rattle.std.proofs.Common.{◌<◌, ◌∙◌, List, Option, length, sym, ap, subst}
+use Rattle.std.proofs.Common.{◌<◌, ◌∙◌, List, length, sym, ap, subst}
 use Rattle.lab_model.specs.declared.label.Label.{Label}
 use Rattle.label_arena.specs.Chains.{HasLabel, Holdings, Stands}
 use Rattle.label_arena.specs.Links.{holdings, node_at}
 use Rattle.label_arena.specs.declared.node.Node.{Node}
-use Rattle.label_arena.specs.declared.node.NodeId.{NodeId}
 use Rattle.label_arena.proofs.Kept.{label_read, stands_within}
 use Rattle.label_arena.proofs.arena.Arena.label.Goals as goal
 

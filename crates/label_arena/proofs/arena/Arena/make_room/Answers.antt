@@ -1,4 +1,4 @@
-use Rattle.std.proofs.Common.{◌≡◌, ℕ, ◌+◌, ◌-◌, ◌≤◌, ◌∙◌, ◌++◌, length, refl, sym, ap, subst}
+use Rattle.std.proofs.Common.{◌+◌, ◌-◌, ◌≤◌, ◌∙◌, ◌++◌, length, refl, sym, ap, subst}
 use Rattle.std.specs.Prelude.{replicate}
 use Rattle.label_arena.specs.Chains.{Holdings, node_count, with_room}
 use Rattle.label_arena.specs.Links.{blank, free_after, nodes_strung}

@@ -1,5 +1,4 @@
 use Rattle.std.proofs.Common.{◌<◌, ◌∙◌, List, Option, length, sym, ap, subst}
-use Rattle.lab_model.specs.declared.label.Label.{Label}
 use Rattle.label_arena.specs.Chains.{HasNext, Holdings, Stands}
 use Rattle.label_arena.specs.Links.{holdings, node_at}
 use Rattle.label_arena.specs.declared.node.Node.{Node}

@@ -1,6 +1,6 @@
-use Rattle.std.proofs.Common.{◌≡◌, ◌<◌, ◌∙◌, List, Option, length, refl, sym, ap, subst, arith}
+use Rattle.std.proofs.Common.{◌<◌, ◌∙◌, List, length, sym, ap, subst, arith}
 use Rattle.label_arena.specs.Chains.{HasParent, Holdings, IsOpen, StandsIn, standing, with_raised}
-use Rattle.label_arena.specs.Links.{holdings, node_at}
+use Rattle.label_arena.specs.Links.{node_at}
 use Rattle.label_arena.specs.declared.node.Node.{Node}
 use Rattle.label_arena.proofs.Kept.{holds_changed, stands_changed, stands_within}
 use Rattle.label_arena.proofs.arena.Arena.raise.Goals as goal

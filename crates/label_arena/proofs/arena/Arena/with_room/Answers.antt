@@ -1,4 +1,4 @@
-use Rattle.std.proofs.Common.{◌≡◌, ◌∙◌, [], None, refl, ap, arith}
+use Rattle.std.proofs.Common.{◌∙◌, [], None, refl, ap, arith}
 use Rattle.std.specs.Prelude.{replicate}
 use Rattle.label_arena.specs.Chains.{node_count, with_room}
 use Rattle.label_arena.specs.Links.{no_head}

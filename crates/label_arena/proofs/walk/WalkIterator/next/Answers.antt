@@ -1,5 +1,5 @@
-use Rattle.std.proofs.Common.{◌≡◌, ◌∙◌, ◌∷◌, List, Option, length, sym, ap, subst, arith}
-use Rattle.label_arena.specs.Links.{IsLinked, node_at, steps_from}
+use Rattle.std.proofs.Common.{◌∙◌, ◌∷◌, List, Option, length, sym, ap, subst, arith}
+use Rattle.label_arena.specs.Links.{IsLinked, steps_from}
 use Rattle.label_arena.specs.declared.node.Node.{Node}
 use Rattle.label_arena.specs.declared.node.NodeId.{NodeId}
 use Rattle.label_arena.specs.declared.walk.Step.{Step}
