@@ -199,7 +199,7 @@ struct Round {
 }
 
 // What the words of a check answer to a certificate `c` beside these files.
-fn checked(
+fn answer_on(
     alloc: Global,
     words: &str,
     files: &[(&str, &str)],
@@ -214,7 +214,7 @@ fn checked(
 fn assert_round(rt: &impl Abort, alloc: Global, round: &Round) -> Result<(), Fail> {
     let plan = run_words(alloc, round.plan, round.files, NONE)?;
     let certificate = str::from_utf8(plan.out.written())?;
-    let answer = checked(alloc, round.check, round.files, certificate)?;
+    let answer = answer_on(alloc, round.check, round.files, certificate)?;
     assert!(rt;
         answer.is(round.status, &round.out, round.err),
         "{}",
@@ -234,7 +234,7 @@ struct Planned {
 
 impl Planned {
     // What the plan prints over these files, with these words more.
-    fn printed(
+    fn plan_over(
         &self,
         alloc: Global,
         more: &str,
@@ -252,7 +252,7 @@ impl Planned {
         files: &[(&str, &str)],
     ) -> Result<Answer, AllocError> {
         let words = format!(in alloc; "check {} {} --certificate c", self.task, self.check)?;
-        checked(alloc, &words, files, certificate)
+        answer_on(alloc, &words, files, certificate)
     }
 }
 
@@ -263,9 +263,9 @@ fn assert_planned(
     planned: &Planned,
     files: &[(&str, &str)],
 ) -> Result<(), Fail> {
-    let plan = planned.printed(alloc, "", files)?;
+    let plan = planned.plan_over(alloc, "", files)?;
     assert!(rt; plan.is(0, &Text::Is(planned.text), ""), "{}", planned.task);
-    let certificate = planned.printed(alloc, "--as-certificate", files)?;
+    let certificate = planned.plan_over(alloc, "--as-certificate", files)?;
     let answer = planned.verdict_on(alloc, str::from_utf8(certificate.out.written())?, files)?;
     assert!(rt;
         answer.is(0, &Text::Is(planned.verdict), ""),

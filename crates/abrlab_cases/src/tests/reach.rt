@@ -371,6 +371,81 @@ const TIED_WEIGHED: [File; 3] = [
     ("u", "3,3,3\n0,7,7\n5,5,6\n1,1,1\n"),
 ];
 
+// Live plans and their certificates: with media ahead in mid-segment and beyond the film, and on networks with dead periods.
+#[rattlefmt::skip]
+static LIVE: [(&[File], Planned); 10] = [
+    (&SLOW, Planned {
+        task: "--manifest m --trace t --utilities 0,10 --buffer 10000",
+        plan: "--live 500",
+        check: "--live 500",
+        text: "score -194500\nlabels 12\nplan 1 0 0\n",
+        verdict: "yes score -194500\n",
+    }),
+    (&TIED, Planned {
+        task: "--manifest m --trace t --utilities 4,4,9 --buffer 3000 --switch 5 --stall 11",
+        plan: "--live 0",
+        check: "--live 0",
+        text: "score 25740\nlabels 24\nplan 2 0 2 2\n",
+        verdict: "yes score 25740\n",
+    }),
+    (&TIED, Planned {
+        task: "--manifest m --trace t --utilities 4,4,9 --buffer 3000 --switch 5 --stall 11",
+        plan: "--live 1500",
+        check: "--live 1500",
+        text: "score 25391\nlabels 15\nplan 2 2 0 2\n",
+        verdict: "yes score 25391\n",
+    }),
+    (&SHORTER, Planned {
+        task: "--manifest m --trace t --utilities 0,10,25 --buffer 4000 --switch 7 --stall 11 --startup 13",
+        plan: "--live 333",
+        check: "--live 333",
+        text: "score 49674\nlabels 155\nplan 2 2 2 2 2 2\n",
+        verdict: "yes score 49674\n",
+    }),
+    (&SHORTER, Planned {
+        task: "--manifest m --trace t --utilities 0,10,25 --buffer 4000 --switch 7 --stall 11 --startup 13",
+        plan: "--live 60000",
+        check: "--live 60000",
+        text: "score 70265\nlabels 244\nplan 1 2 1 2 2 2\n",
+        verdict: "yes score 70265\n",
+    }),
+    (&LONGER, Planned {
+        task: "--manifest m --trace t --utilities 0,5,5,20 --buffer 12000 --switch 3",
+        plan: "--live 777",
+        check: "--live 777",
+        text: "score -11828\nlabels 490\nplan 3 3 3 3 0 0 0 1 1 1\n",
+        verdict: "yes score -11828\n",
+    }),
+    (&LONGER, Planned {
+        task: "--manifest m --trace t --utilities 0,5,5,20 --buffer 2000 --stall 0 --startup 0",
+        plan: "--live 1234",
+        check: "--live 1234",
+        text: "score 200000\nlabels 636\nplan 3 3 3 3 3 3 3 3 3 3\n",
+        verdict: "yes score 200000\n",
+    }),
+    (&SHORTER, Planned {
+        task: "--manifest m --trace t --utilities 5,5,5 --buffer 4000 --switch 7 --stall 11",
+        plan: "--live 2500",
+        check: "--live 2500",
+        text: "score 29705\nlabels 46\nplan 0 0 0 0 0 0\n",
+        verdict: "yes score 29705\n",
+    }),
+    (&TIED, Planned {
+        task: "--manifest m --trace t --utilities 4,4,9 --buffer 3000 --stall 1",
+        plan: "--live 120000000",
+        check: "--live 120000000",
+        text: "score 34768\nlabels 21\nplan 2 2 2 2\n",
+        verdict: "yes score 34768\n",
+    }),
+    (&LONGER, Planned {
+        task: "--manifest m --trace t --utilities 0,5,9,12 --buffer 8000 --stall 2",
+        plan: "--live 2001",
+        check: "--live 2001",
+        text: "score 99406\nlabels 316\nplan 3 3 3 3 3 3 3 3 3 3\n",
+        verdict: "yes score 99406\n",
+    }),
+];
+
 // Plans on grids, and their gap certificates.
 #[rattlefmt::skip]
 static GRIDS: [(&[File], Planned); 9] = [
@@ -485,6 +560,14 @@ static WEIGHED_GRIDS: [(&[File], Planned); 6] = [
         verdict: "yes score 13478 bound 3995600\n",
     }),
 ];
+
+#[test]
+fn live_plans(rt: HostRuntime) -> Result<(), Fail> {
+    for (files, planned) in &LIVE {
+        assert_planned(&rt, rt.alloc(), planned, files)?;
+    }
+    Ok(())
+}
 
 #[test]
 fn grids(rt: HostRuntime) -> Result<(), Fail> {
