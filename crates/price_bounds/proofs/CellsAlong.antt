@@ -14,7 +14,7 @@ use Rattle.lab_model.specs.Mpc.{lists_of}
 use Rattle.price_bounds.specs.Cells.{cells_of, farthest_delay, least_delay}
 use Rattle.price_bounds.specs.LinkPart.{cell_in, is_rising, rising_cells}
 use Rattle.price_bounds.proofs.Along.{delay_from, delay_near, delay_rises}
-use Rattle.price_bounds.proofs.Cells.{IsCellOf, cell_below, cell_first, cell_found, cells_end, cells_rise}
+use Rattle.price_bounds.proofs.CellLaws.{IsCellOf, cell_below, cell_first, cell_found, cells_end, cells_rise}
 
 -- ---- lists of what a function gives to places in turn
 
@@ -71,9 +71,8 @@ module _ (g : Task) (is : IsTask g) (rungs : List ℕ) (fits : AreRungs g (segme
       (in_lists (cells_of first) few (cells_along g rungs) (length-map-range_with_len (cell_along g rungs) 1 few)
       (below_range (cell_along g rungs) (cells_of first) 1 few (λ i late early. (inside i (omega (arith, late, early))).0)))
       (rising_range (cell_along g rungs) 0 1 few (λ i late early. rise i (omega (arith, late, early))) (λ some. omega arith))
-    where
-      next_cell : (i : ℕ) → i + 1 < segments_of g.film → cell_along g rungs i ≤ cell_along g rungs (i + 1)
-      next_cell i low =
-          let same : suc i ≡ i + 1 = omega arith in
-          let rises = subst (λ k. (label_at g rungs i).p ≤ (label_at g rungs k).p) same (delay_rises g rungs i) in
-          cells_rise (label_at g rungs 0).p (label_at g rungs i).p (label_at g rungs (i + 1)).p (cell_along g rungs i) (cell_along g rungs (i + 1)) rises (inside i (omega (arith, low))).1 (inside (i + 1) low).1
+    where next_cell : (i : ℕ) → i + 1 < segments_of g.film → cell_along g rungs i ≤ cell_along g rungs (i + 1)
+          next_cell i low =
+              let same : suc i ≡ i + 1 = omega arith in
+              let rises = subst (λ k. (label_at g rungs i).p ≤ (label_at g rungs k).p) same (delay_rises g rungs i) in
+              cells_rise (label_at g rungs 0).p (label_at g rungs i).p (label_at g rungs (i + 1)).p (cell_along g rungs i) (cell_along g rungs (i + 1)) rises (inside i (omega (arith, low))).1 (inside (i + 1) low).1
