@@ -1,5 +1,5 @@
 -- What `simulate --players` answers, by what was played.
-use Rattle.std.proofs.Common.{◌≡◌, ◌∙◌, ◌⊎◌, ℕ, zero, suc, ◌+◌, ◌-◌, ◌<◌, ◌≤◌, ◌++◌, List, [], ◌∷◌, length, get_or, map, drop, Option, Some, None, Result, Ok, Err, Bool, false, append-nil, append_assoc, add-one, drop-cons, inl, inr, ap, sym, refl, subst, arith}
+use Rattle.std.proofs.Common.{◌≡◌, ◌∙◌, ◌⊎◌, ℕ, zero, suc, ◌+◌, ◌-◌, ◌<◌, ◌≤◌, ◌++◌, List, [], ◌∷◌, length, get_or, map, drop, Some, None, Result, Ok, Err, Bool, false, append-nil, append_assoc, add-one, drop-cons, inl, inr, ap, sym, refl, subst, arith}
 use Rattle.std.specs.List.{All, slice_get}
 use Rattle.std.specs.Result.{IsErrAnd}
 use Rattle.std.proofs.lemmas.List.{drop_all, length-map, map-append}

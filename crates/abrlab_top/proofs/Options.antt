@@ -1,5 +1,5 @@
 -- What is asked of `plan`, and of the plans of a ranking, is within its limits.
-use Rattle.std.proofs.Common.{◌≡◌, ◌==◌, ◌⊎◌, ◌||◌, ℕ, Bool, true, false, is_some, [], ◌∷◌, Option, None, IfSome, inl, inr, refl, subst, arith}
+use Rattle.std.proofs.Common.{◌≡◌, ◌==◌, ◌||◌, ℕ, Bool, true, false, is_some, [], ◌∷◌, None, IfSome, inl, inr, refl, subst, arith}
 use Rattle.std.proofs.lemmas.Bool.Decides.{nat_tests}
 use Rattle.lab_model.specs.Film.{IsWithin}
 use Rattle.lab_words.specs.declared.Verb.TheVariants.{Compare, Plan}
@@ -7,7 +7,6 @@ use Rattle.lab_words.specs.Command.{CommandWords}
 use Rattle.lab_words.specs.Limits.{HasItsOwn, IsBudget, IsWithinLimits, agrees}
 use Rattle.lab_words.specs.Values.{at_most_one}
 use Rattle.lab_words.specs.Limits as words
-use Rattle.labels.specs.declared.label.Grid.{Grid}
 use Rattle.labels.specs.Grid.{IsGrid}
 use Rattle.abrlab_top.specs.Plan.{grid_in}
 

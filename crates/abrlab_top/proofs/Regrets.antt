@@ -1,15 +1,15 @@
 -- What `compare --regret` plays, plans and writes, network by network and rule by rule.
-use Rattle.std.proofs.Common.{◌≡◌, ◌∙◌, ◌+◌, ◌<◌, ◌≤◌, ◌++◌, ◌∷◌, [], ℕ, List, Option, Some, None, Result, Ok, Err, length, map, take, drop, get_or, string_bytes, false, ap, sym, refl, subst, arith, add-one, drop-cons, take-suc, codes}
+use Rattle.std.proofs.Common.{◌≡◌, ◌∙◌, ◌+◌, ◌<◌, ◌≤◌, ◌++◌, ◌∷◌, [], ℕ, List, Option, Some, None, Result, Ok, Err, Vec, length, map, take, drop, get_or, string_bytes, ap, sym, refl, subst, arith, add-one, drop-cons, take-suc}
 use Rattle.std.specs.Prelude.{ℤ, pos, option_map, slice_index_or}
+use Rattle.std.specs.Global.{Global}
 use Rattle.std.specs.List.{All, flat_map}
 use Rattle.std.specs.Option.{option_or}
 use Rattle.std.specs.Result.{IsErrAnd}
 use Rattle.std.proofs.lemmas.Result.{err_from_is_err_and}
 use Rattle.std.proofs.lemmas.List.{drop_all, get_or-map, get_or_default, length-take-le, length-map, map-append, take_all}
-use Rattle.std.proofs.lemmas.List.Elements.{All-map, All-push}
+use Rattle.std.proofs.lemmas.List.Elements.{All-map}
 use Rattle.std.proofs.lemmas.Simd.{map-map}
 use Rattle.lab_io.specs.Sink.{Text, Seen}
-use Rattle.lab_io.specs.Piece.{fields_line}
 use Rattle.lab_model.specs.declared.trace.Period.{Period}
 use Rattle.lab_model.specs.declared.setup.Setup.{Setup}
 use Rattle.lab_model.specs.Film.{Film}
@@ -41,7 +41,7 @@ use Rattle.abrlab_top.specs.declared.regret.Scored.{Scored}
 use Rattle.abrlab_top.specs.Answer.{printed}
 use Rattle.abrlab_top.specs.Ahead.{ahead_of}
 use Rattle.abrlab_top.specs.Plan.{IsPlanned, task_on}
-use Rattle.abrlab_top.specs.Regret.{AreRanked, AreScored, CanRank, SpentBy, Unspent, best_on, first_spent, regret, regret_row, regret_text, rows_of, score_on, scored_on, scores_at, scores_on, scores_over, seen_scored, spent_there, total_row, unless_any_spent}
+use Rattle.abrlab_top.specs.Regret.{AreRanked, AreScored, CanRank, RankingValue, SpentBy, Unspent, best_on, first_spent, regret, regret_row, regret_text, rows_of, score_on, scored_on, scores_at, scores_on, scores_over, seen_scored, spent_there, total_row, unless_any_spent}
 use Rattle.abrlab_top.specs.Stages.{Writes, at_the_end}
 use Rattle.abrlab_top.proofs.Behind.{are_scores}
 use Rattle.abrlab_top.proofs.Networks.{all_mapped, rules_within}
@@ -212,7 +212,21 @@ all_scored i budget k xs table same few over spent values ranks =
     let count = table_count i xs table same all in
     (spent ∙ spent_end i budget (k + 1) k xs over, record { values = all; ranked = ranks; few = omega (arith, count, few) })
 
+-- what a ranking gave, by the inputs and the budget that it is made of
+pub ranking_gives : (i : InputValues) (budget : ℕ) (v : RankingValue) (r : Result (Vec Scored Global) Ending) → v ≡ record { inputs = i; budget = budget } → Unspent (first_spent v.inputs v.budget 1 v.inputs.networks) (λ (table : Vec Scored Global). AreScored v.inputs table.items) r
+    → Unspent (first_spent i budget 1 i.networks) (λ (table : Vec Scored Global). AreScored i table.items) r
+ranking_gives i budget v r e h = subst (λ (w : RankingValue). Unspent (first_spent w.inputs w.budget 1 w.inputs.networks) (λ (table : Vec Scored Global). AreScored w.inputs table.items) r) e h
+
+-- the same where it gave a table
+pub ranking_scored : (i : InputValues) (budget : ℕ) (v : RankingValue) (r : Result (Vec Scored Global) Ending) (table : Vec Scored Global) → v ≡ record { inputs = i; budget = budget } → r ≡ Ok table
+    → Unspent (first_spent v.inputs v.budget 1 v.inputs.networks) (λ (table : Vec Scored Global). AreScored v.inputs table.items) r → (first_spent i budget 1 i.networks ≡ None) × AreScored i table.items
+ranking_scored i budget v r table e was h = subst (Unspent (first_spent i budget 1 i.networks) (λ (table : Vec Scored Global). AreScored i table.items)) was (ranking_gives i budget v r e h)
+
 -- ---- rows
+
+-- the row of equal scores
+pub row_as : (name other : Text) (score best points top : ℤ) → name ≡ other → score ≡ points → best ≡ top → regret_line name score best ≡ regret_line other points top
+row_as name other score best points top e f h = ap (λ n. regret_line n score best) e ∙ ap (λ z. regret_line other z best) f ∙ ap (regret_line other points) h
 
 -- the row of a rule, and those behind it
 pub rows_next : (rules : List NamedRule) (scores : List ℤ) (best : ℤ) (k : ℕ) (rule : NamedRule) (score : ℤ) → k < length rules → rule ≡ get_or rules k rule → k < length scores → score ≡ get_or scores k score
@@ -276,12 +290,21 @@ total_short rule k table t stands lt few =
     let taken = length-take-le k table (omega (arith, lt)) in
     omega (arith, count, mapped, taken, lt, few)
 
--- a network has a score of the rule at an index, which can be summed
+-- a network has a score of the rule at an index
 pub wide_at : (table : List Scored) (rule k : ℕ) (s : Scored) → k < length table → s ≡ get_or table k s → All (λ (x : Scored). rule < length x.scores.items) table → rule < length s.scores.items
 wide_at table rule k s lt e all = subst (λ (x : Scored). rule < length x.scores.items) (sym e) (all k s lt)
 
+-- which can be summed
 pub score_ranked : (s : Scored) (rule : ℕ) (score : ℤ) → AreRanked s → rule < length s.scores.items → score ≡ get_or s.scores.items rule score → AreScores (score, s.best)
 score_ranked s rule score all lt e = subst (λ z. AreScores (z, s.best)) (sym e) (all rule score lt)
+
+-- equal scores can be summed
+pub scores_as : (score best points top : ℤ) → score ≡ points → best ≡ top → AreScores (points, top) → AreScores (score, best)
+scores_as score best points top e f h = subst (λ z. AreScores (z, best)) (sym e) (subst (λ z. AreScores (points, z)) (sym f) h)
+
+-- a total of equal scores
+pub total_as : (ps : List Scores) (t : Total) (score best points top : ℤ) → score ≡ points → best ≡ top → StandsFor (ps ++ (score, best) ∷ []) t → StandsFor (ps ++ (points, top) ∷ []) t
+total_as ps t score best points top e f h = subst (λ z. StandsFor (ps ++ (points, z) ∷ []) t) f (subst (λ z. StandsFor (ps ++ (z, best) ∷ []) t) e h)
 
 -- one network more in the total
 pub total_more : (rule k : ℕ) (table : List Scored) (x : Scored) (score : ℤ) (t : Total) → k < length table → x ≡ get_or table k x → rule < length x.scores.items → score ≡ get_or x.scores.items rule score

@@ -1,30 +1,23 @@
 -- The headline of regrets, from a run that answered 0.
-use Rattle.std.proofs.Common.{◌≡◌, ◌∙◌, ◌||◌, ℕ, List, [], ◌∷◌, Bool, true, false, Option, Some, None, Ok, ap, sym, refl, subst}
-use Rattle.std.specs.Prelude.{◌≤ℤ◌, pos, is_some}
+use Rattle.std.proofs.Common.{◌≡◌, ◌∙◌, ℕ, List, true, false, Option, Some, None, Ok, ap, sym, refl, subst}
 use Rattle.std.specs.List.{All}
 use Rattle.std.proofs.lemmas.List.Elements.{All-map}
 use Rattle.lab_io.specs.Sink.{Text, Grew}
 use Rattle.lab_model.specs.declared.trace.Period.{Period}
 use Rattle.lab_model.specs.Cycle.{IsTrace}
 use Rattle.lab_model.specs.Rules.{KindFits, RuleKind}
-use Rattle.lab_words.specs.declared.Verb.{Verb}
 use Rattle.lab_words.specs.declared.Verb.TheVariants as verb
-use Rattle.lab_words.specs.Command.{CommandWords}
-use Rattle.lab_words.specs.Limits.{HasFilm, IsWithinLimits, agrees}
-use Rattle.lab_words.specs.Values.{at_most_one}
-use Rattle.lab_model.specs.Steps.{◌>>=◌}
+use Rattle.lab_words.specs.Limits.{HasFilm}
 use Rattle.lab_model.proofs.Steps.{then_ok}
-use Rattle.lab_inputs.specs.Files.{Files}
-use Rattle.lab_inputs.specs.Inputs.{InputValues, inputs_of}
+use Rattle.lab_inputs.specs.Inputs.{InputValues}
 use Rattle.lab_inputs.specs.Settings.{settled}
 use Rattle.lab_inputs.proofs.Steps.{ok_same}
-use Rattle.lab_inputs.proofs.Within.{IsReady, is_ready}
+use Rattle.lab_inputs.proofs.Within.{is_ready}
 use Rattle.player_core.specs.Scene.{IsTask}
 use Rattle.session_report.specs.Regret.{AreScores}
 use Rattle.session_report.proofs.Totals.{regrets_low, worst_low}
 use Rattle.abrlab_top.specs.declared.ending.Ending.{Ending}
-use Rattle.abrlab_top.specs.declared.ending.Ending.TheVariants as ending
-use Rattle.abrlab_top.specs.Answer.{Answer, Outcome, printed, unless_stopped}
+use Rattle.abrlab_top.specs.Answer.{Answer, printed, unless_stopped}
 use Rattle.abrlab_top.specs.Ending.{status_of}
 use Rattle.abrlab_top.specs.Outcome.{about, comparison}
 use Rattle.abrlab_top.specs.Plan.{certificate_on, task_on}

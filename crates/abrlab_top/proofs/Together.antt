@@ -1,5 +1,5 @@
 -- What `simulate --players` proves, from a run that answered 0.
-use Rattle.std.proofs.Common.{◌≡◌, ◌∙◌, ◌++◌, ◌||◌, ℕ, Bool, true, false, is_some, List, [], ◌∷◌, length, get_or, Ok, Some, ap, sym, refl, subst}
+use Rattle.std.proofs.Common.{◌≡◌, ◌∙◌, ◌++◌, ◌||◌, ℕ, Bool, true, false, is_some, List, [], ◌∷◌, length, get_or, Ok, ap, sym, refl, subst}
 use Rattle.std.specs.List.{slice_get}
 use Rattle.std.proofs.lemmas.List.{length-map}
 use Rattle.std.proofs.lemmas.List.Elements.{All-map}

@@ -95,12 +95,7 @@ impl<'a> Ranking<'a> {
     }
 
     /// The score of a rule's session with an empty history.
-    fn score_rule(
-        &self,
-        alloc: Global,
-        clock: &Clock,
-        rule: &NamedRule,
-    ) -> Result<i128, NoMemory>
+    fn score_rule(&self, alloc: Global, clock: &Clock, rule: &NamedRule) -> Result<i128, NoMemory>
         requires within { IsRuleWithin (spoken rule.now.rule) }
         requires fits { KindFits (spoken rule.now.rule) self.now.inputs.film }
         ensures { IfOk result (λ score. score
@@ -142,7 +137,8 @@ impl<'a> Ranking<'a> {
     {
         let inputs = self.inputs();
         let (film, setup) = (inputs.manifest(), inputs.setup());
-        match plan_on(alloc, film, clock, setup, media_ahead(inputs), self.options()) {
+        let ahead = media_ahead(inputs);
+        match plan_on(alloc, film, clock, setup, ahead, self.options()) {
             Ok(planned) => Ok(planned.plan.score),
             Err(PlanErr::BudgetSpent { segment }) => Err(Ending::Spent {
                 trace: Some(place),

@@ -17,7 +17,9 @@ use Rattle.csv.specs.declared.parser.State.{State}
 use Rattle.csv.specs.declared.parser.State.TheVariants as st
 use Rattle.csv.specs.declared.parser.Terminator.{Terminator}
 use Rattle.csv.specs.declared.parser.Terminator.TheVariants as term
-use Rattle.csv_records.specs.Table.{Fields, Table, even_rows, has_width, is_uneven, table_from, table_within}
+use Rattle.csv_records.specs.Table.{Fields, even_rows, has_width, is_uneven, table_from, table_within}
+use Rattle.csv_records.specs.Walk.{Fit, HasGiven, Stands, more_rows, tabled, width_of}
+use Rattle.csv_records.specs.declared.walk.Walk.{Walk}
 
 -- ---- a record ends where the next can start, and takes a byte
 
@@ -106,13 +108,6 @@ none_at_end cfg s f d h = rw h refl
 
 -- ---- how far a text was read
 
--- the records of xs are these rows and the ones that follow from the state s and the bytes y
-pub record Stands (xs : List ℕ) (rows : List Fields) (s : State) (y : List ℕ) : Type 0 where
-  pub fuel : ℕ
-  pub enough : length y < fuel
-  pub between : ends_at_end s ≡ false
-  pub rest : records default_config xs ≡ rows ++ records_from default_config fuel s y
-
 -- at the start of a text no row was read
 pub stands_start : (xs : List ℕ) → Stands xs [] st.StartRecord xs
 stands_start xs = record { fuel = length xs + 1; enough = omega arith; between = refl; rest = refl }
@@ -149,23 +144,9 @@ stands_end xs rows s y h e = h.rest ∙ ap (λ (t : List Fields). rows ++ t) (no
 
 -- ---- the number of fields
 
--- how many fields each record has to have
-abbrev pub width_of : List Fields → Option ℕ
-width_of [] = None
-width_of (r ∷ rs) = Some (length r)
-
 abbrev pub fits : Option ℕ → Fields → Bool
 fits None r = true
 fits (Some n) r = has_width n r
-
--- the even records behind others of this width
-abbrev more_rows : Option ℕ → List Fields → List Fields
-more_rows None rest = even_rows rest
-more_rows (Some n) rest = take_while (has_width n) rest
-
--- the rows so far are even
-abbrev pub Fit : List Fields → Type 0
-Fit rows = (rest : List Fields) → even_rows (rows ++ rest) ≡ rows ++ more_rows (width_of rows) rest
 
 -- an empty list of rows is even
 pub fit_none : Fit []
@@ -205,9 +186,6 @@ fit_break : (rows : List Fields) (r : List (List ℕ)) (rest : List Fields) → 
 fit_break rows r rest h e = h (r ∷ rest) ∙ ap (λ (t : List Fields). rows ++ t) (stops rows r rest e) ∙ append-nil rows
 
 -- ---- the table
-
-abbrev pub tabled : List Fields → Option ℕ → Table
-tabled rows uneven = record { rows = rows; uneven = uneven }
 
 all_even : (rs rows : List Fields) → rs ≡ rows → even_rows rows ≡ rows → table_from rs ≡ tabled rows None
 all_even rs rows e h =
@@ -327,3 +305,16 @@ went rem a b xs y rows f ec ef ew fit ex st ok r =
       fit = fit_more rows f fit (same_width (width_of rows) f b.expected lens);
       expected = expected_more rows f b.expected lens;
     }
+
+-- the rows that a walk has given are the first of the table
+pub begun : (bytes : List ℕ) (most : ℕ) (rows : List Fields) (w : Walk) → HasGiven bytes most rows w → (later : List Fields) × ((table_within most bytes).rows ≡ rows ++ later)
+unfolding table_within
+begun bytes most rows w h =
+    let rest : List Fields = records_from default_config h.stands.fuel w.reader.state h.unread in
+    let e : most ≡ length rows + w.left = sym h.count in (
+      more_rows (width_of rows) (take w.left rest),
+      ap (λ (rs : List Fields). even_rows (take most rs)) h.stands.rest
+          ∙ ap (λ (n : ℕ). even_rows (take n (rows ++ rest))) e
+          ∙ ap even_rows (take-append-add rows rest w.left)
+          ∙ h.fit (take w.left rest),
+    )

@@ -9,6 +9,8 @@ mod number;
 mod records;
 #[cfg(test)]
 mod tests;
+mod walk;
 
 pub use number::{Fault, thousandths, whole_number};
 pub use records::{Records, field_in, is_named, records_of};
+pub use walk::{Halt, Walk};

@@ -18,7 +18,7 @@ pub struct Records {
     pub uneven: Option<u64>,
 }
 
-fn is_uneven(error: &Error) -> bool
+pub(crate) fn is_uneven(error: &Error) -> bool
     ensures { result ≡ is_uneven error.now.kind }
 {
     matches!(error.kind(), ErrorKind::UnequalLengths { .. })

@@ -130,3 +130,53 @@ each_count f before place (d ∷ ds) xs h =
     let rest = then_ok (each_after f (Some one.0) (place + 1) ds) (λ ys. Ok (one.0 ∷ ys)) xs one.2 in
     let e : one.0 ∷ rest.0 ≡ xs = cc in
     sym (ap length e) ∙ ap suc (each_count f (Some one.0) (place + 1) ds rest.0 rest.1)
+
+one_read : {X A E : Type 0} (f : ℕ → X → Result A E) (before : Option A) (place : ℕ) (c : X) (ds : List X) (x : A) (xs : List A)
+    → f place c ≡ Ok x → each_after (λ (_ : Option A). f) (Some x) (place + 1) ds ≡ Ok xs → each_after (λ (_ : Option A). f) before place (c ∷ ds) ≡ Ok (x ∷ xs)
+unfolding each_after
+one_read f before place c ds x xs e h = rw (e, h) refl
+
+one_passed : {X A E : Type 0} (f : ℕ → X → Result A E) (before : Option A) (place : ℕ) (c : X) (ds : List X) (x : A) (y : E)
+    → f place c ≡ Ok x → each_after (λ (_ : Option A). f) (Some x) (place + 1) ds ≡ Err y → each_after (λ (_ : Option A). f) before place (c ∷ ds) ≡ Err y
+unfolding each_after
+one_passed f before place c ds x y e h = rw (e, h) refl
+
+one_refused : {X A E : Type 0} (f : ℕ → X → Result A E) (before : Option A) (place : ℕ) (c : X) (ds : List X) (y : E)
+    → f place c ≡ Err y → each_after (λ (_ : Option A). f) before place (c ∷ ds) ≡ Err y
+unfolding each_after
+one_refused f before place c ds y e = rw e refl
+
+none_read : {X A E : Type 0} (f : Option A → ℕ → X → Result A E) (before : Option A) (place : ℕ) → each_after f before place [] ≡ Ok []
+unfolding each_after
+none_read f before place = refl
+
+-- one more is read behind those that were
+pub each_more : {X A E : Type 0} (f : ℕ → X → Result A E) (before : Option A) (place : ℕ) (ds : List X) (xs : List A) (d : X) (x : A)
+    → each_after (λ (_ : Option A). f) before place ds ≡ Ok xs → f (place + length ds) d ≡ Ok x → each_after (λ (_ : Option A). f) before place (ds ++ d ∷ []) ≡ Ok (xs ++ x ∷ [])
+unfolding each_after
+each_more {A = A} f before place [] xs d x h e =
+    let none : [] ≡ xs = cc in
+    let here : place + 0 ≡ place = omega arith in
+    let one : f place d ≡ Ok x = subst (λ p. f p d ≡ Ok x) here e in
+    one_read f before place d [] x [] one (none_read (λ (_ : Option A). f) (Some x) (place + 1)) ∙ ap (λ (ys : List A). Ok (ys ++ x ∷ [])) none
+each_more {A = A} f before place (c ∷ ds) xs d x h e =
+    let one = then_ok (f place c) (λ y. each_after (λ (_ : Option A). f) (Some y) (place + 1) ds >>= (λ ys. Ok (y ∷ ys))) xs h in
+    let rest = then_ok (each_after (λ (_ : Option A). f) (Some one.0) (place + 1) ds) (λ ys. Ok (one.0 ∷ ys)) xs one.2 in
+    let same : one.0 ∷ rest.0 ≡ xs = cc in
+    let next : place + suc (length ds) ≡ place + 1 + length ds = omega arith in
+    let later = each_more f (Some one.0) (place + 1) ds rest.0 d x rest.1 (subst (λ p. f p d ≡ Ok x) next e) in
+    one_read f before place c (ds ++ d ∷ []) one.0 (rest.0 ++ x ∷ []) one.1 later ∙ ap (λ (ys : List A). Ok (ys ++ x ∷ [])) same
+
+-- the one behind those that were read is refused, and so are they with it, whatever follows
+pub each_fails : {X A E : Type 0} (f : ℕ → X → Result A E) (before : Option A) (place : ℕ) (ds : List X) (xs : List A) (d : X) (later : List X) (y : E)
+    → each_after (λ (_ : Option A). f) before place ds ≡ Ok xs → f (place + length ds) d ≡ Err y → each_after (λ (_ : Option A). f) before place (ds ++ d ∷ later) ≡ Err y
+unfolding each_after
+each_fails {A = A} f before place [] xs d later y h e =
+    let here : place + 0 ≡ place = omega arith in
+    one_refused f before place d later y (subst (λ p. f p d ≡ Err y) here e)
+each_fails {A = A} f before place (c ∷ ds) xs d later y h e =
+    let one = then_ok (f place c) (λ z. each_after (λ (_ : Option A). f) (Some z) (place + 1) ds >>= (λ zs. Ok (z ∷ zs))) xs h in
+    let rest = then_ok (each_after (λ (_ : Option A). f) (Some one.0) (place + 1) ds) (λ zs. Ok (one.0 ∷ zs)) xs one.2 in
+    let next : place + suc (length ds) ≡ place + 1 + length ds = omega arith in
+    let stops = each_fails f (Some one.0) (place + 1) ds rest.0 d later y rest.1 (subst (λ p. f p d ≡ Err y) next e) in
+    one_passed f before place c (ds ++ d ∷ later) one.0 y one.1 stops

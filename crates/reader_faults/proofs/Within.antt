@@ -8,7 +8,7 @@ use Rattle.std.proofs.lemmas.List.Sums.{take_while-cons}
 use Rattle.csv_records.specs.Table.{Fields, Table, all_records, even_rows, has_width, table_from, table_of, table_within, uneven_row}
 use Rattle.lab_model.specs.Steps.{◌>>=◌}
 use Rattle.reader_faults.specs.Each.{each_after}
-use Rattle.csv_records.proofs.Rows.{tabled}
+use Rattle.csv_records.specs.Walk.{tabled}
 use Rattle.reader_faults.proofs.Each.{EndsAt, FailsAlike, each_past}
 
 take_while-take : (p : Fields → Bool) (n : ℕ) (rs : List Fields) → take_while p (take n rs) ≡ take n (take_while p rs)

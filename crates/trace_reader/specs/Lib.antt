@@ -1,3 +1,4 @@
 pub mod Cycle
 pub mod Trace
 pub mod TraceCsv
+pub mod Walked

@@ -5,16 +5,17 @@
 //! behind a point. Records are tested one after the other, each whole before the next is read, and the
 //! cycle after all of them.
 
-ghost use Rattle.std.specs.Prelude.{◌≡◌, ◌+◌, ◌^◌, ◌≤◌, ◌<◌, IfOk, IfSome, OnOk, length, map};
+ghost use Rattle.std.specs.Prelude.{◌≡◌, ◌≤◌, ℕ, List, [], OnOk};
 ghost use Rattle.csv.specs.Records.{fields_of};
-ghost use Rattle.csv_records.specs.Table.{table_in, table_of};
+ghost use Rattle.csv_records.specs.Table.{table_within};
+ghost use Rattle.csv_records.specs.Walk.{HasGiven};
 ghost use Rattle.lab_model.specs.Reading.{Gives};
-ghost use Rattle.reader_faults.specs.Each.{each_from};
-ghost use Rattle.trace_reader.specs.TraceCsv.{bandwidth_in, behind_header, row_within, duration_in, is_header, latency_in, period_in_row, periods_to_end, table_periods, table_trace, trace_csv_of};
+ghost use Rattle.trace_reader.specs.TraceCsv.{bandwidth_in, row_within, duration_in, is_header, latency_in, period_in_row, periods_to_end, table_periods, trace_csv_of};
+ghost use Rattle.trace_reader.specs.Walked.{Headed};
 
 use crate::cycle::whole_trace;
 use csv::ByteRecord;
-use csv_records::{Records, field_in, is_named, records_of, thousandths, whole_number};
+use csv_records::{Halt, Walk, field_in, is_named, thousandths, whole_number};
 use lab_model::{
     InputFault, Key, Kind, MOST_BANDWIDTH_KBPS, MOST_DURATION_MS, MOST_LATENCY_MS, MOST_PERIODS,
     Period, Trace,
@@ -37,19 +38,20 @@ fn is_header(fields: &ByteRecord) -> bool
         && is_named(fields, 2, "latency_ms")
 }
 
-/// The records behind the header.
-fn behind_header(rows: &[ByteRecord]) -> Result<&[ByteRecord], InputFault>
-    ensures rows { Gives (λ v. map fields_of v.now) result
-        (behind_header (map fields_of rows.now)) }
-    ensures count { IfOk result (λ v. length rows.now ≡ length v.now + 1) }
+/// Reads the header.
+fn read_header(walk: &mut Walk<'_>) -> Result<(), InputFault>
+    ensures { (bytes : List ℕ) → HasGiven bytes 100002 [] walk.old
+        → Headed bytes result walk.new }
 {
-    match rows {
-        [] => Err(refusal(Kind::Empty, Key::Whole, 0, 0)),
-        [header, later @ ..] => if is_header(header) {
-            Ok(later)
+    match walk.advance() {
+        Ok(true) => if is_header(walk.row()) {
+            Ok(())
         } else {
             Err(refusal(Kind::Shape, Key::Header, 1, 0))
         },
+        Ok(false) => Err(refusal(Kind::Empty, Key::Whole, 0, 0)),
+        Err(Halt::Uneven) => Err(refusal(Kind::Empty, Key::Whole, 0, 0)),
+        Err(Halt::Memory) => Err(InputFault::Memory),
     }
 }
 
@@ -104,27 +106,12 @@ fn period_in_row(fields: &ByteRecord, row: u32) -> Result<Period, InputFault>
     })
 }
 
-/// The periods of the records behind the header.
-fn all_rows(alloc: Global, rows: &[ByteRecord]) -> Result<Vec<Period>, InputFault>
-    ensures periods { Gives (λ v. v.items) result
-        (each_from period_in_row 2 (map fields_of rows.now)) }
-    ensures few { OnOk result (length rows.now ≤ 100000) }
-{
-    let mut periods = Vec::new(alloc);
-    for (i, fields) in rows.iter().enumerate() {
-        let period = period_in_row(fields, i as u32 + 2)?;
-        periods.push(period)?;
-    }
-    Ok(periods)
-}
-
 /// The periods, if no uneven record stands behind theirs and there are some.
-fn periods_to_end(periods: Vec<Period>, uneven: Option<u64>) -> Result<Vec<Period>, InputFault>
-    requires { IfSome uneven (λ row. row < 2 ^ 32) }
+fn periods_to_end(periods: Vec<Period>, uneven: Option<u32>) -> Result<Vec<Period>, InputFault>
     ensures { Gives (λ v. v.items) result (periods_to_end uneven periods.items) }
 {
     if let Some(row) = uneven {
-        return Err(refusal(Kind::NotCsv, Key::Period, row as u32, 0));
+        return Err(refusal(Kind::NotCsv, Key::Period, row, 0));
     }
     if periods.is_empty() {
         return Err(refusal(Kind::Empty, Key::Whole, 0, 0));
@@ -132,23 +119,25 @@ fn periods_to_end(periods: Vec<Period>, uneven: Option<u64>) -> Result<Vec<Perio
     Ok(periods)
 }
 
-/// The periods of a table.
-fn table_periods(alloc: Global, records: &Records) -> Result<Vec<Period>, InputFault>
-    requires { IfSome records.now.uneven (λ k. k ≡ length records.now.rows.items + 1) }
-    ensures { Gives (λ v. v.items) result (table_periods (table_in records.now)) }
+/// The periods of a text, each record tested before the next is read.
+fn text_periods(alloc: Global, bytes: &[u8]) -> Result<Vec<Period>, InputFault>
+    ensures { Gives (λ v. v.items) result (table_periods (table_within 100002 bytes.now)) }
 {
-    let rows = behind_header(&records.rows)?;
-    let periods = all_rows(alloc, rows)?;
-    periods_to_end(periods, records.uneven)
-}
-
-/// The trace of a table.
-fn table_trace(alloc: Global, records: &Records) -> Result<Trace, InputFault>
-    requires { IfSome records.now.uneven (λ k. k ≡ length records.now.rows.items + 1) }
-    ensures { Gives (λ t. t) result (table_trace (table_in records.now)) }
-{
-    let periods = table_periods(alloc, records)?;
-    whole_trace(periods)
+    let mut walk = Walk::new(alloc, bytes, MOST_RECORDS);
+    read_header(&mut walk)?;
+    let mut periods = Vec::new(alloc);
+    for row in 2..LAST_ROW + 2 {
+        match walk.advance() {
+            Ok(true) => {
+                let period = period_in_row(walk.row(), row)?;
+                periods.push(period)?;
+            }
+            Ok(false) => return periods_to_end(periods, None),
+            Err(Halt::Uneven) => return periods_to_end(periods, Some(row)),
+            Err(Halt::Memory) => return Err(InputFault::Memory),
+        }
+    }
+    unreachable!()
 }
 
 /// Reads a CSV trace. A bandwidth is a number of kbps with up to three digits behind a point, and is kept
@@ -158,8 +147,6 @@ fn table_trace(alloc: Global, records: &Records) -> Result<Trace, InputFault>
 pub fn read_trace_csv(alloc: Global, bytes: &[u8]) -> Result<Trace, InputFault>
     ensures { Gives (λ t. t) result (trace_csv_of bytes.now) }
 {
-    let Ok(records) = records_of(alloc, bytes, MOST_RECORDS) else {
-        return Err(InputFault::Memory);
-    };
-    table_trace(alloc, &records)
+    let periods = text_periods(alloc, bytes)?;
+    whole_trace(periods)
 }

@@ -10,4 +10,4 @@ returns-in_err-inputs g c =
 pub returns : goal.returns
 returns g c =
     about_ends of_a_check (check c.args.words.gap) c.args.words c.in_ok-inputs.inputs _ _ _ _ _ (λ h. c.into_film_words.ensures.certificate)
-    (rw c.into_film_words.ensures.value at c.in_ok-inputs.ensures.comes) (rw c.gap.ensures at c.write_verdict.ensures)
+    (rw c.into_film_words.ensures.value at c.in_ok-inputs.ensures.comes) (rw c.gap-gap.ensures at c.write_verdict.ensures)

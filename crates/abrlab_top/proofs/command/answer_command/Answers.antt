@@ -1,18 +1,9 @@
 use Rattle.std.proofs.Common.{false, subst, true}
 use Rattle.lab_words.specs.declared.Verb.TheVariants as verb
-use Rattle.lab_words.specs.Command.{CommandWords, view}
-use Rattle.lab_inputs.specs.Roles.{film_files}
-use Rattle.abrlab_top.specs.Check.{check}
-use Rattle.abrlab_top.specs.Compare.{compare}
+use Rattle.lab_words.specs.Command.{view}
 use Rattle.abrlab_top.specs.Demo.{demo_text}
-use Rattle.abrlab_top.specs.Outcome.{about}
-use Rattle.abrlab_top.specs.Plan.{plan}
-use Rattle.abrlab_top.specs.Players.{play_jointly}
-use Rattle.abrlab_top.specs.Regret.{regret}
 use Rattle.abrlab_top.specs.Request.{IsRequest}
-use Rattle.abrlab_top.specs.Runs.{Ends}
-use Rattle.abrlab_top.specs.Simulate.{simulate}
-use Rattle.abrlab_top.specs.Stages.{at_the_end, of_a_check, row_by_row}
+use Rattle.abrlab_top.specs.Stages.{row_by_row}
 use Rattle.abrlab_top.proofs.Jointly.{simulate_ends}
 use Rattle.abrlab_top.proofs.Whole.{alone_ends, compare_ends, ends_by}
 use Rattle.abrlab_top.proofs.command.answer_command.Goals as goal
@@ -20,22 +11,22 @@ use Rattle.abrlab_top.proofs.command.answer_command.Goals as goal
 pub returns-in-Simulate : goal.returns-in-Simulate
 returns-in-Simulate g c =
     let is = subst (IsRequest (view c.args.command)) c.in-Simulate.is c.of.ensures in
-    simulate_ends false (view c.args.command) _ _ _ _ _ is.0 is.1 (subst (λ (w : CommandWords). Ends (film_files w) at_the_end (about simulate w) _ _ _ _ _) is.2 c.simulate.ensures)
+    simulate_ends false (view c.args.command) _ _ _ _ _ is.0 is.1 (rw is.2 at c.simulate.ensures)
 
 pub returns-in-Players : goal.returns-in-Players
 returns-in-Players g c =
     let is = subst (IsRequest (view c.args.command)) c.in-Players.is c.of.ensures in
-    simulate_ends true (view c.args.command) _ _ _ _ _ is.0 is.1 (subst (λ (w : CommandWords). Ends (film_files w) at_the_end (about play_jointly w) _ _ _ _ _) is.2 c.players.ensures)
+    simulate_ends true (view c.args.command) _ _ _ _ _ is.0 is.1 (rw is.2 at c.players.ensures)
 
 pub returns-in-Compare : goal.returns-in-Compare
 returns-in-Compare g c =
     let is = subst (IsRequest (view c.args.command)) c.in-Compare.is c.of.ensures in
-    compare_ends false (view c.args.command) _ _ _ _ _ is.0 is.1 (subst (λ (w : CommandWords). Ends (film_files w) row_by_row (about compare w) _ _ _ _ _) is.2 c.compare.ensures)
+    compare_ends false (view c.args.command) _ _ _ _ _ is.0 is.1 (rw is.2 at c.compare.ensures)
 
 pub returns-in-Regret : goal.returns-in-Regret
 returns-in-Regret g c =
     let is = subst (IsRequest (view c.args.command)) c.in-Regret.is c.of.ensures in
-    compare_ends true (view c.args.command) _ _ _ _ _ is.0 is.1 (subst (λ (w : CommandWords). Ends (film_files w) at_the_end (about (regret w.budget) w) _ _ _ _ _) is.2 c.regret.ensures)
+    compare_ends true (view c.args.command) _ _ _ _ _ is.0 is.1 (rw is.2 at c.regret.ensures)
 
 pub returns-in-Plan : goal.returns-in-Plan
 returns-in-Plan g c =
@@ -46,7 +37,7 @@ returns-in-Plan g c =
 pub returns-in-Check : goal.returns-in-Check
 returns-in-Check g c =
     let is = subst (IsRequest (view c.args.command)) c.in-Check.is c.of.ensures in
-    ends_by verb.Check (view c.args.command) _ _ _ _ _ is.0 (subst (λ (w : CommandWords). Ends (film_files w) of_a_check (about (check w.gap) w) _ _ _ _ _) is.1 c.check.ensures)
+    ends_by verb.Check (view c.args.command) _ _ _ _ _ is.0 (rw is.1 at c.check.ensures)
 
 pub demo-requires : goal.demo-requires
 demo-requires g c = (subst (IsRequest (view c.args.command)) c.in-Demo.is c.of.ensures).2

@@ -1,8 +1,9 @@
-use Rattle.std.proofs.Common.{◌≡◌, ◌∙◌, Some, map, refl, sym}
-use Rattle.std.specs.List.{slice_get}
+use Rattle.std.proofs.Common.{◌≡◌, ◌∙◌, Some, map, refl, subst, sym}
+use Rattle.std.specs.List.{All, slice_get}
 use Rattle.lab_io.proofs.Puts.{puts_as}
 use Rattle.lab_inputs.specs.Stages.{network_of}
 use Rattle.shared_link.specs.Joint.{joint_of, joint_session}
+use Rattle.shared_link.specs.Table.{AreSessions, IsWhole}
 use Rattle.abrlab_top.specs.Answer.{printed}
 use Rattle.abrlab_top.specs.Players.{joint_on, joint_text, play_jointly}
 use Rattle.abrlab_top.specs.Rules.{kind_of}
@@ -47,7 +48,8 @@ returns-in_err-joint g c = exit at_the_end (play_jointly c.args.inputs.now) _ _ 
 pub write_players-requires : goal.write_players-requires
 write_players-requires g c =
     let i = c.args.inputs.now in
-    all_reported c.manifest.result.now c.setup.result.now c.setup-2.result.now c.in_ok-joint.joint.sessions.items (rw (c.setup.ensures, c.manifest.ensures) (all_settled i c.fit.result _ c.in_ok-fit.was c.fit.ensures).1.setup) (c.setup-2.ensures ∙ sym c.setup.ensures) c.in_ok-joint.ensures.whole
+    all_reported c.manifest.result.now c.setup.result.now c.setup-2.result.now c.deref.result.now (rw (c.setup.ensures, c.manifest.ensures) (all_settled i c.fit.result _ c.in_ok-fit.was c.fit.ensures).1.setup) (c.setup-2.ensures ∙ sym c.setup.ensures)
+    (subst (All (IsWhole c.manifest.result.now)) (sym c.deref.ensures.value) c.in_ok-joint.ensures.whole)
 
 pub returns-in_err-write_players : goal.returns-in_err-write_players
 returns-in_err-write_players g c =
@@ -57,10 +59,11 @@ returns-in_err-write_players g c =
     let kinds = kinds_are i c.rules.result.now c.in_ok-rules.rules.items c.rules.ensures.value c.in_ok-rules.ensures.kinds in
     let j = joint_of c.manifest.result.now c.in-Some.network.now.trace c.setup.result.now (map kind_of c.in_ok-rules.rules.items) in
     let case = case_is i c.in-Some.network.now.trace c.in-Some.network.now.trace c.manifest.result.now c.setup.result.now c.in_ok-rules.rules.items kinds c.manifest.ensures refl c.setup.ensures in
-    let text = texts_are i c.in-Some.network.now.trace j c.in_ok-joint.joint.sessions.items c.setup-2.result.now case c.setup-2.ensures c.in_ok-joint.ensures.sessions in
+    let sessions = subst (AreSessions j) (sym c.deref.ensures.value) c.in_ok-joint.ensures.sessions in
+    let text = texts_are i c.in-Some.network.now.trace j c.deref.result.now c.setup-2.result.now case c.setup-2.ensures sessions in
     exit at_the_end (play_jointly i) _ _ c.from_residual-in_err-write_players.result _ c.from_residual-in_err-write_players.ensures.1
     (put_failed at_the_end (play_jointly i) (printed (joint_text (joint_on i c.in-Some.network.now.trace))) _ _ c.write_players.result _ (played_jointly i _ network fits.0) tt c.in_err-write_players.was
-    (puts_as _ _ _ _ _ text (c.write_players.ensures (joint_session j) (are_of j c.in_ok-joint.joint.sessions.items c.in_ok-joint.ensures.sessions))))
+    (puts_as _ _ _ _ _ text (c.write_players.ensures (joint_session j) (are_of j c.deref.result.now sessions))))
 
 pub returns : goal.returns
 returns g c =
@@ -70,6 +73,7 @@ returns g c =
     let kinds = kinds_are i c.rules.result.now c.in_ok-rules.rules.items c.rules.ensures.value c.in_ok-rules.ensures.kinds in
     let j = joint_of c.manifest.result.now c.in-Some.network.now.trace c.setup.result.now (map kind_of c.in_ok-rules.rules.items) in
     let case = case_is i c.in-Some.network.now.trace c.in-Some.network.now.trace c.manifest.result.now c.setup.result.now c.in_ok-rules.rules.items kinds c.manifest.ensures refl c.setup.ensures in
-    let text = texts_are i c.in-Some.network.now.trace j c.in_ok-joint.joint.sessions.items c.setup-2.result.now case c.setup-2.ensures c.in_ok-joint.ensures.sessions in
+    let sessions = subst (AreSessions j) (sym c.deref.ensures.value) c.in_ok-joint.ensures.sessions in
+    let text = texts_are i c.in-Some.network.now.trace j c.deref.result.now c.setup-2.result.now case c.setup-2.ensures sessions in
     put_done at_the_end (play_jointly i) (joint_text (joint_on i c.in-Some.network.now.trace)) _ _ c.write_players.result _ (played_jointly i _ network fits.0) c.in_ok-write_players.was
-    (puts_as _ _ _ _ _ text (c.write_players.ensures (joint_session j) (are_of j c.in_ok-joint.joint.sessions.items c.in_ok-joint.ensures.sessions)))
+    (puts_as _ _ _ _ _ text (c.write_players.ensures (joint_session j) (are_of j c.deref.result.now sessions)))

@@ -1,9 +1,4 @@
-use Rattle.std.proofs.Common.{◌∙◌, ◌++◌, [], ◌∷◌, drop, map, ap}
-use Rattle.std.specs.List.{All}
-use Rattle.lab_words.specs.declared.NamedRule.{NamedRule}
-use Rattle.lab_words.specs.Rules.{spoken}
-use Rattle.abrlab_top.specs.declared.rule.AnyRule.{AnyRule}
-use Rattle.abrlab_top.specs.Rules.{StandsFor, kind_of}
+use Rattle.std.proofs.Common.{◌∙◌}
 use Rattle.abrlab_top.proofs.Jointly.{rules_done, rules_more, told_more}
 use Rattle.abrlab_top.proofs.rule.any_rules.Goals as goal
 

@@ -6,7 +6,8 @@ use Rattle.csv.specs.Reading.{default_config, strip_bom}
 use Rattle.csv.specs.Records.{fields_of}
 use Rattle.csv_records.specs.Table.{is_uneven}
 use Rattle.csv.proofs.ReadFacts.{rows-end}
-use Rattle.csv_records.proofs.Rows.{filled, fit_none, refused, stands_start, tabled, went, whole}
+use Rattle.csv_records.specs.Walk.{tabled}
+use Rattle.csv_records.proofs.Rows.{filled, fit_none, refused, stands_start, went, whole}
 use Rattle.csv_records.proofs.records.records_of.Goals as goal
 
 pub loop-row-init : goal.loop-row-init

@@ -2,7 +2,7 @@ use Rattle.std.proofs.Common.{◌≡◌, ◌+◌, ◌<◌, ℕ, List, Some, leng
 use Rattle.csv.specs.Reading.{Ready, default_config, source_of, strip_bom}
 use Rattle.csv.specs.Records.{fields_of}
 use Rattle.csv.specs.declared.reader.Trim.TheVariants as trim
-use Rattle.csv_records.proofs.Rows.{Fit, Stands, width_of}
+use Rattle.csv_records.specs.Walk.{Fit, Stands, width_of}
 use Rattle.csv_records.proofs.records.records_of.Given as goal
 
 abbrev pub invariant-loop-row : goal.invariant-loop-row

@@ -1,7 +1,6 @@
-use Rattle.std.proofs.Common.{ap, refl, subst, sym}
-use Rattle.std.specs.List.{All}
+use Rattle.std.proofs.Common.{ap, map, sym}
 use Rattle.std.proofs.lemmas.List.Elements.{All-nil, All-push}
-use Rattle.abrlab_top.specs.Regret.{AreRanked, first_spent}
+use Rattle.abrlab_top.specs.Regret.{AreRanked, first_spent, seen_scored}
 use Rattle.abrlab_top.proofs.Regrets.{all_scored, networks_seen, spent_here, spent_later, table_more, unspent_err, unspent_exit, unspent_wanting}
 use Rattle.abrlab_top.proofs.regret.Ranking.score_networks.Goals as goal
 
@@ -10,8 +9,8 @@ loop-index-init c =
     let i = c.args.self.now.inputs in
     record {
       spent = ap (first_spent i c.args.self.now.budget 1) (sym (networks_seen i c.inputs.result.now c.networks-networks.result.now c.inputs.ensures.value c.networks-networks.ensures.value));
-      values = refl;
-      ranked = All-nil AreRanked;
+      values = ap (map seen_scored) c.new-table.ensures.items;
+      ranked = rw c.new-table.ensures.items (All-nil AreRanked);
     }
 
 pub returns-in_err-scored : goal.returns-in_err-scored

@@ -1,4 +1,6 @@
-use Rattle.std.proofs.Common.{◌∙◌, ap}
+use Rattle.std.proofs.Common.{◌∙◌, ap, rules}
+use Rattle.std.specs.Int.{w128}
+use Rattle.std.proofs.lemmas.Int.{to_z-of_z}
 use Rattle.lab_model.specs.Film.{segments_of}
 use Rattle.lab_words.specs.Rules.{spoken}
 use Rattle.lab_inputs.specs.Inputs.{InputValues}
@@ -25,6 +27,7 @@ score-requires-clause-played c =
 pub returns : goal.returns
 returns c =
     let i = c.args.self.now.inputs in
-    rule_scored i c.args.clock.now c.manifest-film.result.now c.setup-setup.result.now c.media_ahead.result (kind_of c.in_ok-played.played) (spoken c.args.rule.now.rule) (shown c.in_ok-session.session) c.score.result c.in_ok-session.ensures.session
+    to_z-of_z w128 c.score.result (search rules)
+    ∙ rule_scored i c.args.clock.now c.manifest-film.result.now c.setup-setup.result.now c.media_ahead.result (kind_of c.in_ok-played.played) (spoken c.args.rule.now.rule) (shown c.in_ok-session.session) c.score.result c.in_ok-session.ensures.session
     (c.manifest-film.ensures ∙ ap (λ (v : InputValues). v.film) c.inputs-inputs.ensures.value) (c.setup-setup.ensures ∙ ap (λ (v : InputValues). v.setup) c.inputs-inputs.ensures.value)
     (c.media_ahead.ensures.value ∙ ap (λ (v : InputValues). ahead_of v.live) c.inputs-inputs.ensures.value) c.in_ok-played.ensures.kind (rw c.deref.ensures.value at c.score.ensures)

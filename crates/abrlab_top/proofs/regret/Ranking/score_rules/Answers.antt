@@ -1,10 +1,6 @@
-use Rattle.std.proofs.Common.{◌≡◌, map, subst}
-use Rattle.std.specs.List.{All}
-use Rattle.lab_io.specs.Sink.{Text}
-use Rattle.lab_model.specs.Rules.{RuleKind}
-use Rattle.lab_words.specs.Command.{named}
-use Rattle.lab_words.specs.Limits.{IsRuleWithin}
-use Rattle.lab_inputs.specs.Inputs.{InputValues}
+use Rattle.std.proofs.Common.{◌∷◌, ◌++◌, ◌∙◌, [], ap, rules}
+use Rattle.std.specs.Int.{w128}
+use Rattle.std.proofs.lemmas.Int.{to_z-of_z}
 use Rattle.abrlab_top.proofs.Regrets.{rule_asks, rule_within, rules_seen, scores_all, scores_more}
 use Rattle.abrlab_top.proofs.regret.Ranking.score_rules.Goals as goal
 
@@ -20,7 +16,7 @@ score_rule-requires-clause-fits c =
 pub loop-rule-preserved : goal.loop-rule-preserved
 loop-rule-preserved c =
     scores_more c.args.self.now.inputs c.args.clock.now c.rules-rules.result.now c.loop-rule.rule-index c.rule-item.result c.loop-rule.scores.items _ c.in_ok-played.played c.loop-rule-test.true c.rule-item.is
-    c.in_ok-push.ensures.items c.loop-rule.invariant c.in_ok-played.ensures
+    (c.in_ok-push.ensures.items ∙ ap (λ z. c.loop-rule.scores.items ++ z ∷ []) (to_z-of_z w128 c.in_ok-played.played (search rules))) c.loop-rule.invariant c.in_ok-played.ensures
 
 pub returns : goal.returns
 returns c =
