@@ -30,22 +30,22 @@ fn bound_on(
     scene: &Scene<'_>,
     windows: &[Window],
     rung: u8,
-    list_part: i128,
+    gain: i128,
 ) -> Result<i128, AllocError>
     requires windows { CanBound (segments_of scene.now.film) windows.now }
     requires rung { rung < rungs_of scene.now.film }
-    requires list_part { list_part ≡ list_part scene.now windows.now rung }
-    requires near { IsNear most_list_worth list_part }
+    requires gain { gain ≡ list_part scene.now windows.now rung }
+    requires near { IsNear most_list_worth gain }
     ensures value { IfOk result (λ v. v ≡ bound_on scene.now windows.now rung) }
     ensures near { IfOk result (IsNear most_bound) }
 {
     prove!(segments(scene) > 0);
     let weights = &scene.setup().weights;
     let first = start_on(scene, rung).p;
-    let gain = PRICE_UNIT * (1000 * weights.utility(0, rung) as u128);
-    let loss = PRICE_UNIT * (weights.startup() as u128 * first as u128);
-    let link_part = link_part(alloc, scene, windows, first)?;
-    Ok(difference(gain, loss) + list_part + link_part)
+    let utility = PRICE_UNIT * (1000 * weights.utility(0, rung) as u128);
+    let startup = PRICE_UNIT * (weights.startup() as u128 * first as u128);
+    let worth = link_part(alloc, scene, windows, first)?;
+    Ok(difference(utility, startup) + gain + worth)
 }
 
 /// The least whole number that isn't below so many parts.
