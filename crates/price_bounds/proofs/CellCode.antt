@@ -16,12 +16,20 @@ use Rattle.std.proofs.Math.ListN.{set}
 use Rattle.price_bounds.specs.Steps.{IsTable}
 use Rattle.price_bounds.specs.Tables.{AreEdges, IsBestOf, IsSteppedTo, beginning_worth, cell_gains, cell_moves, ending_worth, most_link_worth, most_worth}
 use Rattle.price_bounds.specs.Windows.{AreCheap, CanBound, price_beginning, price_ending}
-use Rattle.price_bounds.proofs.CellLaws.{cells_begin, least_from, least_next}
+use Rattle.price_bounds.proofs.CellLaws.{cells_begin, least_first, least_from, least_next}
 use Rattle.price_bounds.proofs.CellSteps.{best_first, best_more, stepped_all, stepped_first, stepped_more}
 use Rattle.price_bounds.proofs.LinkTable.{cell_near, cell_table_near, end_most, priced_most}
 use Rattle.price_bounds.proofs.PriceSums.{are_cheap, ending_price}
 
 module _ (first : ℕ) (edges : List ℕ) (h : AreEdges first edges) where
+  -- the first edge is the first delay
+  pub edge_first : slice_index edges 0 ≡ first
+  edge_first = h.each 0 (omega arith) ∙ least_first first
+
+  -- so they are edges behind their first
+  pub edges_own : AreEdges (slice_index edges 0) edges
+  edges_own = subst (λ f. AreEdges f edges) (sym edge_first) h
+
   -- the edge of a cell, and the one behind it
   pub edge_is : (c : ℕ) → c < cells_of first → slice_index edges c ≡ least_delay first c
   edge_is c low = h.each c (omega (arith, low))
@@ -73,7 +81,7 @@ pushed f k xs v count each is c low = ⊎_elim
     ap (λ j. slice_index_or (xs ++ v ∷ []) j (pos 0)) (sym at) ∙ get_or-append_seam xs v [] (pos 0) ∙ is ∙ ap f here) (cases_lt c k)
 
 -- what stalls cost fits
-pub cost_low : (stall ms : ℕ) → stall ≤ 1000000 → ms ≤ 1000000000000 → 1000000000 * (stall * ms) ≤ 100000000000000000000000000000000000000
+pub cost_low : (stall ms : ℕ) → stall ≤ 1000000 → ms ≤ 1000000000000 → 1000000000 * (stall * ms) ≤ 1000000000000000000000000000
 cost_low stall ms few low = let most = mul-le-mul few low in omega (arith, most)
 
 -- ---- one segment

@@ -19,3 +19,4 @@ pub mod ListSteps
 pub mod CellCode
 pub mod Verdicts
 pub mod Follows
+pub mod BoundParts

@@ -96,3 +96,22 @@ table_last m f i table count each = record { count = count; each = λ c low. sub
 -- a table is one by equal numbers
 pub table_at : (m : Moves) (f : Gains) (table : List ℤ) (n k i j : ℕ) → n ≡ k → i ≡ j → IsTable m f n i table → IsTable m f k j table
 table_at m f table n k i j e d h = subst (λ a. IsTable m f a j table) e (subst (λ b. IsTable m f n b table) d h)
+
+-- tables in turn, from the last segment to the first
+module _ (m : Moves) (f : Gains) (n : ℕ) (table : List ℤ) where
+  -- behind the last segment no step is left
+  pub turn_first : (done : ℕ) → 1 ≤ n → done ≡ 1 → IsTable m f 0 n table → IsTable m f (n - ((n - done) + 1)) ((n - done) + 1) table
+  turn_first done some one h = table_at m f table 0 (n - ((n - done) + 1)) n ((n - done) + 1) (omega (arith, some, one)) (omega (arith, some, one)) h
+
+  -- so many are done, and those stand behind the segment before them
+  pub turn_behind : (count done : ℕ) → count ≡ n → IsTable m f (n - ((n - done) + 1)) ((n - done) + 1) table → IsTable m f (n - ((count - done) + 1)) ((count - done) + 1) table
+  turn_behind count done is h = subst (λ k. IsTable m f (n - ((k - done) + 1)) ((k - done) + 1) table) (sym is) h
+
+  -- with that segment one more is done
+  pub turn_next : (count done : ℕ) → count ≡ n → done < count → IsTable m f (n - (count - done)) (count - done) table → IsTable m f (n - ((n - (done + 1)) + 1)) ((n - (done + 1)) + 1) table
+  turn_next count done is low h =
+      table_at m f table (n - (count - done)) (n - ((n - (done + 1)) + 1)) (count - done) ((n - (done + 1)) + 1) (omega (arith, is, low)) (omega (arith, is, low)) h
+
+  -- all but the first are done
+  pub turn_last : (done : ℕ) → 1 ≤ n → done ≡ n → IsTable m f (n - ((n - done) + 1)) ((n - done) + 1) table → IsTable m f (n - 1) 1 table
+  turn_last done some all h = table_at m f table (n - ((n - done) + 1)) (n - 1) ((n - done) + 1) 1 (omega (arith, some, all)) (omega (arith, some, all)) h

@@ -1,10 +1,11 @@
 -- What the verdict on a certificate by prices proves.
 use Rattle.std.proofs.Common.{◌≡◌, ◌∙◌, ℕ, suc, ◌+◌, ◌≤◌, ◌<◌, List, [], ◌∷◌, length, drop, get_or, Bool, true, false, cond, ◌&&◌, refl, sym, ap, subst, arith, add-one}
-use Rattle.std.specs.Prelude.{Option, Some, None, ℤ, ◌≤ℤ◌, int_le, nat_le, nat_lt, if◌then◌else◌, ◌==◌}
+use Rattle.std.specs.Prelude.{Option, Some, None, ℤ, ◌<ℤ◌, ◌≤ℤ◌, int_le, nat_le, nat_lt, if◌then◌else◌, ◌==◌}
 use Rattle.std.specs.List.{All}
 use Rattle.std.proofs.Math.Seq.{drop-cons}
-use Rattle.std.proofs.lemmas.Bool.{and_parts, cond-false, cond-true, cond_both, eqb-true, le-ltb, leb-true, lt-ltb, ltb-true}
-use Rattle.std.proofs.lemmas.Int.{ints}
+use Rattle.std.proofs.lemmas.Bool.{and_from, and_parts, cond-false, cond-true, cond_both, eqb-true, le-ltb, leb-true, lt-ltb, ltb-true}
+use Rattle.std.proofs.lemmas.Int.{by_lt_z, ints}
+use Rattle.std.proofs.Math.Bool.{and-false}
 use Rattle.std.proofs.lemmas.List.{drop_all}
 use Rattle.std.proofs.lemmas.List.Elements.{All-cons, All-nil}
 use Rattle.lab_model.proofs.Orders.{≤ℤ_trans}
@@ -16,8 +17,8 @@ use Rattle.price_bounds.specs.declared.verdict.PriceVerdict.{PriceVerdict}
 use Rattle.price_bounds.specs.declared.verdict.PriceVerdict.TheVariants.{BadRung, BadWindow, BoundAbove, OtherFilm, OtherScore, Yes}
 use Rattle.price_bounds.specs.declared.window.Window.{Window}
 use Rattle.price_bounds.specs.Bound.{bound_of}
-use Rattle.price_bounds.specs.Verdict.{PriceParts, bad_rung, bad_window, bound_verdict, comes_after, is_window, of_place, range_verdict, score_verdict, verdict_of}
-use Rattle.price_bounds.specs.Windows.{AreWindows, IsWindow, most_price}
+use Rattle.price_bounds.specs.Verdict.{PriceParts, bad_rung, bad_window, bound_verdict, comes_after, is_of_film, is_window, of_place, range_verdict, score_verdict, verdict_of}
+use Rattle.price_bounds.specs.Windows.{AreWindows, CanBound, IsWindow, most_price, most_windows}
 use Rattle.price_bounds.proofs.Law.{no_list_passes}
 
 -- ---- numbers
@@ -25,8 +26,29 @@ use Rattle.price_bounds.proofs.Law.{no_list_passes}
 le_true : (a b : ℤ) → int_le a b ≡ true → a ≤ℤ b
 le_true a b h = grind (arith, ints)
 
+le_yes : (a b : ℤ) → a ≤ℤ b → int_le a b ≡ true
+le_yes a b h = grind (arith, ints)
+
+le_no : (a b : ℤ) → b <ℤ a → int_le a b ≡ false
+le_no a b h = grind (arith, ints)
+
 z_both : (a b : ℤ) → a ≤ℤ b → b ≤ℤ a → a ≡ b
 z_both a b h k = omega (arith, ints)
+
+z_itself : (a b : ℤ) → a ≡ b → a ≤ℤ b
+z_itself a b e = omega (arith, ints, e)
+
+-- equal numbers pass both tests
+both_ways : (a b : ℤ) → a ≡ b → (int_le a b && int_le b a) ≡ true
+both_ways a b e = and_from (int_le a b) (int_le b a) (le_yes a b (z_itself a b e)) (le_yes b a (z_itself b a (sym e)))
+
+-- and others don't
+not_both : (a b : ℤ) → (a ≡ b → ⊥) → (int_le a b && int_le b a) ≡ false
+not_both a b apart = by_lt_z b a
+    (λ (low : b <ℤ a). ap (λ t. t && int_le b a) (le_no a b low))
+    (λ (up : a ≤ℤ b). by_lt_z a b
+    (λ (high : a <ℤ b). ap (λ t. int_le a b && t) (le_no b a high) ∙ and-false (int_le a b))
+    (λ (down : b ≤ℤ a). absurd (apart (z_both a b up down))))
 
 -- ---- rungs
 
@@ -110,6 +132,74 @@ of_rest says None rest never h = (refl, h)
 of_rest says (Some k) rest never h = absurd (never k h)
 
 module _ (g : Task) (c : PriceParts) where
+  -- P4: the value is the score
+  pub score_is : (value : ℤ) → value ≡ task_value g c.plan → value ≡ c.score → Yes ≡ score_verdict g c
+  score_is value is same =
+      let own = task_value g c.plan in
+      sym (cond-true (int_le own c.score && int_le c.score own) Yes (OtherScore own) (both_ways own c.score (sym is ∙ same)))
+
+  -- or it isn't
+  pub score_other : (value : ℤ) → value ≡ task_value g c.plan → (value ≡ c.score → ⊥) → OtherScore value ≡ score_verdict g c
+  score_other value is apart =
+      let own = task_value g c.plan in
+      ap OtherScore is ∙ sym (cond-false (int_le own c.score && int_le c.score own) Yes (OtherScore own) (not_both own c.score (λ e. apart (is ∙ e))))
+
+  -- P3: the bound is at most the certificate's
+  pub bound_passed : (bound : ℤ) (rest : PriceVerdict) → bound ≡ bound_of g c.windows → bound ≤ℤ c.bound → rest ≡ score_verdict g c → rest ≡ bound_verdict g c
+  bound_passed bound rest is low e =
+      let own = bound_of g c.windows in
+      e ∙ sym (cond-true (int_le own c.bound) (score_verdict g c) (BoundAbove own) (le_yes own c.bound (subst (λ b. b ≤ℤ c.bound) is low)))
+
+  -- or it isn't
+  pub bound_above : (bound : ℤ) → bound ≡ bound_of g c.windows → c.bound <ℤ bound → BoundAbove bound ≡ bound_verdict g c
+  bound_above bound is high =
+      let own = bound_of g c.windows in
+      ap BoundAbove is ∙ sym (cond-false (int_le own c.bound) (score_verdict g c) (BoundAbove own) (le_no own c.bound (subst (λ b. c.bound <ℤ b) is high)))
+
+  -- P1: the counts aren't the film's
+  pub other_film : is_of_film g c ≡ false → OtherFilm ≡ verdict_of g c
+  unfolding verdict_of
+  other_film h = sym (cond-false (is_of_film g c) (range_verdict g c) OtherFilm h)
+
+  film_passed : is_of_film g c ≡ true → range_verdict g c ≡ verdict_of g c
+  unfolding verdict_of
+  film_passed h = sym (cond-true (is_of_film g c) (range_verdict g c) OtherFilm h)
+
+  -- P2: a rung isn't the film's
+  pub rung_verdict : (k : ℕ) → is_of_film g c ≡ true → Some k ≡ bad_rung c.rungs 0 c.plan → BadRung k ≡ verdict_of g c
+  rung_verdict k h found =
+      let counts = and_parts (c.segments == segments_of g.film) (c.rungs == rungs_of g.film) h in
+      ap (λ o. of_place BadRung o (of_place BadWindow (bad_window (segments_of g.film) 0 0 0 c.windows) (bound_verdict g c))) (found ∙ ap (λ n. bad_rung n 0 c.plan) (eqb-true _ _ counts.1))
+      ∙ film_passed h
+
+  -- or a window is out of range or order
+  pub window_verdict : (k : ℕ) → is_of_film g c ≡ true → None ≡ bad_rung c.rungs 0 c.plan → Some k ≡ bad_window c.segments 0 0 0 c.windows → BadWindow k ≡ verdict_of g c
+  window_verdict k h none found =
+      let counts = and_parts (c.segments == segments_of g.film) (c.rungs == rungs_of g.film) h in
+      ap (λ o. of_place BadWindow o (bound_verdict g c)) (found ∙ ap (λ n. bad_window n 0 0 0 c.windows) (eqb-true _ _ counts.0))
+      ∙ ap (λ o. of_place BadRung o (of_place BadWindow (bad_window (segments_of g.film) 0 0 0 c.windows) (bound_verdict g c))) (none ∙ ap (λ n. bad_rung n 0 c.plan) (eqb-true _ _ counts.1))
+      ∙ film_passed h
+
+  -- behind P2 the verdict is that of bound and score
+  pub range_passed : (rest : PriceVerdict) → is_of_film g c ≡ true → None ≡ bad_rung c.rungs 0 c.plan → None ≡ bad_window c.segments 0 0 0 c.windows → rest ≡ bound_verdict g c → rest ≡ verdict_of g c
+  range_passed rest h none all e =
+      let counts = and_parts (c.segments == segments_of g.film) (c.rungs == rungs_of g.film) h in
+      e ∙ ap (λ o. of_place BadWindow o (bound_verdict g c)) (all ∙ ap (λ n. bad_window n 0 0 0 c.windows) (eqb-true _ _ counts.0))
+      ∙ ap (λ o. of_place BadRung o (of_place BadWindow (bad_window (segments_of g.film) 0 0 0 c.windows) (bound_verdict g c))) (none ∙ ap (λ n. bad_rung n 0 c.plan) (eqb-true _ _ counts.1))
+      ∙ film_passed h
+
+  -- the list is then a rung list
+  pub rungs_passed : is_of_film g c ≡ true → length c.plan ≡ c.segments → None ≡ bad_rung c.rungs 0 c.plan → AreRungs g (segments_of g.film) c.plan
+  rungs_passed h long none =
+      let counts = and_parts (c.segments == segments_of g.film) (c.rungs == rungs_of g.film) h in
+      (long ∙ eqb-true _ _ counts.0, subst (λ n. All (λ q. q < n) c.plan) (eqb-true _ _ counts.1) (rungs_fit c.rungs 0 c.plan (sym none)))
+
+  -- and the windows are in range
+  pub windows_passed : is_of_film g c ≡ true → length c.windows ≤ most_windows → None ≡ bad_window c.segments 0 0 0 c.windows → CanBound (segments_of g.film) c.windows
+  windows_passed h few all =
+      let counts = and_parts (c.segments == segments_of g.film) (c.rungs == rungs_of g.film) h in
+      record { windows = subst (λ n. AreWindows n c.windows) (eqb-true _ _ counts.0) (windows_fit c.segments 0 0 0 c.windows (sym all)); few = few }
+
   score_yes : score_verdict g c ≡ Yes → task_value g c.plan ≡ c.score
   score_yes =
       let value = task_value g c.plan in
@@ -128,7 +218,7 @@ module _ (g : Task) (c : PriceParts) where
   pub yes_settles : IsTask g → length c.plan ≡ c.segments → verdict_of g c ≡ Yes → Settles g c.plan c.score c.bound
   unfolding verdict_of
   yes_settles is long =
-      cond_both ((c.segments == segments_of g.film) && (c.rungs == rungs_of g.film)) (range_verdict g c) OtherFilm (λ v. v ≡ Yes → Settles g c.plan c.score c.bound)
+      cond_both (is_of_film g c) (range_verdict g c) OtherFilm (λ v. v ≡ Yes → Settles g c.plan c.score c.bound)
       (λ same h.
       let counts = and_parts (c.segments == segments_of g.film) (c.rungs == rungs_of g.film) same in
       let rungs = of_rest BadRung (bad_rung (rungs_of g.film) 0 c.plan) (of_place BadWindow (bad_window (segments_of g.film) 0 0 0 c.windows) (bound_verdict g c)) (λ k e. cc e) h in

@@ -63,6 +63,10 @@ range_verdict g c =
     of_place BadRung (bad_rung (rungs_of g.film) 0 c.plan)
     (of_place BadWindow (bad_window (segments_of g.film) 0 0 0 c.windows) (bound_verdict g c))
 
+-- the certificate's counts are the film's
+abbrev pub is_of_film : Task → PriceParts → Bool
+is_of_film g c = (c.segments == segments_of g.film) && (c.rungs == rungs_of g.film)
+
 -- P1: the counts are the film's
 unfoldable pub verdict_of : Task → PriceParts → PriceVerdict
-verdict_of g c = if (c.segments == segments_of g.film) && (c.rungs == rungs_of g.film) then range_verdict g c else OtherFilm
+verdict_of g c = if is_of_film g c then range_verdict g c else OtherFilm

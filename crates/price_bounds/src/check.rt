@@ -4,8 +4,9 @@ ghost use Rattle.std.specs.Prelude.{◌≡◌, ◌≤◌, ◌&&◌, IfOk, length
 ghost use Rattle.lab_model.specs.Film.{segments_of};
 ghost use Rattle.labels.specs.Best.{Settles, task_value};
 ghost use Rattle.labels.specs.Labels.{AreRungs};
-ghost use Rattle.price_bounds.specs.Verdict.{bad_rung, bad_window, comes_after, is_window, price_parts, verdict_of};
-ghost use Rattle.price_bounds.specs.Windows.{most_windows};
+ghost use Rattle.player_core.specs.Scene.{IsTask};
+ghost use Rattle.price_bounds.specs.Verdict.{bad_rung, bad_window, bound_verdict, comes_after, is_of_film, is_window, price_parts, score_verdict, verdict_of};
+ghost use Rattle.price_bounds.specs.Windows.{CanBound, most_windows};
 ghost use Rattle.price_bounds.specs.declared.verdict.PriceVerdict.TheVariants.{Yes};
 
 use crate::bound::bound_of_windows;
@@ -83,6 +84,43 @@ fn bad_window(windows: &[Window], segments: u16) -> Option<u16>
     None
 }
 
+/// P1: whether a certificate's counts are the film's.
+fn is_of_film(scene: &Scene<'_>, certificate: &PriceCertificate) -> bool
+    ensures value { result ≡ is_of_film scene.now (price_parts certificate.now) }
+    ensures task { IsTask scene.now }
+{
+    certificate.segments == segments(scene) && certificate.rungs == rungs(scene)
+}
+
+/// P4, where the list is a rung list.
+fn score_verdict(scene: &Scene<'_>, certificate: &PriceCertificate) -> PriceVerdict
+    requires { AreRungs scene.now (segments_of scene.now.film) certificate.now.plan.items }
+    ensures { result ≡ score_verdict scene.now (price_parts certificate.now) }
+{
+    let score = value_of_list(scene, &certificate.plan);
+    if score != certificate.score {
+        return PriceVerdict::OtherScore { score };
+    }
+    PriceVerdict::Yes
+}
+
+/// P3 and P4, where the list is a rung list and the windows are in range.
+fn bound_verdict(
+    alloc: Global,
+    scene: &Scene<'_>,
+    certificate: &PriceCertificate,
+) -> Result<PriceVerdict, NoMemory>
+    requires rungs { AreRungs scene.now (segments_of scene.now.film) certificate.now.plan.items }
+    requires windows { CanBound (segments_of scene.now.film) certificate.now.windows.items }
+    ensures { IfOk result (λ v. v ≡ bound_verdict scene.now (price_parts certificate.now)) }
+{
+    let bound = bound_of_windows(alloc, scene, &certificate.windows)?;
+    if bound > certificate.bound {
+        return Ok(PriceVerdict::BoundAbove { bound });
+    }
+    Ok(score_verdict(scene, certificate))
+}
+
 /// The verdict on a certificate whose list has a rung for each of its segments, and which has at most 4000 windows.
 pub fn check_prices(
     alloc: Global,
@@ -96,7 +134,7 @@ pub fn check_prices(
     ensures sound { IfOk result (λ v. v ≡ Yes →
         Settles scene.now certificate.now.plan.items certificate.now.score certificate.now.bound) }
 {
-    if certificate.segments != segments(scene) || certificate.rungs != rungs(scene) {
+    if !is_of_film(scene, certificate) {
         return Ok(PriceVerdict::OtherFilm);
     }
     if let Some(segment) = bad_rung(&certificate.plan, certificate.rungs) {
@@ -105,13 +143,5 @@ pub fn check_prices(
     if let Some(window) = bad_window(&certificate.windows, certificate.segments) {
         return Ok(PriceVerdict::BadWindow { window });
     }
-    let bound = bound_of_windows(alloc, scene, &certificate.windows)?;
-    if bound > certificate.bound {
-        return Ok(PriceVerdict::BoundAbove { bound });
-    }
-    let score = value_of_list(scene, &certificate.plan);
-    if score != certificate.score {
-        return Ok(PriceVerdict::OtherScore { score });
-    }
-    Ok(PriceVerdict::Yes)
+    bound_verdict(alloc, scene, certificate)
 }

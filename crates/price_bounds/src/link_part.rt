@@ -7,7 +7,7 @@ ghost use Rattle.price_bounds.specs.Cells.{cells_of, farthest_delay};
 ghost use Rattle.price_bounds.specs.LinkPart.{begin_at, carried_to, end_at, link_part};
 ghost use Rattle.price_bounds.specs.Steps.{IsTable};
 ghost use Rattle.price_bounds.specs.Tables.{AreEdges, cell_gains, cell_moves, most_link_worth, most_worth, stall_cost};
-ghost use Rattle.price_bounds.specs.Windows.{CanBound};
+ghost use Rattle.price_bounds.specs.Windows.{CanBound, price_unit};
 
 use crate::bound::PRICE_UNIT;
 use crate::cells::least_delays;
@@ -81,6 +81,17 @@ fn worth_to_begin(scene: &Scene<'_>, price: u64, first: u64, segment: u16, edge:
     worth(scene, price, begin_of(scene, first, segment, edge))
 }
 
+/// What the stalls up to a delay cost.
+#[tactic(auto, using(crate::proofs::CellCode::cost_low))]
+fn cost_of_stalls(scene: &Scene<'_>, first: u64, delay: u64) -> u128
+    requires first { first ≤ delay }
+    requires delay { delay ≤ farthest_delay }
+    ensures value { result ≡ price_unit * (scene.now.setup.weights.stall * (delay - first)) }
+    ensures limit { result ≤ 1000000000000000000000000000 }
+{
+    PRICE_UNIT * (scene.setup().weights.stall() as u128 * (delay - first) as u128)
+}
+
 /// What stalls cost up to each cell, as a loss.
 fn stall_losses(
     alloc: Global,
@@ -92,10 +103,9 @@ fn stall_losses(
         (length v.items ≡ cells_of first) × ((c : ℕ) → c < cells_of first
         → slice_index_or v.items c (pos 0) ≡ pos 0 -ℤ pos (stall_cost scene.now first c))) }
 {
-    let stall = scene.setup().weights.stall() as u128;
     let mut losses = Vec::new(alloc);
     for cell in 0..edges.len() - 1 {
-        let cost = PRICE_UNIT * (stall * (edges[cell] - edges[0]) as u128);
+        let cost = cost_of_stalls(scene, edges[0], edges[cell]);
         losses.push(difference(0, cost))?;
     }
     Ok(losses)

@@ -1,11 +1,13 @@
-use Rattle.std.proofs.Common.{◌≡◌, ◌∙◌, ◌+◌, ◌-◌, ◌/◌, ◌≤◌, ◌<◌, refl, length, arith}
+use Rattle.std.proofs.Common.{◌≡◌, ◌∙◌, ℕ, ◌+◌, ◌-◌, ◌/◌, ◌≤◌, ◌<◌, List, [], ◌∷◌, ◌++◌, refl, sym, ap, subst, length, arith}
 use Rattle.price_bounds.specs.Tables.{AreEdgesSoFar}
 use Rattle.price_bounds.proofs.CellLaws.{least_from}
 use Rattle.price_bounds.proofs.Edges.{edges_all, edges_first, edges_more}
 use Rattle.price_bounds.proofs.cells.least_delays.Goals as goal
 
 pub loop-edge-init : goal.loop-edge-init
-loop-edge-init c = rw c.in_ok-push.ensures.items (edges_first c.args.first)
+loop-edge-init c =
+    let first = c.args.first in
+    subst (AreEdgesSoFar first first) (sym (c.in_ok-push.ensures.items ∙ ap (λ (xs : List ℕ). xs ++ first ∷ []) c.new-edges.ensures.items)) (edges_first first)
 
 pub overflow_sub-edge : goal.overflow_sub-edge
 overflow_sub-edge c =

@@ -1,6 +1,8 @@
-use Rattle.std.proofs.Common.{◌≡◌, ◌<◌, sym, subst, arith}
+use mir.Val.{SFits, of_z, to_z}
+use Rattle.std.proofs.Common.{◌≡◌, ◌∙◌, ◌<◌, ap, sym, subst, arith, rules}
+use Rattle.std.specs.Int.{int_max, w128}
 use Rattle.std.specs.Prelude.{pos, ◌+ℤ◌, slice_index_or}
-use Rattle.std.proofs.lemmas.Int.{clamps, ints}
+use Rattle.std.proofs.lemmas.Int.{ints}
 use Rattle.std.proofs.lemmas.List.Elements.{All-get_or}
 use Rattle.lab_model.specs.Film.{rungs_of}
 use Rattle.lab_model.specs.Number.{IsNear}
@@ -21,7 +23,15 @@ overflow_add-best c =
     omega (arith, ints, low, high, below, above)
 
 pub loop-rung-init : goal.loop-rung-init
-loop-rung-init c = below_first _ _ (omega (arith, ints, c.rung_gain.ensures))
+loop-rung-init c =
+    let g = c.args.scene.now in
+    let is = c.rungs-count.ensures.task in
+    let some : 0 < rungs_of g.film = omega (arith, is.film.rungs.0) in
+    let count = c.requires.count in
+    let near = gain_near g is c.args.price c.args.segment c.args.before 0 c.requires.segment c.requires.before some c.requires.price in
+    let behind = All-get_or (IsNear most_list_worth) c.args.behind.now 0 (pos 0) (omega (arith, count, some)) c.requires.near in
+    let low = near.low in let high = near.high in let below = behind.low in let above = behind.high in
+    below_first (λ r. rung_gain g c.args.price c.args.segment c.args.before r +ℤ slice_index_or c.args.behind.now r (pos 0)) _ (omega (arith, ints, low, high, below, above))
 
 pub overflow_add-gain : goal.overflow_add-gain
 overflow_add-gain c =
@@ -37,7 +47,23 @@ overflow_add-gain c =
     omega (arith, ints, low, high, below, above)
 
 pub loop-rung-preserved : goal.loop-rung-preserved
-loop-rung-preserved c = below_more _ c.loop-rung.rung c.loop-rung.best _ (omega (arith, ints, clamps)) c.loop-rung.invariant
+loop-rung-preserved c =
+    let g = c.args.scene.now in
+    let is = c.rungs-count.ensures.task in
+    let r = c.loop-rung.rung in
+    let old = slice_index_or c.args.behind.now r (pos 0) in
+    let own = c.rung_gain-in-loop-rung.result in
+    let value = c.rungs-count.ensures.value in
+    let inside : r < rungs_of g.film = omega (arith, value) in
+    let count = c.requires.count in
+    let near = gain_near g is c.args.price c.args.segment c.args.before r c.requires.segment c.requires.before inside c.requires.price in
+    let behind = All-get_or (IsNear most_list_worth) c.args.behind.now r (pos 0) (omega (arith, count, inside)) c.requires.near in
+    let low = near.low in let high = near.high in let below = behind.low in let above = behind.high in
+    let fits : SFits w128 c.max-best.result = search rules in
+    let top : to_z w128 (of_z w128 c.max-best.result) ≡ int_max (to_z w128 c.loop-rung.best-bits) (to_z w128 (of_z w128 (to_z w128 (of_z w128 own) +ℤ to_z w128 (of_z w128 old)))) = omega (arith, ints, fits) in
+    let gain : to_z w128 (of_z w128 (to_z w128 (of_z w128 own) +ℤ to_z w128 (of_z w128 old))) ≡ rung_gain g c.args.price c.args.segment c.args.before r +ℤ old = omega (arith, ints, low, high, below, above) in
+    below_more (λ q. rung_gain g c.args.price c.args.segment c.args.before q +ℤ slice_index_or c.args.behind.now q (pos 0)) r (to_z w128 c.loop-rung.best-bits) _
+    (top ∙ ap (int_max (to_z w128 c.loop-rung.best-bits)) gain) c.loop-rung.invariant
 
 pub returns : goal.returns
 returns c =
@@ -45,4 +71,6 @@ returns c =
     let value = c.rungs-count.ensures.value in
     let some = c.rungs-count.ensures.task.film.rungs.0 in
     let all : c.loop-rung.rung ≡ rungs_of g.film = omega (arith, value, some) in
-    below_top _ g c.args.before c.loop-rung.best (subst (λ n. IsBestBelow n (λ r. rung_gain g c.args.price c.args.segment c.args.before r +ℤ slice_index_or c.args.behind.now r (pos 0)) c.loop-rung.best) all c.loop-rung.invariant)
+    let last = subst (λ n. IsBestBelow n (λ r. rung_gain g c.args.price c.args.segment c.args.before r +ℤ slice_index_or c.args.behind.now r (pos 0)) (to_z w128 c.loop-rung.best-bits)) all c.loop-rung.invariant in
+    below_top (λ r. rung_gain g c.args.price c.args.segment c.args.before r +ℤ slice_index_or c.args.behind.now r (pos 0)) g c.args.before c.loop-rung.best
+    (subst (IsBestBelow (rungs_of g.film) (λ r. rung_gain g c.args.price c.args.segment c.args.before r +ℤ slice_index_or c.args.behind.now r (pos 0))) c.loop-rung.best-is last)
