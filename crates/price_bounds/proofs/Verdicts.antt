@@ -75,10 +75,10 @@ module _ (rungs k : ℕ) (plan : List ℕ) where
 -- where none is found, all are the film's
 pub rungs_fit : (rungs segment : ℕ) (qs : List ℕ) → bad_rung rungs segment qs ≡ None → All (λ q. q < rungs) qs
 rungs_fit rungs segment [] h = All-nil (λ q. q < rungs)
-rungs_fit rungs segment (q ∷ qs) =
+rungs_fit rungs segment (q ∷ qs) found =
     cond_both (nat_lt q rungs) (bad_rung rungs (segment + 1) qs) (Some segment) (λ o. o ≡ None → All (λ r. r < rungs) (q ∷ qs))
     (λ passes h. All-cons (λ r. r < rungs) q qs (ltb-true q rungs passes) (rungs_fit rungs (segment + 1) qs h))
-    (λ fails h. absurd (cc h))
+    (λ fails h. absurd (cc h)) found
 
 -- ---- windows
 
@@ -119,10 +119,10 @@ window_end segments first last k ws past = ap (bad_window segments first last k)
 -- where none is found, all are in range
 pub windows_fit : (segments first last number : ℕ) (ws : List Window) → bad_window segments first last number ws ≡ None → AreWindows segments ws
 windows_fit segments first last number [] h = All-nil (IsWindow segments)
-windows_fit segments first last number (w ∷ ws) =
+windows_fit segments first last number (w ∷ ws) found =
     cond_both (is_window segments w && comes_after first last w) (bad_window segments w.first w.last (number + 1) ws) (Some number) (λ o. o ≡ None → AreWindows segments (w ∷ ws))
     (λ passes h. All-cons (IsWindow segments) w ws (window_fits segments w (and_parts (is_window segments w) (comes_after first last w) passes).0) (windows_fit segments w.first w.last (number + 1) ws h))
-    (λ fails h. absurd (cc h))
+    (λ fails h. absurd (cc h)) found
 
 -- ---- the verdict
 

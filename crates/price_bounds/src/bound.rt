@@ -74,8 +74,8 @@ pub fn bound_of_windows(
         → task_value scene.now rungs ≤ℤ b) }
     ensures task { IsTask scene.now }
 {
-    let parts = list_parts(alloc, scene, windows)?;
     let count = rungs(scene);
+    let parts = list_parts(alloc, scene, windows)?;
     let mut best = bound_on(alloc, scene, windows, 0, parts[0])?;
     for rung in 1..count {
         let next = bound_on(alloc, scene, windows, rung, parts[rung as usize])?;

@@ -1,4 +1,7 @@
-use Rattle.std.proofs.Common.{◌≡◌, ◌∙◌, ℕ, ◌+◌, ◌-◌, ◌*◌, ◌<◌, [], ◌∷◌, ◌++◌, length, ap, sym, subst, arith, length-append}
+use mir.Val.{SFits, of_z, to_z}
+use Rattle.std.proofs.Common.{◌≡◌, ◌∙◌, ℕ, ◌+◌, ◌-◌, ◌*◌, ◌<◌, [], ◌∷◌, ◌++◌, length, ap, sym, subst, arith, length-append, rules}
+use Rattle.std.specs.Int.{w128}
+use Rattle.std.proofs.lemmas.Int.{to_z-of_z}
 use Rattle.std.specs.Prelude.{pos, ◌-ℤ◌, slice_index, slice_index_or}
 use Rattle.price_bounds.specs.Cells.{cells_of}
 use Rattle.price_bounds.specs.Tables.{stall_cost}
@@ -25,14 +28,15 @@ loop-cell-preserved c =
     let first = slice_index edges 0 in
     let cell = c.loop-cell.cell in
     let losses = c.loop-cell.losses.items in
-    let loss = c.difference.result in
+    let fits : SFits w128 c.difference.result = search rules in
+    let loss = to_z w128 (of_z w128 c.difference.result) in
     let edge_count = c.requires.edges.count in
     let low : cell < cells_of first = omega (arith, edge_count) in
     let count = c.loop-cell.invariant.count in
     let long = length-append losses (loss ∷ []) in
     let items = c.in_ok-push.ensures.items in
     let cost = c.cost_of_stalls-cost.ensures.value ∙ ap (λ d. price_unit * (g.setup.weights.stall * (d - first))) (edge_is first edges c.requires.edges cell low) in
-    let own = c.difference.ensures ∙ ap (λ n. pos 0 -ℤ pos n) cost in
+    let own = to_z-of_z w128 c.difference.result fits ∙ c.difference.ensures ∙ ap (λ n. pos 0 -ℤ pos n) cost in
     let each = pushed (λ k. pos 0 -ℤ pos (stall_cost g first k)) cell losses loss count c.loop-cell.invariant.each own in
     record {
       count = ap length items ∙ omega (arith, count, long);

@@ -1,5 +1,8 @@
-use Rattle.std.proofs.Common.{◌≡◌, ◌∙◌, suc, ◌+◌, ◌-◌, ◌<◌, sym, subst, arith}
-use Rattle.std.specs.Prelude.{pos, ◌+ℤ◌, slice_index_or}
+use mir.Val.{SFits}
+use Rattle.std.proofs.Common.{◌≡◌, ◌∙◌, suc, ◌+◌, ◌-◌, ◌<◌, [], ◌∷◌, ◌++◌, sym, subst, arith, rules}
+use Rattle.std.specs.Int.{w128}
+use Rattle.std.specs.Prelude.{ℤ, pos, ◌+ℤ◌, slice_index_or}
+use Rattle.std.proofs.lemmas.Int.{to_z-of_z}
 use Rattle.lab_model.specs.Film.{rungs_of, segments_of}
 use Rattle.price_bounds.specs.Steps.{IsMost, IsTop}
 use Rattle.price_bounds.specs.Tables.{IsTableTo, rung_gain, rung_gains, rung_moves}
@@ -13,7 +16,11 @@ pub price_of-price-requires : goal.price_of-price-requires
 price_of-price-requires c = are_cheap (segments_of c.args.scene.now.film) c.args.windows.now c.requires.windows
 
 pub loop-before-init : goal.loop-before-init
-loop-before-init c = table_first (rung_moves c.args.scene.now) (rung_gains c.args.scene.now c.args.windows.now) (segments_of c.args.scene.now.film - c.args.segment) c.args.segment
+loop-before-init c =
+    let g = c.args.scene.now in
+    let ws = c.args.windows.now in
+    let n = segments_of g.film - c.args.segment in
+    subst (IsTableTo (rung_moves g) (rung_gains g ws) n c.args.segment 0) (sym c.new-gains.ensures.items) (table_first (rung_moves g) (rung_gains g ws) n c.args.segment)
 
 pub best_gain-requires-clause-count : goal.best_gain-requires-clause-count
 best_gain-requires-clause-count c = c.requires.behind.count
@@ -38,8 +45,10 @@ loop-before-preserved c =
     let top = subst (λ p. IsTop (rung_moves g) before (λ r. rung_gain g p i before r +ℤ slice_index_or c.args.behind.now r (pos 0)) value) c.price_of-price.ensures.value c.best_gain.ensures in
     let most = subst (λ k. IsMost (rung_moves g) (rung_gains g ws) k i before value) steps
         (most_next (rung_moves g) (rung_gains g ws) (n - (i + 1)) i before (λ r. slice_index_or c.args.behind.now r (pos 0)) value c.requires.behind.each top) in
+    let fits : SFits w128 value = search rules in
     subst (IsTableTo (rung_moves g) (rung_gains g ws) (n - i) i (before + 1)) (sym c.in_ok-push.ensures.items)
-    (table_more (rung_moves g) (rung_gains g ws) (n - i) i before c.loop-before.gains.items value c.loop-before.invariant most)
+    (subst (λ (v : ℤ). IsTableTo (rung_moves g) (rung_gains g ws) (n - i) i (before + 1) (c.loop-before.gains.items ++ v ∷ [])) (sym (to_z-of_z w128 value fits))
+    (table_more (rung_moves g) (rung_gains g ws) (n - i) i before c.loop-before.gains.items value c.loop-before.invariant most))
 
 pub returns : goal.returns
 returns c =
