@@ -75,17 +75,19 @@ module _ (g : Task) (is : IsTask g) (rungs : List ℕ) (fits : AreRungs g (segme
   -- the downloads follow one another, and the network carries the bits of each
   pub chained : AreChained (segments_of g.film) (λ j. carried_to g (asked_along g rungs j)) (λ j. carried_to g (label_at g rungs j).t) (bits_along g rungs)
   chained = record { carries = carries; follows = follows }
-    where carries : (j : ℕ) → 1 ≤ j → j < segments_of g.film → carried_to g (asked_along g rungs j) + 1000 * bits_along g rungs j ≤ carried_to g (label_at g rungs j).t
-          carries zero some low = absurd (omega (arith, some))
-          carries (suc i) some low =
-              let size = size_within g.film (suc i) (slice_index rungs (suc i)) is.film low (rung_at g (segments_of g.film) rungs fits (suc i) low) in
-              let over = carried_over g.periods is.trace (request_at g (suc i) (label_at g rungs i)) (bits_along g rungs (suc i)) size.0 size.1 in
-              let asked = ap (carried_to g) (asked_next g rungs i) in
-              let came = ap (carried_to g) (came_next g rungs i) in
-              omega (arith, over, asked, came)
-          follows : (j : ℕ) → 1 ≤ j → j + 1 < segments_of g.film → carried_to g (label_at g rungs j).t ≤ carried_to g (asked_along g rungs (j + 1))
-          follows j some low =
-              let same : suc j ≡ j + 1 = omega arith in
-              let asked = ap (asked_along g rungs) same in
-              let next = asked_next g rungs j in
-              carried_rises g.periods (label_at g rungs j).t (asked_along g rungs (j + 1)) (omega (arith, asked, next))
+    where
+      carries : (j : ℕ) → 1 ≤ j → j < segments_of g.film → carried_to g (asked_along g rungs j) + 1000 * bits_along g rungs j ≤ carried_to g (label_at g rungs j).t
+      carries zero some low = absurd (omega (arith, some))
+      carries (suc i) some low =
+          let size = size_within g.film (suc i) (slice_index rungs (suc i)) is.film low (rung_at g (segments_of g.film) rungs fits (suc i) low) in
+          let over = carried_over g.periods is.trace (request_at g (suc i) (label_at g rungs i)) (bits_along g rungs (suc i)) size.0 size.1 in
+          let asked = ap (carried_to g) (asked_next g rungs i) in
+          let came = ap (carried_to g) (came_next g rungs i) in
+          omega (arith, over, asked, came)
+
+      follows : (j : ℕ) → 1 ≤ j → j + 1 < segments_of g.film → carried_to g (label_at g rungs j).t ≤ carried_to g (asked_along g rungs (j + 1))
+      follows j some low =
+          let same : suc j ≡ j + 1 = omega arith in
+          let asked = ap (asked_along g rungs) same in
+          let next = asked_next g rungs j in
+          carried_rises g.periods (label_at g rungs j).t (asked_along g rungs (j + 1)) (omega (arith, asked, next))

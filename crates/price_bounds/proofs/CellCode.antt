@@ -50,8 +50,9 @@ module _ (first : ℕ) (edges : List ℕ) (h : AreEdges first edges) where
       let near = cell_near first c low in
       let some = some_next c in
       (omega (arith, e, some), omega (arith, e, near))
-    where some_next : (c : ℕ) → 1 ≤ least_delay first (suc c)
-          some_next c = let e = least_next first c in omega (arith, e)
+    where
+      some_next : (c : ℕ) → 1 ≤ least_delay first (suc c)
+      some_next c = let e = least_next first c in omega (arith, e)
 
   module _ (g : Task) (ws : List Window) (segment c price worth : ℕ) (low : c < cells_of first) where
     -- the worth up to the latest end

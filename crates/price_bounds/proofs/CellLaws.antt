@@ -31,10 +31,12 @@ module _ (first : ℕ) where
       let here = ap (least_delay first) (suc_out n c) ∙ least_next first (n + c) in
       let further : least_delay first c ≤ least_delay first (n + c) = omega (arith, before, few n ((least_delay first c - first) / 64)) in
       omega (arith, before, here, further, low)
-    where suc_out : (n c : ℕ) → suc n + c ≡ suc (n + c)
-          suc_out n c = omega arith
-          few : (n k : ℕ) → 0 ≤ n * (1 + k)
-          few n k = omega arith
+    where
+      suc_out : (n c : ℕ) → suc n + c ≡ suc (n + c)
+      suc_out n c = omega arith
+
+      few : (n k : ℕ) → 0 ≤ n * (1 + k)
+      few n k = omega arith
 
   -- later cells begin no earlier
   pub least_rises : (c d : ℕ) → c ≤ d → least_delay first c ≤ least_delay first d

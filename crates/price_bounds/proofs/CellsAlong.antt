@@ -71,8 +71,9 @@ module _ (g : Task) (is : IsTask g) (rungs : List ℕ) (fits : AreRungs g (segme
       (in_lists (cells_of first) few (cells_along g rungs) (length-map-range_with_len (cell_along g rungs) 1 few)
       (below_range (cell_along g rungs) (cells_of first) 1 few (λ i late early. (inside i (omega (arith, late, early))).0)))
       (rising_range (cell_along g rungs) 0 1 few (λ i late early. rise i (omega (arith, late, early))) (λ some. omega arith))
-    where next_cell : (i : ℕ) → i + 1 < segments_of g.film → cell_along g rungs i ≤ cell_along g rungs (i + 1)
-          next_cell i low =
-              let same : suc i ≡ i + 1 = omega arith in
-              let rises = subst (λ k. (label_at g rungs i).p ≤ (label_at g rungs k).p) same (delay_rises g rungs i) in
-              cells_rise (label_at g rungs 0).p (label_at g rungs i).p (label_at g rungs (i + 1)).p (cell_along g rungs i) (cell_along g rungs (i + 1)) rises (inside i (omega (arith, low))).1 (inside (i + 1) low).1
+    where
+      next_cell : (i : ℕ) → i + 1 < segments_of g.film → cell_along g rungs i ≤ cell_along g rungs (i + 1)
+      next_cell i low =
+          let same : suc i ≡ i + 1 = omega arith in
+          let rises = subst (λ k. (label_at g rungs i).p ≤ (label_at g rungs k).p) same (delay_rises g rungs i) in
+          cells_rise (label_at g rungs 0).p (label_at g rungs i).p (label_at g rungs (i + 1)).p (cell_along g rungs i) (cell_along g rungs (i + 1)) rises (inside i (omega (arith, low))).1 (inside (i + 1) low).1

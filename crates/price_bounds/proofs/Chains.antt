@@ -17,8 +17,9 @@ module _ (segments first last : ℕ) (asked came bits rest : ℕ → ℕ) (begin
     (chain : AreChained segments asked came bits) (sums : AreWindowBits segments first last bits rest) where
   past : (n j : ℕ) → j + n ≡ segments → last < j → rest j ≡ 0
   past zero j e far = ap rest (zero_more j e) ∙ sums.none
-    where zero_more : (j : ℕ) → j + 0 ≡ segments → j ≡ segments
-          zero_more j e = omega (arith, e)
+    where
+      zero_more : (j : ℕ) → j + 0 ≡ segments → j ≡ segments
+      zero_more j e = omega (arith, e)
   past (suc n) j e far = sums.behind j (omega (arith, e)) far ∙ past n (j + 1) (omega (arith, e)) (omega (arith, far))
 
   within : (n j : ℕ) → j + n ≡ last → first ≤ j → asked j + 1000 * rest j ≤ came last
@@ -28,8 +29,9 @@ module _ (segments first last : ℕ) (asked came bits rest : ℕ → ℕ) (begin
       let own = sums.inside last low order (omega arith) in
       let left : rest (last + 1) ≡ 0 = last_none in
       subst (λ k. asked k + 1000 * rest k ≤ came last) (sym here) (omega (arith, took, own, left))
-    where last_none : rest (last + 1) ≡ 0
-          last_none = past (segments - (last + 1)) (last + 1) (omega (arith, low)) (omega arith)
+    where
+      last_none : rest (last + 1) ≡ 0
+      last_none = past (segments - (last + 1)) (last + 1) (omega (arith, low)) (omega arith)
   within (suc n) j e from =
       let took = chain.carries j (omega (arith, begins, from)) (omega (arith, e, low)) in
       let next = chain.follows j (omega (arith, begins, from)) (omega (arith, e, low)) in

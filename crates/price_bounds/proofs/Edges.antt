@@ -17,9 +17,10 @@ module _ (first : ℕ) where
     each = λ c low. only c low;
     near = λ c low. absurd (omega (arith, low));
   }
-    where only : (c : ℕ) → c < length (first ∷ []) → slice_index (first ∷ []) c ≡ least_delay first c
-          only zero low = sym (least_first first)
-          only (suc c) low = absurd (omega (arith, low))
+    where
+      only : (c : ℕ) → c < length (first ∷ []) → slice_index (first ∷ []) c ≡ least_delay first c
+      only zero low = sym (least_first first)
+      only (suc c) low = absurd (omega (arith, low))
 
   -- and one more
   pub edges_more : (edge next : ℕ) (edges : List ℕ) → AreEdgesSoFar first edge edges → edge ≤ farthest_delay → next ≡ edge + 1 + (edge - first) / 64 → AreEdgesSoFar first next (edges ++ next ∷ [])
@@ -52,8 +53,8 @@ module _ (first : ℕ) where
       let n = length edges - 1 in
       let end = (cells_end first).1 in
       let count : n ≡ cells_of first =
-          ⊎_elim (λ (low : n < cells_of first). let begin = cells_begin first n low in absurd (omega (arith, begin, last, far)))
-          (λ (high : cells_of first ≤ n). ⊎_elim (λ (more : cells_of first < n). let begin = h.near (cells_of first) (omega (arith, more)) in absurd (omega (arith, begin, end))) (λ (not : n ≤ cells_of first). omega (arith, high, not)) (cases_lt (cells_of first) n)) (cases_lt n (cells_of first)) in
+      ⊎_elim (λ (low : n < cells_of first). let begin = cells_begin first n low in absurd (omega (arith, begin, last, far)))
+      (λ (high : cells_of first ≤ n). ⊎_elim (λ (more : cells_of first < n). let begin = h.near (cells_of first) (omega (arith, more)) in absurd (omega (arith, begin, end))) (λ (not : n ≤ cells_of first). omega (arith, high, not)) (cases_lt (cells_of first) n)) (cases_lt n (cells_of first)) in
       record {
         near = near;
         count = omega (arith, count, some);

@@ -120,7 +120,7 @@ module _ (g : Task) (is : IsTask g) (ws : List Window) (windows : AreWindows (se
       let here = (in_cell g is rungs fits n (omega (arith, some))).from in
       let most = λ (p : ℕ). ((pos (price_unit * (1000 * utility_of w 0 q)) -ℤ pos (price_unit * (w.startup * p))) +ℤ list_part g ws q) +ℤ link_part g ws p in
       subst (λ p. (pos (price_unit * (1000 * utility_of w 0 q + 1000 * utilities_of w ps + w.stall * first)) -ℤ pos (price_unit * (w.startup * first + w.switch * changes_of w (Some q) ps + w.stall * at_end)))
-          ≤ℤ (((pos (price_unit * (1000 * utility_of w 0 q)) -ℤ pos (price_unit * (w.startup * p))) +ℤ list_part g ws q) +ℤ link_part g ws p)) start
+      ≤ℤ (((pos (price_unit * (1000 * utility_of w 0 q)) -ℤ pos (price_unit * (w.startup * p))) +ℤ list_part g ws q) +ℤ link_part g ws p)) start
       (together (1000 * utilities_of w ps) (1000 * utility_of w 0 q) (w.startup * first) (w.switch * changes_of w (Some q) ps) (w.stall * at_end) (w.stall * first) (w.stall * (last - first)) (priced_bits g ws ps)
       (sum_by (worth_to_end g first cells) ws) (sum_by (worth_to_begin g first cells) ws) (list_part g ws q) (link_part g ws first) (most first)
       list_above link_above (windows_worth g is rungs fits ws windows) (stall_more w.stall first (last - first) at_end (omega (arith, low, here))) (le_itself (most first)))

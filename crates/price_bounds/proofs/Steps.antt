@@ -20,9 +20,10 @@ module _ (m : Moves) (f : Gains) where
     reached = refl;
     bounds = λ l h. none l h;
   }
-    where none : (l : List ℕ) → AreSteps m 0 before l → gain_along f i before l ≤ℤ f.end before
-          none [] h = le_itself (f.end before)
-          none (c ∷ cs) h = let long = h.0 in absurd (omega (arith, long))
+    where
+      none : (l : List ℕ) → AreSteps m 0 before l → gain_along f i before l ≤ℤ f.end before
+      none [] h = le_itself (f.end before)
+      none (c ∷ cs) h = let long = h.0 in absurd (omega (arith, long))
 
   -- and one step more comes to the most of a step with what the table says of those behind it
   pub most_next : (n i before : ℕ) (table : ℕ → ℤ) (top : ℤ) → ((c : ℕ) → c < m.count → IsMost m f n (i + 1) c (table c)) → IsTop m before (λ c. f.step i before c +ℤ table c) top
@@ -34,9 +35,10 @@ module _ (m : Moves) (f : Gains) where
         reached = ap (λ v. f.step i before h.next +ℤ v) one.reached ∙ sym h.reached;
         bounds = λ l k. all l k;
       }
-    where all : (l : List ℕ) → AreSteps m (suc n) before l → gain_along f i before l ≤ℤ top
-          all [] k = let long = k.0 in absurd (omega (arith, long))
-          all (c ∷ cs) k =
-              let long = k.0 in
-              let follows = k.1.0 in
-              above (f.step i before c) (gain_along f (i + 1) c cs) (table c) top ((rest c follows.below).bounds cs (omega (arith, long), k.1.1)) (h.bounds c follows)
+    where
+      all : (l : List ℕ) → AreSteps m (suc n) before l → gain_along f i before l ≤ℤ top
+      all [] k = let long = k.0 in absurd (omega (arith, long))
+      all (c ∷ cs) k =
+          let long = k.0 in
+          let follows = k.1.0 in
+          above (f.step i before c) (gain_along f (i + 1) c cs) (table c) top ((rest c follows.below).bounds cs (omega (arith, long), k.1.1)) (h.bounds c follows)

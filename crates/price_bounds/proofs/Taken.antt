@@ -59,13 +59,15 @@ module _ (worth : ℕ → ℕ → ℕ → ℕ) where
         let here : k ≡ i = omega (arith, e) in
         let past = taken_past (i + 1) c cs (omega (arith, e)) in
         ap₂ (λ p t. p * worth i before c + t) (only_here i here) past ∙ zero_more (price * worth i before c) ∙ ap (λ j. price * worth j before c) (sym here)
-      where zero_more : (n : ℕ) → n + 0 ≡ n
-            zero_more n = omega arith
+      where
+        zero_more : (n : ℕ) → n + 0 ≡ n
+        zero_more n = omega arith
     taken_here (suc n) i before (c ∷ cs) e low =
         let rest = taken_here n (i + 1) c cs (omega (arith, e)) (omega (arith, low)) in
         ap₂ (λ p t. p * worth i before c + t) (only_apart i (λ same. absurd (omega (arith, e, same)))) rest ∙ drop_none (worth i before c) (price * worth k (slice_index (c ∷ cs) n) (slice_index cs n))
-      where drop_none : (w n : ℕ) → 0 * w + n ≡ n
-            drop_none w n = omega arith
+      where
+        drop_none : (w n : ℕ) → 0 * w + n ≡ n
+        drop_none w n = omega arith
 
   -- the prices of windows take what each takes
   pub taken_windows : (key : Window → ℕ) (each : Window → ℕ) (P : Window → Type 0) (i before : ℕ) (cs : List ℕ)

@@ -93,11 +93,7 @@ fn cost_of_stalls(scene: &Scene<'_>, first: u64, delay: u64) -> u128
 }
 
 /// What stalls cost up to each cell, as a loss.
-fn stall_losses(
-    alloc: Global,
-    scene: &Scene<'_>,
-    edges: &[u64],
-) -> Result<Vec<i128>, AllocError>
+fn stall_losses(alloc: Global, scene: &Scene<'_>, edges: &[u64]) -> Result<Vec<i128>, AllocError>
     requires edges { AreEdges (slice_index edges.now 0) edges.now }
     ensures { IfOk result (λ v. let first = slice_index edges.now 0 in
         (length v.items ≡ cells_of first) × ((c : ℕ) → c < cells_of first
@@ -112,13 +108,7 @@ fn stall_losses(
 }
 
 /// Puts what the cells from a segment on come to, after each cell, in place of what those behind the segment do.
-fn step_back(
-    scene: &Scene<'_>,
-    windows: &[Window],
-    edges: &[u64],
-    segment: u16,
-    table: &mut [i128],
-)
+fn step_back(scene: &Scene<'_>, windows: &[Window], edges: &[u64], segment: u16, table: &mut [i128])
     requires windows { CanBound (segments_of scene.now.film) windows.now }
     requires segment { (1 ≤ segment) × (segment < segments_of scene.now.film) }
     requires edges { AreEdges (slice_index edges.now 0) edges.now }

@@ -10,7 +10,36 @@ use std::test::Fail;
 
 /// The bounds of the small films, by number.
 const BOUNDS: [i128; 30] = [
-    10000, 49307, 286430406111266, 223898473120242, 10000, 213140871656872, 276054655093630, 508490, 10000, 36564830077893, -8331, 459231649376752, 10000, 204677, 433998694985390, 372393525527907, 10000, 62201, 134163956896808, 646817, 10000, 205340255837829, 329420, 640653079188900, 10000, 51422, 306806551037427, 241937109933126, 10000, 181438180935351,
+    10000,
+    49307,
+    286430406111266,
+    223898473120242,
+    10000,
+    213140871656872,
+    276054655093630,
+    508490,
+    10000,
+    36564830077893,
+    -8331,
+    459231649376752,
+    10000,
+    204677,
+    433998694985390,
+    372393525527907,
+    10000,
+    62201,
+    134163956896808,
+    646817,
+    10000,
+    205340255837829,
+    329420,
+    640653079188900,
+    10000,
+    51422,
+    306806551037427,
+    241937109933126,
+    10000,
+    181438180935351,
 ];
 
 /// The film of a number: 1 to 4 segments, 2 or 3 rungs.
@@ -95,10 +124,17 @@ fn small_films(rt: HostRuntime) -> Result<(), Fail> {
     for k in 0..30u32 {
         let (m, clock, set) = (film(alloc, k)?, clock(alloc, k)?, setup(alloc, k)?);
         assert!(rt; set.fits(&m));
-        let ahead = if k % 4 < 2 { 120_000_000 } else { 300 * (k % 9) };
+        let ahead = if k % 4 < 2 {
+            120_000_000
+        } else {
+            300 * (k % 9)
+        };
         let scene = Scene::new(&m, &clock, &set, ahead);
         let windows = windows(alloc, k)?;
-        assert_eq!(rt; bound_of_windows(alloc, &scene, &windows)?, BOUNDS[k as usize]);
+        assert_eq!(rt;
+            bound_of_windows(alloc, &scene, &windows)?,
+            BOUNDS[k as usize]
+        );
     }
     Ok(())
 }
@@ -113,7 +149,13 @@ const BY_HAND: [(u64, i128); 4] = [
 
 /// One period of a rate, without latency.
 fn steady(alloc: Global, duration_ms: u32, bandwidth: u64) -> Result<Clock, Fail> {
-    let periods = vec![in alloc; Period { duration_ms, bandwidth, latency: 0 }]?;
+    let periods = vec![in alloc;
+        Period {
+            duration_ms,
+            bandwidth,
+            latency: 0
+        },
+    ]?;
     let trace = Trace::from_parts(periods).ok_or("not a trace")?;
     Ok(Clock::new(alloc, &trace)?)
 }
@@ -148,13 +190,20 @@ fn by_hand(rt: HostRuntime) -> Result<(), Fail> {
 #[test]
 fn greatest_prices(rt: HostRuntime) -> Result<(), Fail> {
     let alloc = rt.alloc();
-    let m = Manifest::from_parts(60_000, vec![in alloc; 1]?, vec![in alloc; 200_000_000; 90]?)
-        .ok_or("not a film")?;
+    let m = Manifest::from_parts(
+        60_000,
+        vec![in alloc; 1]?,
+        vec![in alloc; 200_000_000; 90]?,
+    ).ok_or("not a film")?;
     let clock = steady(alloc, 1, 10_000_000_000)?;
     let set = Setup {
         buffer_ms: 10_000_000,
-        weights: Weights::from_parts(vec![in alloc; 1_000_000]?, 1_000_000, 1_000_000, 1_000_000)
-            .ok_or("no weights")?,
+        weights: Weights::from_parts(
+            vec![in alloc; 1_000_000]?,
+            1_000_000,
+            1_000_000,
+            1_000_000,
+        ).ok_or("no weights")?,
         abandon: false,
     };
     assert!(rt; set.fits(&m) && m.segments() == 90);

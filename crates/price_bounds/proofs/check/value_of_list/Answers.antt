@@ -43,6 +43,6 @@ returns c =
     let some = c.segments-count.ensures.task.film.segments.0 in
     let last : c.loop-segment.segment ≡ segments_of g.film = omega (arith, count, some) in
     let e = c.end_value.ensures ∙ ap (λ s. value_at_end s.weights c.loop-segment.label) c.setup.ensures.value
-        ∙ ap (end_value g) (c.loop-segment.invariant ∙ ap (λ n. label_at g c.args.rungs.now (n - 1)) last)
-        ∙ sym (labels_are_values g c.segments-count.ensures.task c.args.rungs.now c.requires) in
+    ∙ ap (end_value g) (c.loop-segment.invariant ∙ ap (λ n. label_at g c.args.rungs.now (n - 1)) last)
+    ∙ sym (labels_are_values g c.segments-count.ensures.task c.args.rungs.now c.requires) in
     omega (arith, ints, e)

@@ -55,7 +55,7 @@ overflow_add-best c =
     let count = c.requires.table.count in
     let inside = c.requires.segment.1 in
     let near = old_near g c.segments.ensures.task c.args.windows.now c.requires.windows first (segments_of g.film - (c.args.segment + 1)) (c.args.segment + 1) old (omega (arith, inside)) c.requires.table
-        (length old - 1) (omega (arith, some, count)) in
+    (length old - 1) (omega (arith, some, count)) in
     let low = near.low in
     let high = near.high in
     let limit = c.worth_to_end-last_end.ensures.limit in

@@ -44,7 +44,7 @@ loop-before-preserved c =
     let steps : suc (n - (i + 1)) ≡ n - i = omega (arith, inside) in
     let top = subst (λ p. IsTop (rung_moves g) before (λ r. rung_gain g p i before r +ℤ slice_index_or c.args.behind.now r (pos 0)) value) c.price_of-price.ensures.value c.best_gain.ensures in
     let most = subst (λ k. IsMost (rung_moves g) (rung_gains g ws) k i before value) steps
-        (most_next (rung_moves g) (rung_gains g ws) (n - (i + 1)) i before (λ r. slice_index_or c.args.behind.now r (pos 0)) value c.requires.behind.each top) in
+    (most_next (rung_moves g) (rung_gains g ws) (n - (i + 1)) i before (λ r. slice_index_or c.args.behind.now r (pos 0)) value c.requires.behind.each top) in
     let fits : SFits w128 value = search rules in
     subst (IsTableTo (rung_moves g) (rung_gains g ws) (n - i) i (before + 1)) (sym c.in_ok-push.ensures.items)
     (subst (λ (v : ℤ). IsTableTo (rung_moves g) (rung_gains g ws) (n - i) i (before + 1) (c.loop-before.gains.items ++ v ∷ [])) (sym (to_z-of_z w128 value fits))
