@@ -72,5 +72,4 @@ returns c =
     let some = c.rungs-count.ensures.task.film.rungs.0 in
     let all : c.loop-rung.rung ≡ rungs_of g.film = omega (arith, value, some) in
     let last = subst (λ n. IsBestBelow n (λ r. rung_gain g c.args.price c.args.segment c.args.before r +ℤ slice_index_or c.args.behind.now r (pos 0)) (to_z w128 c.loop-rung.best-bits)) all c.loop-rung.invariant in
-    below_top (λ r. rung_gain g c.args.price c.args.segment c.args.before r +ℤ slice_index_or c.args.behind.now r (pos 0)) g c.args.before c.loop-rung.best
-    (subst (IsBestBelow (rungs_of g.film) (λ r. rung_gain g c.args.price c.args.segment c.args.before r +ℤ slice_index_or c.args.behind.now r (pos 0))) c.loop-rung.best-is last)
+    below_top (λ r. rung_gain g c.args.price c.args.segment c.args.before r +ℤ slice_index_or c.args.behind.now r (pos 0)) g c.args.before (to_z w128 c.loop-rung.best-bits) last
