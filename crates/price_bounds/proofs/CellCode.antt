@@ -1,4 +1,5 @@
 -- What the code's numbers of a cell are.
+use mir.Val.{SFits, of_z, to_z}
 use Rattle.std.proofs.Common.{◌≡◌, ◌∙◌, ℕ, suc, ◌+◌, ◌-◌, ◌*◌, ◌≤◌, ◌<◌, List, [], ◌∷◌, ◌++◌, ⊎_elim, length, max, refl, sym, ap, ap₂, subst, arith, add-one, mul-le-mul}
 use Rattle.std.specs.Prelude.{ℤ, pos, ◌+ℤ◌, ◌-ℤ◌, slice_index, slice_index_or}
 use Rattle.std.proofs.Math.Seq.{get_or-append_seam}
@@ -11,7 +12,7 @@ use Rattle.player_core.specs.Scene.{IsTask, Task}
 use Rattle.price_bounds.specs.declared.window.Window.{Window}
 use Rattle.price_bounds.specs.Cells.{cells_of, farthest_delay, greatest_delay, least_delay}
 use Rattle.price_bounds.specs.LinkPart.{begin_at, carried_to, end_at}
-use Rattle.std.specs.Int.{int_max}
+use Rattle.std.specs.Int.{int_max, w128}
 use Rattle.std.proofs.Math.ListN.{set}
 use Rattle.price_bounds.specs.Steps.{IsTable}
 use Rattle.price_bounds.specs.Tables.{AreEdges, IsBestOf, IsSteppedTo, beginning_worth, cell_gains, cell_moves, ending_worth, most_link_worth, most_worth}
@@ -134,3 +135,14 @@ pub ending_low : (g : Task) → IsTask g → (ws : List Window) → CanBound (se
     → (c : ℕ) → c < cells_of first → ending_worth g ws first segment c ≤ most_worth
 ending_low g is ws can first segment low c inside =
     priced_most (price_ending ws segment) (carried_to g (end_at g segment (greatest_delay first c))) (ending_price (segments_of g.film) ws can segment) (end_most g is segment (greatest_delay first c) low (cell_near first c inside))
+
+-- ---- in 128 bits
+
+-- the best less what a begin is worth fits
+pub less_fits : (best : ℤ) (begin : ℕ) → IsNear 81300000000000000000000000000000000000 best → begin ≤ most_worth → SFits w128 (to_z w128 (of_z w128 best) -ℤ to_z w128 begin)
+less_fits best begin near few = let low = near.low in let high = near.high in omega (arith, ints, low, high, few)
+
+-- and is what it is
+pub less_is : (best : ℤ) (begin worth : ℕ) → IsNear 81300000000000000000000000000000000000 best → begin ≤ most_worth → begin ≡ worth
+    → to_z w128 (of_z w128 (to_z w128 (of_z w128 best) -ℤ to_z w128 begin)) ≡ best -ℤ pos worth
+less_is best begin worth near few e = let low = near.low in let high = near.high in omega (arith, ints, low, high, few, e)

@@ -9,7 +9,7 @@ use Rattle.price_bounds.specs.Cells.{cells_of}
 use Rattle.price_bounds.specs.Steps.{IsTable}
 use Rattle.price_bounds.specs.Tables.{IsBestOf, beginning_worth, cell_gains, cell_moves, ending_worth, most_link_worth, most_worth}
 use Rattle.price_bounds.proofs.CellLaws.{cells_some}
-use Rattle.price_bounds.proofs.CellCode.{all_done, begin_is, begun, best_begun, best_near, edge_from, edge_low, end_is, ending_low, next_low, old_near, went_on}
+use Rattle.price_bounds.proofs.CellCode.{all_done, begin_is, begun, best_begun, best_near, edge_from, edge_low, end_is, ending_low, less_fits, less_is, next_low, old_near, went_on}
 use Rattle.price_bounds.proofs.CellSteps.{best_more}
 use Rattle.price_bounds.proofs.PriceSums.{are_cheap}
 use Rattle.price_bounds.proofs.link_part.step_back.Goals as goal
@@ -154,10 +154,7 @@ overflow_sub-table c =
     let more = best_more (cells_of first) (λ k. pos (ending_worth g ws first i k) +ℤ slice_index_or old k (pos 0)) done cell (to_z w128 c.loop-done.best-bits) place c.loop-done.invariant.best in
     let best = subst (IsBestOf (cells_of first) (max (done + 1) 1) (λ k. pos (ending_worth g ws first i k) +ℤ slice_index_or old k (pos 0))) (sym up) more in
     let far = best_near g ws first i (max (done + 1) 1) old c.max-best.result (ending_low g is ws c.requires.windows first i inside) nears best in
-    let from = far.low in
-    let to = far.high in
-    let begin = c.worth_to_begin-begin.ensures.limit in
-    omega (arith, ints, from, to, begin)
+    less_fits c.max-best.result c.worth_to_begin-begin.result far c.worth_to_begin-begin.ensures.limit
 
 pub loop-done-preserved : goal.loop-done-preserved
 loop-done-preserved c =
@@ -187,14 +184,12 @@ loop-done-preserved c =
     let more = best_more (cells_of first) (λ k. pos (ending_worth g ws first i k) +ℤ slice_index_or old k (pos 0)) done cell (to_z w128 c.loop-done.best-bits) place c.loop-done.invariant.best in
     let best = subst (IsBestOf (cells_of first) (max (done + 1) 1) (λ k. pos (ending_worth g ws first i k) +ℤ slice_index_or old k (pos 0))) (sym up) more in
     let far = best_near g ws first i (max (done + 1) 1) old c.max-best.result (ending_low g is ws c.requires.windows first i inside) nears best in
-    let from = far.low in
-    let to = far.high in
     let start = c.worth_to_begin-begin.ensures.limit in
     let begin = begin_is first edges c.requires.edges g ws i cell c.price_beginning-beginning.result c.worth_to_begin-begin.result below c.price_beginning-beginning.ensures.value c.worth_to_begin-begin.ensures.value in
     let fits : SFits w128 c.max-best.result = search rules in
     record {
       best = subst (IsBestOf (cells_of first) (max (done + 1) 1) (λ k. pos (ending_worth g ws first i k) +ℤ slice_index_or old k (pos 0))) (sym (to_z-of_z w128 c.max-best.result fits)) best;
-      table = went_on g ws first i n old c.requires.table done cell c.loop-done.table c.max-best.result _ place (omega (arith, ints, from, to, start, begin)) c.loop-done.invariant.table best;
+      table = went_on g ws first i n old c.requires.table done cell c.loop-done.table c.max-best.result _ place (less_is c.max-best.result c.worth_to_begin-begin.result (beginning_worth g ws first i cell) far start begin) c.loop-done.invariant.table best;
     }
 
 pub returns : goal.returns
