@@ -1,0 +1,78 @@
+//! Lists and bounds beside each other, on small films with every list tried, and on a film of ten minutes.
+
+use crate::near_best;
+use lab_model::{Manifest, Period, Setup, Trace, Weights};
+use network_clock::Clock;
+use player_core::Scene;
+use price_bounds::{bound_of_windows, value_of_list};
+use std::alloc::Global;
+use std::test::Fail;
+
+/// The next number of a row of draws, 0 to 32767.
+fn draw(state: &mut u64) -> u32 {
+    *state = (*state * 1_103_515_245 + 12_345) % 2_147_483_648;
+    (*state / 65_536) as u32
+}
+
+const BITRATES: [u32; 10] = [235, 375, 560, 750, 1050, 1750, 2350, 3000, 4300, 5800];
+
+const UTILITIES: [u32; 10] = [0, 467, 868, 1160, 1497, 2008, 2303, 2547, 2907, 3206];
+
+/// A film of so many segments of 3 s on ten rungs.
+fn film(alloc: Global, segments: u32) -> Result<Manifest, Fail> {
+    let mut state = 7;
+    let bitrates = BITRATES.to_vec(alloc)?;
+    let mut sizes = Vec::new(alloc);
+    for _ in 0..segments {
+        let part = 70 + draw(&mut state) % 61;
+        for rate in BITRATES {
+            sizes.push(rate * 30 * part)?;
+        }
+    }
+    Ok(Manifest::from_parts(3000, bitrates, sizes).ok_or("not a film")?)
+}
+
+/// A network of 300 s that changes each second, from 0 to about 6 Mbit/s.
+fn clock(alloc: Global) -> Result<Clock, Fail> {
+    let mut state = 11;
+    let mut periods = Vec::new(alloc);
+    let mut level = 2_000_000u64;
+    for _ in 0..300 {
+        let up = draw(&mut state) as u64 % 1_600_000;
+        level = (level + up).saturating_sub(800_000).min(6_000_000);
+        periods.push(Period {
+            duration_ms: 1000,
+            bandwidth: level,
+            latency: 60,
+        })?;
+    }
+    let trace = Trace::from_parts(periods).ok_or("not a trace")?;
+    Ok(Clock::new(alloc, &trace)?)
+}
+
+fn setup(alloc: Global, buffer_ms: u32, stall: u32) -> Result<Setup, Fail> {
+    let weights = Weights::from_parts(UTILITIES.to_vec(alloc)?, 1, stall, 1).ok_or("no weights")?;
+    Ok(Setup { buffer_ms, weights, abandon: false })
+}
+
+#[test]
+fn long_films(rt: HostRuntime) -> Result<(), Fail> {
+    let alloc = rt.alloc();
+    let clock = clock(alloc)?;
+    for segments in [30u32, 199] {
+        for stall in [10, 1000, 3000] {
+            for buffer_ms in [8000, 25_000, 60_000] {
+                let (m, set) = (film(alloc, segments)?, setup(alloc, buffer_ms, stall)?);
+                assert!(rt; set.fits(&m));
+                let scene = Scene::on_demand(&m, &clock, &set);
+                let near = near_best(alloc, &scene)?;
+                let bound = bound_of_windows(alloc, &scene, &near.windows)?;
+                let value = value_of_list(&scene, &near.rungs);
+                let count = near.windows.len();
+                println!(rt; "{segments} stall {stall} buffer {buffer_ms}: {value} bound {bound} windows {count}")?;
+                assert!(rt; value <= bound);
+            }
+        }
+    }
+    Ok(())
+}
