@@ -1,5 +1,8 @@
 //! What a segment takes at each price of the network's bits.
 
+ghost use Rattle.std.specs.Prelude.{◌≡◌, ◌<◌, ◌⊎◌, IfSome};
+ghost use Rattle.lab_model.specs.Film.{rungs_of, segments_of};
+
 use player_core::Scene;
 use std::alloc::{AllocError, Global};
 
@@ -14,30 +17,37 @@ pub const MOST_PRICE: u64 = 1_000_000_000_000;
 pub struct Step {
     /// The price, at most 10^12.
     pub price: u64,
-    /// Thousandths of a bit, at most 2 * 10^11.
+    /// Thousandths of a bit.
     pub bits: u64,
 }
 
-/// A rung of greater size and utility than another one: how much greater.
+/// From one rung to another of greater size and utility.
 #[derive(Clone, Copy, Debug)]
 struct Rise {
+    /// The other rung.
     rung: u8,
+    /// How much greater its utility is.
     utility: u32,
+    /// How much greater its size is, in bits.
     size: u32,
 }
 
 /// Whether the first rise gains more for its bits than the second, or as much with more bits.
-fn is_steeper(a: &Rise, b: &Rise) -> bool {
-    let one = a.utility as u64 * b.size as u64;
-    let other = b.utility as u64 * a.size as u64;
+fn is_steeper(a: Rise, b: Rise) -> bool {
+    let one = (a.utility as u64).saturating_mul(b.size as u64);
+    let other = (b.utility as u64).saturating_mul(a.size as u64);
     one > other || one == other && a.size > b.size
 }
 
 /// The rung of the least size.
-pub fn smallest_rung(scene: &Scene<'_>, segment: u16) -> u8 {
+pub fn smallest_rung(scene: &Scene<'_>, segment: u16) -> u8
+    requires { segment < segments_of scene.now.film }
+    ensures { result < rungs_of scene.now.film }
+{
     let film = scene.film();
+    let count = film.rungs();
     let mut least = 0u8;
-    for rung in 1..film.rungs() {
+    for rung in 1..count {
         if film.size(segment, rung) < film.size(segment, least) {
             least = rung;
         }
@@ -46,11 +56,16 @@ pub fn smallest_rung(scene: &Scene<'_>, segment: u16) -> u8 {
 }
 
 /// The rise from one rung to another, if that has a greater size and utility.
-fn rise_to(scene: &Scene<'_>, segment: u16, from: u8, to: u8) -> Option<Rise> {
+fn rise_to(scene: &Scene<'_>, segment: u16, from: u8, to: u8) -> Option<Rise>
+    requires segment { segment < segments_of scene.now.film }
+    requires from { from < rungs_of scene.now.film }
+    requires to { to < rungs_of scene.now.film }
+    ensures { IfSome result (λ r. r.rung < rungs_of scene.now.film) }
+{
     let film = scene.film();
     let weights = &scene.setup().weights;
-    let utility = weights.utility(segment, to).checked_sub(weights.utility(segment, from))?;
-    let size = film.size(segment, to).checked_sub(film.size(segment, from))?;
+    let utility = weights.utility(segment, to).saturating_sub(weights.utility(segment, from));
+    let size = film.size(segment, to).saturating_sub(film.size(segment, from));
     if utility == 0 || size == 0 {
         return None;
     }
@@ -61,23 +76,41 @@ fn rise_to(scene: &Scene<'_>, segment: u16, from: u8, to: u8) -> Option<Rise> {
     })
 }
 
-/// The steepest rise from a rung.
-fn steepest_rise(scene: &Scene<'_>, segment: u16, from: u8) -> Option<Rise> {
-    let mut best: Option<Rise> = None;
-    for rung in 0..scene.film().rungs() {
-        if let Some(rise) = rise_to(scene, segment, from, rung) {
-            best = match best {
-                Some(old) if !is_steeper(&rise, &old) => Some(old),
-                _ => Some(rise),
-            };
+/// The steeper of two rises.
+fn steeper_of(best: Option<Rise>, next: Option<Rise>) -> Option<Rise>
+    ensures { (result ≡ best) ⊎ (result ≡ next) }
+{
+    match (best, next) {
+        (None, _) => next,
+        (_, None) => best,
+        (Some(a), Some(b)) => {
+            if is_steeper(b, a) {
+                next
+            } else {
+                best
+            }
         }
+    }
+}
+
+/// The steepest rise from a rung.
+fn steepest_rise(scene: &Scene<'_>, segment: u16, from: u8) -> Option<Rise>
+    requires segment { segment < segments_of scene.now.film }
+    requires from { from < rungs_of scene.now.film }
+    ensures { IfSome result (λ r. r.rung < rungs_of scene.now.film) }
+{
+    let count = scene.film().rungs();
+    let mut best: Option<Rise> = None;
+    for rung in 0..count {
+        best = steeper_of(best, rise_to(scene, segment, from, rung));
     }
     best
 }
 
 /// The step down that undoes a rise.
-fn step_of(rise: &Rise) -> Step {
-    let price = (PRICE_UNIT * rise.utility as u64).div_ceil(rise.size as u64);
+fn step_of(rise: Rise) -> Step {
+    let gain = PRICE_UNIT * rise.utility as u64;
+    let price = gain.div_ceil((rise.size as u64).max(1));
     Step {
         price: price.min(MOST_PRICE),
         bits: 1000 * rise.size as u64,
@@ -85,14 +118,16 @@ fn step_of(rise: &Rise) -> Step {
 }
 
 /// The steps of a segment, by falling price.
-pub fn steps_of(alloc: Global, scene: &Scene<'_>, segment: u16) -> Result<Vec<Step>, AllocError> {
+pub fn steps_of(alloc: Global, scene: &Scene<'_>, segment: u16) -> Result<Vec<Step>, AllocError>
+    requires { segment < segments_of scene.now.film }
+{
     let mut steps = Vec::new(alloc);
     let mut rung = smallest_rung(scene, segment);
     for _ in 0..scene.film().rungs() {
         match steepest_rise(scene, segment, rung) {
             None => break,
             Some(rise) => {
-                steps.push(step_of(&rise))?;
+                steps.push(step_of(rise))?;
                 rung = rise.rung;
             }
         }

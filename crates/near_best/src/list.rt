@@ -1,6 +1,14 @@
-//! A good rung list: for each segment, of the labels on a rung that end about as long before they are played, the best is kept.
+//! A good rung list: of the labels on a rung that come about as long before they are played, the best is kept.
+
+ghost use Rattle.std.specs.Prelude.{◌≡◌, ℕ, ◌+◌, ◌<◌, ◌≤◌, ◌×◌, IfOk, IfSome, List, length};
+ghost use Rattle.std.specs.List.{All};
+ghost use Rattle.lab_model.specs.Film.{rungs_of, segments_of};
+ghost use Rattle.labels.specs.Labels.{AreRungs, start_label, next_label};
+ghost use Rattle.near_best.specs.Kept.{AreKept, IsInReach, IsKept};
+ghost use Rattle.near_best.specs.Prices.{IsForEach};
 
 use crate::demand::PRICE_UNIT;
+use crate::worth::worth_of_bits;
 use lab_model::Label;
 use labels::{end_value, next_on, start_on};
 use player_core::Scene;
@@ -9,81 +17,109 @@ use std::alloc::{AllocError, Global};
 /// So many labels of a segment and a rung are kept.
 const PLACES: usize = 32;
 
-/// No cost is taken to be greater.
-const MOST_COST: u128 = 100_000_000_000_000_000_000_000_000_000_000_000_000;
-
 /// A label that is kept.
 #[derive(Clone, Copy, Debug)]
-struct Kept {
-    label: Label,
+pub struct Kept {
+    /// The label.
+    pub label: Label,
     /// What it comes to, less what the link has carried at the price of the next segment.
-    worth: i128,
-    rung: u8,
+    pub worth: i128,
+    /// Its rung.
+    pub rung: u8,
     /// The place of the label before.
-    before: u32,
+    pub before: usize,
 }
 
 /// The place of a label among those of its rung: by how long its segment has come before it is played.
-fn place_of(scene: &Scene<'_>, segment: u16, label: Label) -> usize {
-    let film = scene.film();
-    let played = label.p + segment as u64 * film.seg_ms() as u64;
-    let ahead = played.saturating_sub(label.t);
-    let place = ahead * PLACES as u64 / scene.setup().buffer_ms as u64;
-    (place as usize).min(PLACES - 1)
+fn place_of(scene: &Scene<'_>, segment: u16, label: Label) -> usize
+    ensures { result < 32 }
+{
+    let media = segment as u64 * scene.film().seg_ms() as u64;
+    let ahead = label.p.saturating_add(media).saturating_sub(label.t);
+    let width = scene.setup().buffer_ms as u64 / PLACES as u64 + 1;
+    let place = (ahead / width).min(PLACES as u64 - 1);
+    place as usize
 }
 
 /// What the link has carried when the segment behind one may be asked for.
 fn carried_to_next(scene: &Scene<'_>, segment: u16, label: Label) -> u128 {
-    let film = scene.film();
-    let wanted = label.p + (segment as u64 + 2) * film.seg_ms() as u64;
+    let media = (segment as u64 + 2) * scene.film().seg_ms() as u64;
+    let wanted = label.p.saturating_add(media);
     let room = wanted.saturating_sub(scene.setup().buffer_ms as u64);
     scene.clock().carried_before(label.t.max(room))
 }
 
-/// What a label of a segment comes to, where the next one has a price.
-fn worth_of(scene: &Scene<'_>, segment: u16, label: Label, next_price: u64) -> i128 {
-    let value = PRICE_UNIT as i128 * end_value(scene.setup(), label);
-    let carried = carried_to_next(scene, segment, label);
-    let cost = carried.saturating_mul(next_price as u128).min(MOST_COST);
-    value.saturating_sub(cost as i128)
-}
-
-/// Puts a label in its place where it comes to more than what is there.
-fn put(table: &mut [Option<Kept>], place: usize, kept: Kept) {
-    let is_better = match table[place] {
-        None => true,
-        Some(old) => kept.worth > old.worth,
-    };
-    if is_better {
-        table[place] = Some(kept);
+/// A label of a segment that is kept, where the next segment has a price.
+fn kept_of(
+    scene: &Scene<'_>,
+    segment: u16,
+    label: Label,
+    rung: u8,
+    before: usize,
+    next_price: u64,
+) -> Kept
+    requires segment { segment < segments_of scene.now.film }
+    requires label { IsInReach segment label }
+    requires rung { rung < rungs_of scene.now.film }
+    ensures { IsKept scene.now segment result }
+{
+    prove!(scene.film().segments() <= 2000);
+    let value = end_value(scene.setup(), label).saturating_mul(PRICE_UNIT as i128);
+    let cost = worth_of_bits(carried_to_next(scene, segment, label), next_price);
+    Kept {
+        label,
+        worth: value.saturating_sub(cost),
+        rung,
+        before,
     }
 }
 
 /// The labels of segment 0.
-fn first_labels(alloc: Global, scene: &Scene<'_>, next_price: u64) -> Result<Vec<Kept>, AllocError> {
+fn first_labels(alloc: Global, scene: &Scene<'_>, price: u64) -> Result<Vec<Kept>, AllocError>
+    ensures { IfOk result (λ v. AreKept scene.now 0 v.items) }
+{
+    prove!(scene.film().segments() > 0);
+    let count = scene.film().rungs();
     let mut labels = Vec::new(alloc);
-    for rung in 0..scene.film().rungs() {
+    for rung in 0..count {
         let label = start_on(scene, rung);
-        let worth = worth_of(scene, 0, label, next_price);
-        labels.push(Kept {
-            label,
-            worth,
-            rung,
-            before: 0,
-        })?;
+        labels.push(kept_of(scene, 0, label, rung, 0, price))?;
     }
     Ok(labels)
 }
 
-/// The labels of a table.
-fn labels_in(alloc: Global, table: &[Option<Kept>]) -> Result<Vec<Kept>, AllocError> {
-    let mut labels = Vec::new(alloc);
-    for place in table {
-        if let Some(kept) = place {
-            labels.push(*kept)?;
+/// Whether a label comes to more than what is in its place.
+fn is_better(old: &Option<Kept>, kept: Kept) -> bool {
+    match old {
+        None => true,
+        Some(other) => kept.worth > other.worth,
+    }
+}
+
+/// The best labels of a segment on a rung, in their places, by those of the segment before.
+fn labels_on(
+    scene: &Scene<'_>,
+    segment: u16,
+    before: &[Kept],
+    rung: u8,
+    price: u64,
+) -> [Option<Kept>; 32]
+    requires segment { (1 ≤ segment) × (segment < segments_of scene.now.film) }
+    requires before { AreKept scene.now (segment - 1) before.now }
+    requires rung { rung < rungs_of scene.now.film }
+    ensures { All (λ o. IfSome o (IsKept scene.now segment)) result.entry }
+{
+    let mut places: [Option<Kept>; 32] = [None; 32];
+    for number in 0..before.len() {
+        let old = before[number];
+        let label = next_on(scene, segment, old.rung, old.label, rung);
+        let kept = kept_of(scene, segment, label, rung, number, price);
+        let place = place_of(scene, segment, label);
+        if is_better(&places[place], kept) {
+            places[place] = Some(kept);
         }
     }
-    Ok(labels)
+    places
 }
 
 /// The labels of a segment, by those of the segment before.
@@ -92,60 +128,73 @@ fn next_labels(
     scene: &Scene<'_>,
     segment: u16,
     before: &[Kept],
-    next_price: u64,
-) -> Result<Vec<Kept>, AllocError> {
-    let rungs = scene.film().rungs();
-    let mut table: Vec<Option<Kept>> = vec![in alloc; None; rungs as usize * PLACES]?;
-    for place in 0..before.len() {
-        let old = before[place];
-        for rung in 0..rungs {
-            let label = next_on(scene, segment, old.rung, old.label, rung);
-            let kept = Kept {
-                label,
-                worth: worth_of(scene, segment, label, next_price),
-                rung,
-                before: place as u32,
-            };
-            let at = rung as usize * PLACES + place_of(scene, segment, label);
-            put(&mut table, at, kept);
+    price: u64,
+) -> Result<Vec<Kept>, AllocError>
+    requires segment { (1 ≤ segment) × (segment < segments_of scene.now.film) }
+    requires before { AreKept scene.now (segment - 1) before.now }
+    ensures { IfOk result (λ v. AreKept scene.now segment v.items) }
+{
+    let count = scene.film().rungs();
+    let mut labels = Vec::new(alloc);
+    for rung in 0..count {
+        let places = labels_on(scene, segment, before, rung, price);
+        for place in 0..PLACES {
+            if let Some(kept) = places[place] {
+                labels.push(kept)?;
+            }
         }
     }
-    labels_in(alloc, &table)
+    Ok(labels)
 }
 
 /// The price of the segment behind one, 0 behind the last.
-fn price_behind(prices: &[u64], segment: usize) -> u64 {
-    match prices.get(segment + 1) {
+fn price_behind(prices: &[u64], segment: u16) -> u64 {
+    match prices.get(segment as usize + 1) {
         None => 0,
         Some(price) => *price,
     }
 }
 
 /// The labels of all segments.
-fn all_labels(alloc: Global, scene: &Scene<'_>, prices: &[u64]) -> Result<Vec<Vec<Kept>>, AllocError> {
+fn all_labels(
+    alloc: Global,
+    scene: &Scene<'_>,
+    prices: &[u64],
+) -> Result<Vec<Vec<Kept>>, AllocError>
+    ensures count { IfOk result (λ v. length v.items ≡ segments_of scene.now.film) }
+    ensures rungs { IfOk result (λ v. All (λ (l : Vec Kept Global). All (λ k. k.rung < rungs_of scene.now.film) l.items) v.items) }
+{
+    let count = scene.film().segments();
     let mut layers = Vec::new(alloc);
-    layers.push(first_labels(alloc, scene, price_behind(prices, 0))?)?;
-    for segment in 1..scene.film().segments() {
-        let price = price_behind(prices, segment as usize);
-        let next = next_labels(alloc, scene, segment, &layers[segment as usize - 1], price)?;
-        layers.push(next)?;
+    let mut last = first_labels(alloc, scene, price_behind(prices, 0))?;
+    for segment in 1..count {
+        let price = price_behind(prices, segment);
+        let next = next_labels(alloc, scene, segment, &last, price)?;
+        layers.push(last)?;
+        last = next;
     }
+    layers.push(last)?;
     Ok(layers)
 }
 
 /// The place of the label that comes to the most.
 fn best_place(labels: &[Kept]) -> usize {
-    let mut best = 0;
-    for place in 1..labels.len() {
-        if labels[place].worth > labels[best].worth {
+    let mut best = 0usize;
+    let mut most = i128::MIN;
+    for place in 0..labels.len() {
+        if labels[place].worth > most {
             best = place;
+            most = labels[place].worth;
         }
     }
     best
 }
 
 /// A rung list of the film.
-pub fn near_list(alloc: Global, scene: &Scene<'_>, prices: &[u64]) -> Result<Vec<u8>, AllocError> {
+pub fn near_list(alloc: Global, scene: &Scene<'_>, prices: &[u64]) -> Result<Vec<u8>, AllocError>
+    ensures { IfOk result (λ v. AreRungs scene.now (segments_of scene.now.film) v.items) }
+{
+    prove!(scene.film().segments() > 0 && scene.film().rungs() > 0);
     let layers = all_labels(alloc, scene, prices)?;
     let count = layers.len();
     let mut rungs = vec![in alloc; 0u8; count]?;
@@ -154,7 +203,7 @@ pub fn near_list(alloc: Global, scene: &Scene<'_>, prices: &[u64]) -> Result<Vec
         let segment = count - 1 - back;
         if let Some(kept) = layers[segment].get(place) {
             rungs[segment] = kept.rung;
-            place = kept.before as usize;
+            place = kept.before;
         }
     }
     Ok(rungs)

@@ -1,10 +1,14 @@
-//! The prices of segments at which the link just carries what they take, where all have one delay.
+//! The prices of segments at which the link just carries what they take, at delays of their own.
 //!
 //! Segment by segment, what the link has carried at the end of a download is known for each price of its bits: at least what it
 //! carries before the earliest begin, and at most what it carries before the latest end. At these two the price may change.
 
+ghost use Rattle.std.specs.Prelude.{◌≡◌, ◌+◌, IfOk, length};
+ghost use Rattle.lab_model.specs.Film.{segments_of};
+ghost use Rattle.near_best.specs.Prices.{IsForEach};
+
 use crate::demand::{MOST_PRICE, Step, smallest_rung, steps_of};
-use crate::link::{Delays, carried_to_begin, carried_to_end};
+use crate::link::{carried_to_begin, carried_to_end};
 use player_core::Scene;
 use std::alloc::{AllocError, Global};
 
@@ -103,8 +107,11 @@ impl Carried {
 fn limits_of(
     alloc: Global,
     scene: &Scene<'_>,
-    delays: Delays,
-) -> Result<Vec<Limits>, AllocError> {
+    delays: &[u64],
+) -> Result<Vec<Limits>, AllocError>
+    requires { IsForEach scene.now delays.now }
+    ensures { IfOk result (λ v. length v.items + 1 ≡ segments_of scene.now.film) }
+{
     let film = scene.film();
     let mut carried = Carried {
         most: 0,
@@ -112,11 +119,14 @@ fn limits_of(
         steps: Vec::new(alloc),
     };
     let mut limits = Vec::new(alloc);
-    for segment in 1..film.segments() {
-        let high = carried.keep_above(carried_to_begin(scene, delays, segment));
+    let count = film.segments();
+    for segment in 1..count {
+        let place = segment as usize;
+        let begin = carried_to_begin(scene, delays[0], segment, delays[place - 1]);
+        let high = carried.keep_above(begin);
         let least = 1000 * film.size(segment, smallest_rung(scene, segment)) as u64;
         carried.add(least, &steps_of(alloc, scene, segment)?)?;
-        let low = carried.keep_below(carried_to_end(scene, delays, segment));
+        let low = carried.keep_below(carried_to_end(scene, segment, delays[place]));
         limits.push(Limits { low, high })?;
     }
     Ok(limits)
@@ -126,8 +136,11 @@ fn limits_of(
 pub fn prices_of(
     alloc: Global,
     scene: &Scene<'_>,
-    delays: Delays,
-) -> Result<Vec<u64>, AllocError> {
+    delays: &[u64],
+) -> Result<Vec<u64>, AllocError>
+    requires { IsForEach scene.now delays.now }
+    ensures { IfOk result (λ v. IsForEach scene.now v.items) }
+{
     let limits = limits_of(alloc, scene, delays)?;
     let mut prices = vec![in alloc; 0u64; limits.len() + 1]?;
     let mut high = 0;

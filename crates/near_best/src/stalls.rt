@@ -1,69 +1,95 @@
 //! What the link's bits are worth where the player may stall: the most over delays that rise along the film, by coarse steps.
 
-use crate::demand::PRICE_UNIT;
-use crate::link::{Delays, carried_to_begin, carried_to_end};
+ghost use Rattle.std.specs.Prelude.{◌≡◌, ◌<◌, ◌≤◌, IfOk, length};
+ghost use Rattle.lab_model.specs.Film.{segments_of};
+ghost use Rattle.near_best.specs.Prices.{IsForEach, IsForEachEdge};
+
+use crate::link::{FARTHEST_DELAY_MS, carried_to_begin, carried_to_end};
+use crate::worth::{fall_at, rise_at, stall_cost, worth_of_bits};
 use player_core::Scene;
 use std::alloc::{AllocError, Global};
 
 /// By so many parts of what it lies behind the first delay a step is longer than 1 ms.
 const GROWTH_PARTS: u64 = 8;
 
-/// No delay is tried that lies farther behind the first.
-const FARTHEST_STALL_MS: u64 = 10_000_000;
+/// By so many parts of what it lies behind the first delay a cell of delays is wide.
+const CELL_PARTS: u64 = 64;
 
 /// The delays that are tried, from the first on.
-fn tried_delays(alloc: Global, first: u64) -> Result<Vec<u64>, AllocError> {
+fn tried_delays(alloc: Global, first: u64) -> Result<Vec<u64>, AllocError>
+    ensures { IfOk result (λ v. 1 ≤ length v.items) }
+{
     let mut delays = Vec::new(alloc);
-    let mut behind = 0;
-    while behind <= FARTHEST_STALL_MS {
-        delays.push(first + behind)?;
-        behind = behind + 1 + behind / GROWTH_PARTS;
+    let mut delay = first;
+    delays.push(delay)?;
+    while delay < FARTHEST_DELAY_MS {
+        delay = delay + 1 + delay.saturating_sub(first) / GROWTH_PARTS;
+        delays.push(delay)?;
     }
     Ok(delays)
 }
 
-/// What so many thousandths of a bit are worth at a price.
-pub fn worth_of_bits(bits: u128, price: u64) -> i128 {
-    bits.saturating_mul(price as u128).min(MOST_WORTH) as i128
+/// What the link's bits up to the latest end of a segment are worth, in the cell of a delay.
+fn worth_to_end(scene: &Scene<'_>, segment: u16, first: u64, delay: u64, price: u64) -> i128 {
+    if price == 0 {
+        return 0;
+    }
+    let late = delay.saturating_add(delay.saturating_sub(first) / CELL_PARTS);
+    worth_of_bits(carried_to_end(scene, segment, late), price)
 }
 
-/// No worth is taken to be greater.
-const MOST_WORTH: u128 = 100_000_000_000_000_000_000_000_000_000_000_000_000;
-
-/// The rise of the prices that windows begin with at a segment.
-pub fn rise_at(prices: &[u64], shared: &[u64], segment: usize) -> u64 {
-    prices[segment].saturating_sub(shared[segment])
+/// What those before the earliest begin of a segment are worth.
+fn worth_to_begin(scene: &Scene<'_>, segment: u16, first: u64, delay: u64, price: u64) -> i128
+    requires { segment < segments_of scene.now.film }
+{
+    if price == 0 {
+        return 0;
+    }
+    worth_of_bits(carried_to_begin(scene, first, segment, delay), price)
 }
 
-/// The fall of the prices of windows that end with a segment.
-pub fn fall_at(prices: &[u64], shared: &[u64], segment: usize) -> u64 {
-    prices[segment].saturating_sub(shared[segment + 1])
+/// The most in a table.
+fn most_of(table: &[i128]) -> i128 {
+    let mut most = i128::MIN;
+    for worth in table {
+        most = most.max(*worth);
+    }
+    most
 }
 
 /// What the stalls up to each delay cost, as a loss.
-fn stall_losses(alloc: Global, scene: &Scene<'_>, delays: &[u64]) -> Result<Vec<i128>, AllocError> {
-    let stall = scene.setup().weights.stall() as i128;
+fn stall_losses(alloc: Global, scene: &Scene<'_>, delays: &[u64]) -> Result<Vec<i128>, AllocError>
+    requires { 1 ≤ length delays.now }
+    ensures { IfOk result (λ v. length v.items ≡ length delays.now) }
+{
     let mut losses = Vec::new(alloc);
     for place in 0..delays.len() {
-        let behind = delays[place].saturating_sub(delays[0]);
-        losses.push(-(PRICE_UNIT as i128 * stall * behind as i128))?;
+        let cost = stall_cost(scene, delays[place].saturating_sub(delays[0]));
+        losses.push(0i128.saturating_sub(cost))?;
     }
     Ok(losses)
 }
 
 /// Puts what delays from a segment on come to, after each delay, in place of what those behind the segment do.
-fn step_back(scene: &Scene<'_>, delays: &[u64], segment: u16, rise: u64, fall: u64, table: &mut [i128]) {
-    let first = delays[0];
+fn step_back(
+    scene: &Scene<'_>,
+    delays: &[u64],
+    segment: u16,
+    rise: u64,
+    fall: u64,
+    table: &mut [i128],
+)
+    requires segment { segment < segments_of scene.now.film }
+    requires delays { 1 ≤ length delays.now }
+    requires table { length table.old ≡ length delays.now }
+    ensures { length table.new ≡ length delays.now }
+{
     let mut best = i128::MIN;
-    for done in 0..table.len() {
-        let place = table.len() - 1 - done;
-        let at = Delays {
-            first,
-            rest: delays[place],
-        };
-        let end = if fall == 0 { 0 } else { worth_of_bits(carried_to_end(scene, at, segment), fall) };
-        let begin = if rise == 0 { 0 } else { worth_of_bits(carried_to_begin(scene, at, segment), rise) };
+    for done in 0..delays.len() {
+        let place = delays.len() - 1 - done;
+        let end = worth_to_end(scene, segment, delays[0], delays[place], fall);
         best = best.max(end.saturating_add(table[place]));
+        let begin = worth_to_begin(scene, segment, delays[0], delays[place], rise);
         table[place] = best.saturating_sub(begin);
     }
 }
@@ -75,14 +101,20 @@ pub fn link_worth(
     first: u64,
     prices: &[u64],
     shared: &[u64],
-) -> Result<i128, AllocError> {
+) -> Result<i128, AllocError>
+    requires prices { IsForEach scene.now prices.now }
+    requires shared { IsForEachEdge scene.now shared.now }
+{
+    prove!(scene.film().segments() > 0);
     let delays = tried_delays(alloc, first)?;
     let mut table = stall_losses(alloc, scene, &delays)?;
     for done in 1..prices.len() {
         let segment = prices.len() - done;
         let rise = rise_at(prices, shared, segment);
         let fall = fall_at(prices, shared, segment);
-        step_back(scene, &delays, segment as u16, rise, fall, &mut table);
+        if rise > 0 || fall > 0 {
+            step_back(scene, &delays, segment as u16, rise, fall, &mut table);
+        }
     }
-    Ok(table[0])
+    Ok(most_of(&table))
 }

@@ -32,14 +32,14 @@ fn film(alloc: Global, segments: u32) -> Result<Manifest, Fail> {
     Ok(Manifest::from_parts(3000, bitrates, sizes).ok_or("not a film")?)
 }
 
-/// A network of 300 s that changes each second, from 0 to about 6 Mbit/s.
+/// A network of 300 s that changes each second, from 0.1 to 6 Mbit/s.
 fn clock(alloc: Global) -> Result<Clock, Fail> {
     let mut state = 11;
     let mut periods = Vec::new(alloc);
     let mut level = 2_000_000u64;
     for _ in 0..300 {
-        let up = draw(&mut state) as u64 % 1_600_000;
-        level = (level + up).saturating_sub(800_000).min(6_000_000);
+        let up = 50 * draw(&mut state) as u64;
+        level = (level + up).saturating_sub(800_000).clamp(100_000, 6_000_000);
         periods.push(Period {
             duration_ms: 1000,
             bandwidth: level,

@@ -1,7 +1,11 @@
 //! From prices of segments to windows.
 
+ghost use Rattle.std.specs.Prelude.{◌≡◌, ◌+◌, ◌<◌, ◌≤◌, IfOk, OnOk, length};
+ghost use Rattle.lab_model.specs.Film.{segments_of};
+ghost use Rattle.near_best.specs.Prices.{AreBehind, AreInOrder, IsForEach, IsForEachEdge};
+
 use crate::demand::MOST_PRICE;
-use crate::link::{Delays, begin_of, end_of};
+use crate::link::{begin_of, end_of};
 use player_core::Scene;
 use price_bounds::Window;
 use std::alloc::{AllocError, Global};
@@ -14,15 +18,21 @@ const MOST_WINDOWS: usize = 4000;
 pub fn shared_prices(
     alloc: Global,
     scene: &Scene<'_>,
-    delays: Delays,
+    delays: &[u64],
     prices: &[u64],
-) -> Result<Vec<u64>, AllocError> {
+) -> Result<Vec<u64>, AllocError>
+    requires delays { IsForEach scene.now delays.now }
+    requires prices { IsForEach scene.now prices.now }
+    ensures { IfOk result (λ v. IsForEachEdge scene.now v.items) }
+{
+    prove!(scene.film().segments() > 0);
     let mut shared = Vec::new(alloc);
     shared.push(0)?;
     for segment in 1..prices.len() {
-        let is_apart = begin_of(scene, delays, segment as u16) >= end_of(scene, delays, segment as u16 - 1);
-        let price = if segment == 1 || is_apart { 0 } else { prices[segment].min(prices[segment - 1]) };
-        shared.push(price)?;
+        let begin = begin_of(scene, delays[0], segment as u16, delays[segment - 1]);
+        let is_apart = begin >= end_of(scene, segment as u16 - 1, delays[segment - 1]);
+        let both = prices[segment].min(prices[segment - 1]);
+        shared.push(if segment == 1 || is_apart { 0 } else { both })?;
     }
     shared.push(0)?;
     Ok(shared)
@@ -34,25 +44,25 @@ fn add_windows(
     prices: &[u64],
     shared: &[u64],
     first: usize,
-) -> Result<(), AllocError> {
+) -> Result<(), AllocError>
+    requires first { (1 ≤ first) × (first < length prices.now) }
+    requires few { length prices.now ≤ 2000 }
+    requires shared { length shared.now ≡ length prices.now + 1 }
+    requires windows { AreBehind (length prices.now) first windows.old.items }
+    ensures { OnOk result (AreBehind (length prices.now) (first + 1) windows.new.items) }
+{
     let floor = shared[first];
     let mut level = prices[first].min(MOST_PRICE);
     for last in first..prices.len() {
         let next = shared[last + 1].max(floor);
-        if next < level {
-            if windows.len() >= MOST_WINDOWS {
-                return Ok(());
-            }
+        if next < level && windows.len() < MOST_WINDOWS {
             windows.push(Window {
                 first: first as u16,
                 last: last as u16,
                 price: level - next,
             })?;
-            level = next;
         }
-        if level <= floor {
-            return Ok(());
-        }
+        level = level.min(next);
     }
     Ok(())
 }
@@ -62,7 +72,11 @@ pub fn windows_of(
     alloc: Global,
     prices: &[u64],
     shared: &[u64],
-) -> Result<Vec<Window>, AllocError> {
+) -> Result<Vec<Window>, AllocError>
+    requires few { length prices.now ≤ 2000 }
+    requires shared { length shared.now ≡ length prices.now + 1 }
+    ensures { IfOk result (λ v. AreInOrder (length prices.now) v.items) }
+{
     let mut windows = Vec::new(alloc);
     for first in 1..prices.len() {
         add_windows(&mut windows, prices, shared, first)?;
