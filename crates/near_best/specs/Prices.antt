@@ -1,5 +1,5 @@
 -- Lists by segments that the search keeps, and what it answers.
-use Rattle.std.specs.Prelude.{◌≡◌, ℕ, ◌+◌, ◌<◌, List, length, None}
+use Rattle.std.specs.Prelude.{◌≡◌, ℕ, ◌⊎◌, ◌+◌, ◌<◌, List, length, None}
 use Rattle.std.specs.List.{All}
 use Rattle.lab_model.specs.Film.{segments_of}
 use Rattle.player_core.specs.Scene.{Task}
@@ -26,11 +26,11 @@ pub record AreInOrder (segments : ℕ) (ws : List Window) : Type 0 where
   pub range : CanBound segments ws
   pub order : bad_window segments 0 0 0 ws ≡ None
 
--- the windows begin before a segment
-abbrev pub AreBefore : ℕ → List Window → Type 0
-AreBefore next ws = All (λ w. w.first < next) ws
+-- the window comes before those from `first` to `last`: by its first segment, then by its last
+abbrev pub ComesBefore : ℕ → ℕ → Window → Type 0
+ComesBefore first last w = (w.first < first) ⊎ ((w.first ≡ first) × (w.last < last))
 
--- windows in order, of which the last begins before a segment
-pub record AreBehind (segments next : ℕ) (ws : List Window) : Type 0 where
+-- windows in order, all of which come before those from `first` to `last`
+pub record AreBehind (segments first last : ℕ) (ws : List Window) : Type 0 where
   pub windows : AreInOrder segments ws
-  pub last : AreBefore next ws
+  pub before : All (ComesBefore first last) ws

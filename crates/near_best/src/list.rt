@@ -1,6 +1,6 @@
 //! A good rung list: of the labels on a rung that come about as long before they are played, the best is kept.
 
-ghost use Rattle.std.specs.Prelude.{◌≡◌, ℕ, ◌+◌, ◌<◌, ◌≤◌, ◌×◌, IfOk, IfSome, List, length};
+ghost use Rattle.std.specs.Prelude.{◌≡◌, ℕ, ◌+◌, ◌<◌, ◌≤◌, IfOk, IfSome, List, length};
 ghost use Rattle.std.specs.List.{All};
 ghost use Rattle.lab_model.specs.Film.{rungs_of, segments_of};
 ghost use Rattle.labels.specs.Labels.{AreRungs, start_label, next_label};

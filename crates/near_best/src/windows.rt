@@ -48,8 +48,8 @@ fn add_windows(
     requires first { (1 ≤ first) × (first < length prices.now) }
     requires few { length prices.now ≤ 2000 }
     requires shared { length shared.now ≡ length prices.now + 1 }
-    requires windows { AreBehind (length prices.now) first windows.old.items }
-    ensures { OnOk result (AreBehind (length prices.now) (first + 1) windows.new.items) }
+    requires windows { AreBehind (length prices.now) first first windows.old.items }
+    ensures { OnOk result (AreBehind (length prices.now) (first + 1) (first + 1) windows.new.items) }
 {
     let floor = shared[first];
     let mut level = prices[first].min(MOST_PRICE);
