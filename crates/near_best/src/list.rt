@@ -5,12 +5,13 @@ ghost use Rattle.std.specs.List.{All};
 ghost use Rattle.lab_model.specs.Film.{rungs_of, segments_of};
 ghost use Rattle.labels.specs.Labels.{AreRungs, start_label, next_label};
 ghost use Rattle.near_best.specs.Kept.{AreKept, IsInReach, IsKept};
-ghost use Rattle.near_best.specs.Prices.{IsForEach};
+ghost use Rattle.near_best.specs.Prices.{IsForEach, IsForEachEdge};
 
 use crate::demand::PRICE_UNIT;
-use crate::worth::worth_of_bits;
+use crate::stalls::Outlook;
+use crate::worth::{stall_cost, worth_of_bits};
 use lab_model::Label;
-use labels::{end_value, next_on, start_on};
+use labels::{next_on, start_on};
 use player_core::Scene;
 use std::alloc::{AllocError, Global};
 
@@ -22,7 +23,7 @@ const PLACES: usize = 32;
 pub struct Kept {
     /// The label.
     pub label: Label,
-    /// What it comes to, less what the link has carried at the price of the next segment.
+    /// What it may come to, in parts of 10^-9 of a thousandth of a point.
     pub worth: i128,
     /// Its rung.
     pub rung: u8,
@@ -49,33 +50,60 @@ fn carried_to_next(scene: &Scene<'_>, segment: u16, label: Label) -> u128 {
     scene.clock().carried_before(label.t.max(room))
 }
 
-/// A label of a segment that is kept, where the next segment has a price.
+/// What guides the search: the prices of segments and, where stalls to come are weighed, what may come behind a segment.
+#[derive(Drop, Debug)]
+pub struct Guide {
+    /// The price of each segment.
+    pub prices: Vec<u64>,
+    /// What may come, by the delay of a segment; without it no stall is to come.
+    pub outlook: Option<Outlook>,
+}
+
+impl Guide {
+    /// What may come behind a label, less all stalls; so many segments are left.
+    fn outlook_of(&self, scene: &Scene<'_>, left: usize, label: Label) -> i128 {
+        match &self.outlook {
+            Some(outlook) if left > 0 => outlook.worth(left, label.p),
+            _ => 0i128.saturating_sub(stall_cost(scene, label.p)),
+        }
+    }
+
+    /// What a label of a segment may come to. Behind the last segment it is its value.
+    fn worth(&self, scene: &Scene<'_>, segment: u16, label: Label) -> i128 {
+        let left = self.prices.len().saturating_sub(segment as usize + 1);
+        let value = PRICE_UNIT as i128 * label.v as i128;
+        let cost = match self.prices.get(segment as usize + 1) {
+            None => 0,
+            Some(price) => worth_of_bits(carried_to_next(scene, segment, label), *price),
+        };
+        let to_come = self.outlook_of(scene, left, label);
+        value.saturating_sub(cost).saturating_add(to_come)
+    }
+}
+
+/// A label of a segment that is kept.
 fn kept_of(
     scene: &Scene<'_>,
+    guide: &Guide,
     segment: u16,
     label: Label,
     rung: u8,
     before: usize,
-    next_price: u64,
 ) -> Kept
-    requires segment { segment < segments_of scene.now.film }
     requires label { IsInReach segment label }
     requires rung { rung < rungs_of scene.now.film }
     ensures { IsKept scene.now segment result }
 {
-    prove!(scene.film().segments() <= 2000);
-    let value = end_value(scene.setup(), label).saturating_mul(PRICE_UNIT as i128);
-    let cost = worth_of_bits(carried_to_next(scene, segment, label), next_price);
     Kept {
         label,
-        worth: value.saturating_sub(cost),
+        worth: guide.worth(scene, segment, label),
         rung,
         before,
     }
 }
 
 /// The labels of segment 0.
-fn first_labels(alloc: Global, scene: &Scene<'_>, price: u64) -> Result<Vec<Kept>, AllocError>
+fn first_labels(alloc: Global, scene: &Scene<'_>, guide: &Guide) -> Result<Vec<Kept>, AllocError>
     ensures { IfOk result (λ v. AreKept scene.now 0 v.items) }
 {
     prove!(scene.film().segments() > 0);
@@ -83,7 +111,7 @@ fn first_labels(alloc: Global, scene: &Scene<'_>, price: u64) -> Result<Vec<Kept
     let mut labels = Vec::new(alloc);
     for rung in 0..count {
         let label = start_on(scene, rung);
-        labels.push(kept_of(scene, 0, label, rung, 0, price))?;
+        labels.push(kept_of(scene, guide, 0, label, rung, 0))?;
     }
     Ok(labels)
 }
@@ -102,7 +130,7 @@ fn labels_on(
     segment: u16,
     before: &[Kept],
     rung: u8,
-    price: u64,
+    guide: &Guide,
 ) -> [Option<Kept>; 32]
     requires segment { (1 ≤ segment) × (segment < segments_of scene.now.film) }
     requires before { AreKept scene.now (segment - 1) before.now }
@@ -113,7 +141,7 @@ fn labels_on(
     for number in 0..before.len() {
         let old = before[number];
         let label = next_on(scene, segment, old.rung, old.label, rung);
-        let kept = kept_of(scene, segment, label, rung, number, price);
+        let kept = kept_of(scene, guide, segment, label, rung, number);
         let place = place_of(scene, segment, label);
         if is_better(&places[place], kept) {
             places[place] = Some(kept);
@@ -128,7 +156,7 @@ fn next_labels(
     scene: &Scene<'_>,
     segment: u16,
     before: &[Kept],
-    price: u64,
+    guide: &Guide,
 ) -> Result<Vec<Kept>, AllocError>
     requires segment { (1 ≤ segment) × (segment < segments_of scene.now.film) }
     requires before { AreKept scene.now (segment - 1) before.now }
@@ -137,7 +165,7 @@ fn next_labels(
     let count = scene.film().rungs();
     let mut labels = Vec::new(alloc);
     for rung in 0..count {
-        let places = labels_on(scene, segment, before, rung, price);
+        let places = labels_on(scene, segment, before, rung, guide);
         for place in 0..PLACES {
             if let Some(kept) = places[place] {
                 labels.push(kept)?;
@@ -147,29 +175,20 @@ fn next_labels(
     Ok(labels)
 }
 
-/// The price of the segment behind one, 0 behind the last.
-fn price_behind(prices: &[u64], segment: u16) -> u64 {
-    match prices.get(segment as usize + 1) {
-        None => 0,
-        Some(price) => *price,
-    }
-}
-
 /// The labels of all segments.
 fn all_labels(
     alloc: Global,
     scene: &Scene<'_>,
-    prices: &[u64],
+    guide: &Guide,
 ) -> Result<Vec<Vec<Kept>>, AllocError>
     ensures count { IfOk result (λ v. length v.items ≡ segments_of scene.now.film) }
     ensures rungs { IfOk result (λ v. All (λ (l : Vec Kept Global). All (λ k. k.rung < rungs_of scene.now.film) l.items) v.items) }
 {
     let count = scene.film().segments();
     let mut layers = Vec::new(alloc);
-    let mut last = first_labels(alloc, scene, price_behind(prices, 0))?;
+    let mut last = first_labels(alloc, scene, guide)?;
     for segment in 1..count {
-        let price = price_behind(prices, segment);
-        let next = next_labels(alloc, scene, segment, &last, price)?;
+        let next = next_labels(alloc, scene, segment, &last, guide)?;
         layers.push(last)?;
         last = next;
     }
@@ -190,15 +209,30 @@ fn best_place(labels: &[Kept]) -> usize {
     best
 }
 
-/// A rung list of the film.
-pub fn near_list(alloc: Global, scene: &Scene<'_>, prices: &[u64]) -> Result<Vec<u8>, AllocError>
+/// A rung list, with its value in parts of 10^-9 of a thousandth of a point.
+#[derive(Drop, Debug)]
+pub struct Found {
+    /// The rung of each segment.
+    pub rungs: Vec<u8>,
+    /// The value.
+    pub worth: i128,
+}
+
+/// The rungs up to a label of the last segment.
+fn rungs_to(
+    alloc: Global,
+    scene: &Scene<'_>,
+    layers: &[Vec<Kept>],
+    last: usize,
+) -> Result<Vec<u8>, AllocError>
+    requires count { length layers.now ≡ segments_of scene.now.film }
+    requires rungs { All (λ (l : Vec Kept Global). All (λ k. k.rung < rungs_of scene.now.film) l.items) layers.now }
     ensures { IfOk result (λ v. AreRungs scene.now (segments_of scene.now.film) v.items) }
 {
-    prove!(scene.film().segments() > 0 && scene.film().rungs() > 0);
-    let layers = all_labels(alloc, scene, prices)?;
+    prove!(scene.film().rungs() > 0);
     let count = layers.len();
     let mut rungs = vec![in alloc; 0u8; count]?;
-    let mut place = best_place(&layers[count - 1]);
+    let mut place = last;
     for back in 0..count {
         let segment = count - 1 - back;
         if let Some(kept) = layers[segment].get(place) {
@@ -207,4 +241,42 @@ pub fn near_list(alloc: Global, scene: &Scene<'_>, prices: &[u64]) -> Result<Vec
         }
     }
     Ok(rungs)
+}
+
+/// The rung list that a guide leads to.
+pub fn near_list(alloc: Global, scene: &Scene<'_>, guide: &Guide) -> Result<Found, AllocError>
+    ensures { IfOk result (λ f. AreRungs scene.now (segments_of scene.now.film) f.rungs.items) }
+{
+    prove!(scene.film().segments() > 0);
+    let layers = all_labels(alloc, scene, guide)?;
+    let ends = &layers[layers.len() - 1];
+    let last = best_place(ends);
+    let worth = match ends.get(last) {
+        None => i128::MIN,
+        Some(kept) => kept.worth,
+    };
+    let rungs = rungs_to(alloc, scene, &layers, last)?;
+    Ok(Found { rungs, worth })
+}
+
+/// The better of the rung lists that these prices lead to, with and without stalls to come.
+pub fn better_list(
+    alloc: Global,
+    scene: &Scene<'_>,
+    prices: Vec<u64>,
+    shared: &[u64],
+) -> Result<Vec<u8>, AllocError>
+    requires prices { IsForEach scene.now prices.items }
+    requires shared { IsForEachEdge scene.now shared.now }
+    ensures { IfOk result (λ v. AreRungs scene.now (segments_of scene.now.film) v.items) }
+{
+    let outlook = Outlook::new(alloc, scene, &prices, shared)?;
+    let mut guide = Guide {
+        prices,
+        outlook: None,
+    };
+    let plain = near_list(alloc, scene, &guide)?;
+    guide.outlook = Some(outlook);
+    let other = near_list(alloc, scene, &guide)?;
+    Ok(if other.worth > plain.worth { other.rungs } else { plain.rungs })
 }

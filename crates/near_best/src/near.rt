@@ -6,7 +6,7 @@ ghost use Rattle.labels.specs.Labels.{AreRungs};
 ghost use Rattle.near_best.specs.Prices.{AreInOrder};
 
 use crate::cap::near_prices;
-use crate::list::near_list;
+use crate::list::better_list;
 use crate::windows::{shared_prices, windows_of};
 use lab_model::NoMemory;
 use player_core::Scene;
@@ -31,7 +31,7 @@ fn found_near(alloc: Global, scene: &Scene<'_>) -> Result<NearBest, AllocError>
     let found = near_prices(alloc, scene)?;
     let shared = shared_prices(alloc, scene, &found.delays, &found.prices)?;
     let windows = windows_of(alloc, &found.prices, &shared)?;
-    let rungs = near_list(alloc, scene, &found.prices)?;
+    let rungs = better_list(alloc, scene, found.prices, &shared)?;
     Ok(NearBest { rungs, windows })
 }
 

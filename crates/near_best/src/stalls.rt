@@ -70,16 +70,8 @@ fn stall_losses(alloc: Global, scene: &Scene<'_>, delays: &[u64]) -> Result<Vec<
     Ok(losses)
 }
 
-/// Puts what delays from a segment on come to, after each delay, in place of what those behind the segment do.
-fn step_back(
-    scene: &Scene<'_>,
-    delays: &[u64],
-    segment: u16,
-    rise: u64,
-    fall: u64,
-    table: &mut [i128],
-)
-    requires segment { segment < segments_of scene.now.film }
+/// Adds the latest end of a segment to what the delays behind it come to: each delay may be followed by a longer one.
+fn add_end(scene: &Scene<'_>, delays: &[u64], segment: u16, fall: u64, table: &mut [i128])
     requires delays { 1 ≤ length delays.now }
     requires table { length table.old ≡ length delays.now }
     ensures { length table.new ≡ length delays.now }
@@ -89,8 +81,20 @@ fn step_back(
         let place = delays.len() - 1 - done;
         let end = worth_to_end(scene, segment, delays[0], delays[place], fall);
         best = best.max(end.saturating_add(table[place]));
+        table[place] = best;
+    }
+}
+
+/// Takes its earliest begin off.
+fn take_begin(scene: &Scene<'_>, delays: &[u64], segment: u16, rise: u64, table: &mut [i128])
+    requires segment { segment < segments_of scene.now.film }
+    requires delays { 1 ≤ length delays.now }
+    requires table { length table.old ≡ length delays.now }
+    ensures { length table.new ≡ length delays.now }
+{
+    for place in 0..delays.len() {
         let begin = worth_to_begin(scene, segment, delays[0], delays[place], rise);
-        table[place] = best.saturating_sub(begin);
+        table[place] = table[place].saturating_sub(begin);
     }
 }
 
@@ -112,9 +116,74 @@ pub fn link_worth(
         let segment = prices.len() - done;
         let rise = rise_at(prices, shared, segment);
         let fall = fall_at(prices, shared, segment);
-        if rise > 0 || fall > 0 {
-            step_back(scene, &delays, segment as u16, rise, fall, &mut table);
+        if fall > 0 {
+            add_end(scene, &delays, segment as u16, fall, &mut table);
+        }
+        if rise > 0 {
+            take_begin(scene, &delays, segment as u16, rise, &mut table);
         }
     }
     Ok(most_of(&table))
+}
+
+/// What the link's bits behind each segment may come to, less all stalls, by the delay of the segment.
+#[derive(Drop, Debug)]
+pub struct Outlook {
+    /// The delays that are tried, from 0 on.
+    delays: Vec<u64>,
+    /// By segment from the last to the first, what the link's bits come to up to all latest ends behind it, after each delay.
+    worths: Vec<Vec<i128>>,
+}
+
+impl Outlook {
+    /// The outlook at these prices.
+    pub fn new(
+        alloc: Global,
+        scene: &Scene<'_>,
+        prices: &[u64],
+        shared: &[u64],
+    ) -> Result<Outlook, AllocError>
+        requires prices { IsForEach scene.now prices.now }
+        requires shared { IsForEachEdge scene.now shared.now }
+    {
+        prove!(scene.film().segments() > 0);
+        let delays = tried_delays(alloc, 0)?;
+        let mut table = stall_losses(alloc, scene, &delays)?;
+        let mut worths = Vec::new(alloc);
+        worths.push(table.to_vec(alloc)?)?;
+        for done in 1..prices.len() {
+            let segment = prices.len() - done;
+            let rise = rise_at(prices, shared, segment);
+            let fall = fall_at(prices, shared, segment);
+            add_end(scene, &delays, segment as u16, fall, &mut table);
+            worths.push(table.to_vec(alloc)?)?;
+            take_begin(scene, &delays, segment as u16, rise, &mut table);
+        }
+        Ok(Outlook { delays, worths })
+    }
+
+    /// What may come behind a segment that has a delay, when so many segments are left.
+    pub fn worth(&self, left: usize, delay: u64) -> i128 {
+        let place = place_below(&self.delays, delay);
+        match self.worths.get(left) {
+            None => 0,
+            Some(worths) => between(&self.delays, worths, place, delay),
+        }
+    }
+}
+
+/// The last of the delays that isn't above one.
+fn place_below(delays: &[u64], delay: u64) -> usize {
+    delays.partition_point(|d| *d <= delay).saturating_sub(1)
+}
+
+/// The worth of a delay, between those of the delays that are tried.
+fn between(delays: &[u64], worths: &[i128], place: usize, delay: u64) -> i128 {
+    if place + 1 >= delays.len() || place + 1 >= worths.len() {
+        return 0;
+    }
+    let width = delays[place + 1].saturating_sub(delays[place]).max(1);
+    let part = delay.saturating_sub(delays[place]).min(width);
+    let rise = worths[place + 1].saturating_sub(worths[place]);
+    worths[place].saturating_add((rise / width as i128).saturating_mul(part as i128))
 }
