@@ -76,3 +76,61 @@ fn long_films(rt: HostRuntime) -> Result<(), Fail> {
     }
     Ok(())
 }
+
+/// A film of so many segments of 1 s on three rungs, from the row of a number.
+fn small_film(alloc: Global, number: u64, segments: u32) -> Result<Manifest, Fail> {
+    let mut state = number;
+    let mut sizes = Vec::new(alloc);
+    for _ in 0..segments {
+        let least = 200_000 + 10 * draw(&mut state);
+        for rung in 1..4u32 {
+            sizes.push(least * rung * rung)?;
+        }
+    }
+    Ok(Manifest::from_parts(1000, vec![in alloc; 400, 1600, 3600]?, sizes).ok_or("not a film")?)
+}
+
+/// The next list of three rungs, in order; whether there is one.
+fn step(rungs: &mut Vec<u8>) -> bool {
+    for place in 0..rungs.len() {
+        if rungs[place] < 2 {
+            rungs[place] += 1;
+            return true;
+        }
+        rungs[place] = 0;
+    }
+    false
+}
+
+/// The greatest value of all lists.
+fn best_value(alloc: Global, scene: &Scene<'_>, segments: usize) -> Result<i128, Fail> {
+    let mut rungs = vec![in alloc; 0u8; segments]?;
+    let mut best = value_of_list(scene, &rungs);
+    while step(&mut rungs) {
+        best = best.max(value_of_list(scene, &rungs));
+    }
+    Ok(best)
+}
+
+#[test]
+fn small_films(rt: HostRuntime) -> Result<(), Fail> {
+    let alloc = rt.alloc();
+    let clock = clock(alloc)?;
+    for number in 0..12u64 {
+        let segments = 1 + number as u32 % 6;
+        let m = small_film(alloc, number, segments)?;
+        let utilities = vec![in alloc; 0, 500, 1200]?;
+        let stall = [10, 1000, 3000][number as usize % 3];
+        let weights = Weights::from_parts(utilities, 1, stall, 1).ok_or("no weights")?;
+        let set = Setup { buffer_ms: 2500, weights, abandon: false };
+        assert!(rt; set.fits(&m));
+        let scene = Scene::new(&m, &clock, &set, if number < 6 { 120_000_000 } else { 2000 });
+        let near = near_best(alloc, &scene)?;
+        let bound = bound_of_windows(alloc, &scene, &near.windows)?;
+        let value = value_of_list(&scene, &near.rungs);
+        let best = best_value(alloc, &scene, segments as usize)?;
+        println!(rt; "{number}: {value} best {best} bound {bound}")?;
+        assert!(rt; value <= best && best <= bound);
+    }
+    Ok(())
+}
