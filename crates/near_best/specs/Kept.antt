@@ -6,6 +6,7 @@ use Rattle.lab_model.specs.Number.{IsNear}
 use Rattle.lab_model.specs.declared.label.Label.{Label}
 use Rattle.player_core.specs.Scene.{Task}
 use Rattle.near_best.specs.declared.list.Kept.{Kept}
+use Rattle.near_best.specs.declared.list.Layer.{Layer}
 
 -- a label of a segment lies no farther than any along a rung list
 pub record IsInReach (segment : ℕ) (l : Label) : Type 0 where
@@ -22,3 +23,7 @@ pub record IsKept (g : Task) (segment : ℕ) (k : Kept) : Type 0 where
 pub record AreKept (g : Task) (segment : ℕ) (kept : List Kept) : Type 0 where
   pub few : length kept ≤ 512
   pub each : All (IsKept g segment) kept
+
+-- labels of segments, on rungs of the film
+abbrev pub AreOnRungs : Task → List Layer → Type 0
+AreOnRungs g layers = All (λ (l : Layer). All (λ (k : Kept). k.rung < rungs_of g.film) l.kept.items) layers

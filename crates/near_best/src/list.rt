@@ -1,10 +1,10 @@
 //! A good rung list: of the labels on a rung that come about as long before they are played, the best is kept.
 
-ghost use Rattle.std.specs.Prelude.{◌≡◌, ℕ, ◌+◌, ◌<◌, ◌≤◌, IfOk, IfSome, List, length};
+ghost use Rattle.std.specs.Prelude.{◌≡◌, ℕ, ◌-◌, ◌<◌, ◌≤◌, IfOk, IfSome, List, length};
 ghost use Rattle.std.specs.List.{All};
 ghost use Rattle.lab_model.specs.Film.{rungs_of, segments_of};
 ghost use Rattle.labels.specs.Labels.{AreRungs, start_label, next_label};
-ghost use Rattle.near_best.specs.Kept.{AreKept, IsInReach, IsKept};
+ghost use Rattle.near_best.specs.Kept.{AreKept, AreOnRungs, IsInReach, IsKept};
 ghost use Rattle.near_best.specs.Prices.{IsForEach, IsForEachEdge};
 
 use crate::demand::PRICE_UNIT;
@@ -29,6 +29,13 @@ pub struct Kept {
     pub rung: u8,
     /// The place of the label before.
     pub before: usize,
+}
+
+/// The labels that are kept of a segment.
+#[derive(Drop, Debug)]
+pub struct Layer {
+    /// In the order of their rungs.
+    pub kept: Vec<Kept>,
 }
 
 /// The place of a label among those of its rung: by how long its segment has come before it is played.
@@ -135,7 +142,7 @@ fn labels_on(
     requires segment { (1 ≤ segment) × (segment < segments_of scene.now.film) }
     requires before { AreKept scene.now (segment - 1) before.now }
     requires rung { rung < rungs_of scene.now.film }
-    ensures { All (λ o. IfSome o (IsKept scene.now segment)) result.entry }
+    ensures { All (λ o. IfSome o (IsKept scene.now segment)) result }
 {
     let mut places: [Option<Kept>; 32] = [None; 32];
     for number in 0..before.len() {
@@ -180,19 +187,19 @@ fn all_labels(
     alloc: Global,
     scene: &Scene<'_>,
     guide: &Guide,
-) -> Result<Vec<Vec<Kept>>, AllocError>
+) -> Result<Vec<Layer>, AllocError>
     ensures count { IfOk result (λ v. length v.items ≡ segments_of scene.now.film) }
-    ensures rungs { IfOk result (λ v. All (λ (l : Vec Kept Global). All (λ k. k.rung < rungs_of scene.now.film) l.items) v.items) }
+    ensures rungs { IfOk result (λ v. AreOnRungs scene.now v.items) }
 {
     let count = scene.film().segments();
     let mut layers = Vec::new(alloc);
     let mut last = first_labels(alloc, scene, guide)?;
     for segment in 1..count {
         let next = next_labels(alloc, scene, segment, &last, guide)?;
-        layers.push(last)?;
+        layers.push(Layer { kept: last })?;
         last = next;
     }
-    layers.push(last)?;
+    layers.push(Layer { kept: last })?;
     Ok(layers)
 }
 
@@ -222,11 +229,11 @@ pub struct Found {
 fn rungs_to(
     alloc: Global,
     scene: &Scene<'_>,
-    layers: &[Vec<Kept>],
+    layers: &[Layer],
     last: usize,
 ) -> Result<Vec<u8>, AllocError>
     requires count { length layers.now ≡ segments_of scene.now.film }
-    requires rungs { All (λ (l : Vec Kept Global). All (λ k. k.rung < rungs_of scene.now.film) l.items) layers.now }
+    requires rungs { AreOnRungs scene.now layers.now }
     ensures { IfOk result (λ v. AreRungs scene.now (segments_of scene.now.film) v.items) }
 {
     prove!(scene.film().rungs() > 0);
@@ -235,7 +242,7 @@ fn rungs_to(
     let mut place = last;
     for back in 0..count {
         let segment = count - 1 - back;
-        if let Some(kept) = layers[segment].get(place) {
+        if let Some(kept) = layers[segment].kept.get(place) {
             rungs[segment] = kept.rung;
             place = kept.before;
         }
@@ -249,7 +256,7 @@ pub fn near_list(alloc: Global, scene: &Scene<'_>, guide: &Guide) -> Result<Foun
 {
     prove!(scene.film().segments() > 0);
     let layers = all_labels(alloc, scene, guide)?;
-    let ends = &layers[layers.len() - 1];
+    let ends = &layers[layers.len() - 1].kept;
     let last = best_place(ends);
     let worth = match ends.get(last) {
         None => i128::MIN,
