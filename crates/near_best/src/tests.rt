@@ -55,24 +55,22 @@ fn setup(alloc: Global, buffer_ms: u32, stall: u32) -> Result<Setup, Fail> {
     Ok(Setup { buffer_ms, weights, abandon: false })
 }
 
+/// A weight of stalls, and the most that the bound may be above the value, in thousandths of it.
+const STALLS: [(u32, i128); 3] = [(10, 10), (1000, 40), (3000, 40)];
+
 #[test]
-fn long_films(rt: HostRuntime) -> Result<(), Fail> {
+fn wild_network(rt: HostRuntime) -> Result<(), Fail> {
     let alloc = rt.alloc();
-    let clock = clock(alloc)?;
-    for segments in [30u32, 199] {
-        for stall in [10, 1000, 3000] {
-            for buffer_ms in [8000, 25_000, 60_000] {
-                let (m, set) = (film(alloc, segments)?, setup(alloc, buffer_ms, stall)?);
-                assert!(rt; set.fits(&m));
-                let scene = Scene::on_demand(&m, &clock, &set);
-                let near = near_best(alloc, &scene)?;
-                let bound = bound_of_windows(alloc, &scene, &near.windows)?;
-                let value = value_of_list(&scene, &near.rungs);
-                let count = near.windows.len();
-                println!(rt; "{segments} stall {stall} buffer {buffer_ms}: {value} bound {bound} windows {count}")?;
-                assert!(rt; value <= bound);
-            }
-        }
+    let (m, clock) = (film(alloc, 30)?, clock(alloc)?);
+    for (stall, parts) in STALLS {
+        let set = setup(alloc, 25_000, stall)?;
+        assert!(rt; set.fits(&m));
+        let scene = Scene::on_demand(&m, &clock, &set);
+        let near = near_best(alloc, &scene)?;
+        let bound = bound_of_windows(alloc, &scene, &near.windows)?;
+        let value = value_of_list(&scene, &near.rungs);
+        println!(rt; "stall {stall}: {value} bound {bound}")?;
+        assert!(rt; value <= bound && 1000 * (bound - value) <= parts * value);
     }
     Ok(())
 }

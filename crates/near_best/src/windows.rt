@@ -1,7 +1,8 @@
 //! From prices of segments to windows.
 
-ghost use Rattle.std.specs.Prelude.{◌≡◌, ◌+◌, ◌<◌, ◌≤◌, IfOk, OnOk, length};
+ghost use Rattle.std.specs.Prelude.{◌≡◌, ℕ, ◌+◌, ◌<◌, ◌≤◌, IfOk, OnOk, length};
 ghost use Rattle.lab_model.specs.Film.{segments_of};
+ghost use Rattle.price_bounds.specs.Windows.{most_price};
 ghost use Rattle.near_best.specs.Prices.{AreBehind, AreInOrder, IsForEach, IsForEachEdge};
 
 use crate::demand::MOST_PRICE;
@@ -38,7 +39,24 @@ pub fn shared_prices(
     Ok(shared)
 }
 
+/// Adds a window in range that comes behind all others, where it has a price and there is room for it.
+#[tactic(auto, using(crate::proofs::Ordered::behind_later, crate::proofs::Ordered::behind_push))]
+fn add_window(windows: &mut Vec<Window>, window: Window) -> Result<(), AllocError>
+    requires segments { (1 ≤ window.first) × (window.first ≤ window.last) }
+    requires price { window.price ≤ most_price }
+    ensures { OnOk result ((segments : ℕ) → window.last < segments
+        → AreBehind segments window.first window.last windows.old.items
+        → AreBehind segments window.first (window.last + 1) windows.new.items) }
+{
+    if window.price == 0 || windows.len() >= MOST_WINDOWS {
+        return Ok(());
+    }
+    windows.push(window)?;
+    Ok(())
+}
+
 /// Adds the windows that begin with a segment.
+#[tactic(auto, using(crate::proofs::Ordered::behind_next))]
 fn add_windows(
     windows: &mut Vec<Window>,
     prices: &[u64],
@@ -55,13 +73,12 @@ fn add_windows(
     let mut level = prices[first].min(MOST_PRICE);
     for last in first..prices.len() {
         let next = shared[last + 1].max(floor);
-        if next < level && windows.len() < MOST_WINDOWS {
-            windows.push(Window {
-                first: first as u16,
-                last: last as u16,
-                price: level - next,
-            })?;
-        }
+        let window = Window {
+            first: first as u16,
+            last: last as u16,
+            price: level.saturating_sub(next),
+        };
+        add_window(windows, window)?;
         level = level.min(next);
     }
     Ok(())
