@@ -179,7 +179,7 @@ fn place_below(delays: &[u64], delay: u64) -> usize {
 
 /// The worth of a delay, between those of the delays that are tried.
 fn between(delays: &[u64], worths: &[i128], place: usize, delay: u64) -> i128 {
-    if place + 1 >= delays.len() || place + 1 >= worths.len() {
+    if place >= delays.len().saturating_sub(1) || place >= worths.len().saturating_sub(1) {
         return 0;
     }
     let width = delays[place + 1].saturating_sub(delays[place]).max(1);
