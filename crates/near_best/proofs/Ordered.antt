@@ -56,7 +56,7 @@ module _ (segments : ℕ) (ws : List Window) where
   behind_push w h begins order inside some most few =
       let later = behind_later w.first w.last h in
       let bad = add_last segments 0 0 0 ws w h.windows.order (All-weaker (ComesBefore w.first w.last) (λ v. comes_after v.first v.last w ≡ true) (comes_next w) ws h.before)
-          (grind (arith, nat_tests, begins)) (window_passes segments w begins order inside some most) in
+      (grind (arith, nat_tests, begins)) (window_passes segments w begins order inside some most) in
       let long = length-append ws (w ∷ []) in
       record {
         windows = record {

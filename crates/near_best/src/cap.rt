@@ -14,6 +14,7 @@ use std::alloc::{AllocError, Global};
 
 /// The parts by one of which a cap is lowered at a time: first to find a cap, then to find the best about it.
 const COARSE_PARTS: u64 = 2;
+
 const FINE_PARTS: u64 = 12;
 
 /// What prices come to where the player may stall.

@@ -64,8 +64,12 @@ fn rise_to(scene: &Scene<'_>, segment: u16, from: u8, to: u8) -> Option<Rise>
 {
     let film = scene.film();
     let weights = &scene.setup().weights;
-    let utility = weights.utility(segment, to).saturating_sub(weights.utility(segment, from));
-    let size = film.size(segment, to).saturating_sub(film.size(segment, from));
+    let utility = weights
+        .utility(segment, to)
+        .saturating_sub(weights.utility(segment, from));
+    let size = film
+        .size(segment, to)
+        .saturating_sub(film.size(segment, from));
     if utility == 0 || size == 0 {
         return None;
     }
@@ -83,13 +87,7 @@ fn steeper_of(best: Option<Rise>, next: Option<Rise>) -> Option<Rise>
     match (best, next) {
         (None, _) => next,
         (_, None) => best,
-        (Some(a), Some(b)) => {
-            if is_steeper(b, a) {
-                next
-            } else {
-                best
-            }
-        }
+        (Some(a), Some(b)) => { if is_steeper(b, a) { next } else { best } }
     }
 }
 

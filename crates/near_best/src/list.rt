@@ -183,11 +183,7 @@ fn next_labels(
 }
 
 /// The labels of all segments.
-fn all_labels(
-    alloc: Global,
-    scene: &Scene<'_>,
-    guide: &Guide,
-) -> Result<Vec<Layer>, AllocError>
+fn all_labels(alloc: Global, scene: &Scene<'_>, guide: &Guide) -> Result<Vec<Layer>, AllocError>
     ensures count { IfOk result (λ v. length v.items ≡ segments_of scene.now.film) }
     ensures rungs { IfOk result (λ v. AreOnRungs scene.now v.items) }
 {
@@ -285,5 +281,9 @@ pub fn better_list(
     let plain = near_list(alloc, scene, &guide)?;
     guide.outlook = Some(outlook);
     let other = near_list(alloc, scene, &guide)?;
-    Ok(if other.worth > plain.worth { other.rungs } else { plain.rungs })
+    Ok(if other.worth > plain.worth {
+        other.rungs
+    } else {
+        plain.rungs
+    })
 }

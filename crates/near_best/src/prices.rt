@@ -104,11 +104,7 @@ impl Carried {
 }
 
 /// The limits of each segment's price, from segment 1 on.
-fn limits_of(
-    alloc: Global,
-    scene: &Scene<'_>,
-    delays: &[u64],
-) -> Result<Vec<Limits>, AllocError>
+fn limits_of(alloc: Global, scene: &Scene<'_>, delays: &[u64]) -> Result<Vec<Limits>, AllocError>
     requires { IsForEach scene.now delays.now }
     ensures { IfOk result (λ v. length v.items + 1 ≡ segments_of scene.now.film) }
 {
@@ -133,11 +129,7 @@ fn limits_of(
 }
 
 /// The price of each segment, at most 10^12; that of segment 0 is 0.
-pub fn prices_of(
-    alloc: Global,
-    scene: &Scene<'_>,
-    delays: &[u64],
-) -> Result<Vec<u64>, AllocError>
+pub fn prices_of(alloc: Global, scene: &Scene<'_>, delays: &[u64]) -> Result<Vec<u64>, AllocError>
     requires { IsForEach scene.now delays.now }
     ensures { IfOk result (λ v. IsForEach scene.now v.items) }
 {

@@ -39,7 +39,9 @@ fn clock(alloc: Global) -> Result<Clock, Fail> {
     let mut level = 2_000_000u64;
     for _ in 0..300 {
         let up = 50 * draw(&mut state) as u64;
-        level = (level + up).saturating_sub(800_000).clamp(100_000, 6_000_000);
+        level = (level + up)
+            .saturating_sub(800_000)
+            .clamp(100_000, 6_000_000);
         periods.push(Period {
             duration_ms: 1000,
             bandwidth: level,
@@ -52,7 +54,11 @@ fn clock(alloc: Global) -> Result<Clock, Fail> {
 
 fn setup(alloc: Global, buffer_ms: u32, stall: u32) -> Result<Setup, Fail> {
     let weights = Weights::from_parts(UTILITIES.to_vec(alloc)?, 1, stall, 1).ok_or("no weights")?;
-    Ok(Setup { buffer_ms, weights, abandon: false })
+    Ok(Setup {
+        buffer_ms,
+        weights,
+        abandon: false,
+    })
 }
 
 /// A weight of stalls, and the most that the bound may be above the value, in thousandths of it.
@@ -120,9 +126,18 @@ fn small_films(rt: HostRuntime) -> Result<(), Fail> {
         let utilities = vec![in alloc; 0, 500, 1200]?;
         let stall = [10, 1000, 3000][number as usize % 3];
         let weights = Weights::from_parts(utilities, 1, stall, 1).ok_or("no weights")?;
-        let set = Setup { buffer_ms: 2500, weights, abandon: false };
+        let set = Setup {
+            buffer_ms: 2500,
+            weights,
+            abandon: false,
+        };
         assert!(rt; set.fits(&m));
-        let scene = Scene::new(&m, &clock, &set, if number < 6 { 120_000_000 } else { 2000 });
+        let scene = Scene::new(
+            &m,
+            &clock,
+            &set,
+            if number < 6 { 120_000_000 } else { 2000 },
+        );
         let near = near_best(alloc, &scene)?;
         let bound = bound_of_windows(alloc, &scene, &near.windows)?;
         let value = value_of_list(&scene, &near.rungs);

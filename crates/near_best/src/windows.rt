@@ -85,11 +85,7 @@ fn add_windows(
 }
 
 /// The windows whose prices sum up to those of the segments.
-pub fn windows_of(
-    alloc: Global,
-    prices: &[u64],
-    shared: &[u64],
-) -> Result<Vec<Window>, AllocError>
+pub fn windows_of(alloc: Global, prices: &[u64], shared: &[u64]) -> Result<Vec<Window>, AllocError>
     requires few { length prices.now ≤ 2000 }
     requires shared { length shared.now ≡ length prices.now + 1 }
     ensures { IfOk result (λ v. AreInOrder (length prices.now) v.items) }
