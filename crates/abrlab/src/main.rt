@@ -10,7 +10,7 @@ use std::process::ExitCode;
 use std::{env, io};
 
 // The status where the words were refused.
-fn refused(error: &io::Error) -> ExitCode {
+fn status_of(error: &io::Error) -> ExitCode {
     match error.kind() {
         io::ErrorKind::OutOfMemory => ExitCode::from(9),
         _ => ExitCode::from(8),
@@ -20,7 +20,7 @@ fn refused(error: &io::Error) -> ExitCode {
 fn main(rt: HostRuntime) -> ExitCode {
     let words = match env::args(&rt) {
         Ok(words) => words,
-        Err(error) => return refused(&error),
+        Err(error) => return status_of(&error),
     };
     let Ok(words) = words.skip(1).collect::<Vec<String>>(rt.alloc()) else {
         return ExitCode::from(9);

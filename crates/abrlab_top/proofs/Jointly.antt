@@ -33,7 +33,7 @@ use Rattle.abrlab_top.specs.declared.rule.AnyRule.{AnyRule}
 use Rattle.abrlab_top.specs.Answer.{printed}
 use Rattle.abrlab_top.specs.Outcome.{about, answer_of, manner_of}
 use Rattle.abrlab_top.specs.Players.{AreOf, joint_on, joint_text, play_jointly, play_jointly_on, player_line, players_text, simulate_by}
-use Rattle.abrlab_top.specs.Rules.{StandsFor, kind_of}
+use Rattle.abrlab_top.specs.Rules.{HasSeen, kind_of}
 use Rattle.abrlab_top.specs.Runs.{Ends}
 use Rattle.abrlab_top.specs.Stages.{at_the_end}
 use Rattle.abrlab_top.proofs.Networks.{all_mapped}
@@ -143,8 +143,8 @@ pub rules_done : (played : List AnyRule) (rules : List NamedRule) (i : ℕ) → 
 rules_done played rules i h e = let x = rw (drop_all i rules h) at e in sym (append-nil (map kind_of played)) ∙ x
 
 -- each is told nothing yet
-pub told_more : (played : List AnyRule) (one : AnyRule) → All (λ r. StandsFor r []) played → StandsFor one [] → All (λ r. StandsFor r []) (played ++ (one ∷ []))
-told_more played one h k = All-append (λ r. StandsFor r []) played (one ∷ []) h (All-cons (λ r. StandsFor r []) one [] k (All-nil (λ r. StandsFor r [])))
+pub told_more : (played : List AnyRule) (one : AnyRule) → All (λ r. HasSeen r []) played → HasSeen one [] → All (λ r. HasSeen r []) (played ++ (one ∷ []))
+told_more played one h k = All-append (λ r. HasSeen r []) played (one ∷ []) h (All-cons (λ r. HasSeen r []) one [] k (All-nil (λ r. HasSeen r [])))
 
 spoken_rules : (seen : List NamedRule) → map (λ (r : NamedRule). spoken r.rule) seen ≡ map (λ (r : Text × RuleKind). r.1) (map named seen)
 spoken_rules [] = refl

@@ -32,7 +32,7 @@ use Rattle.labels.specs.Grid.{exact}
 use Rattle.labels.specs.Parts.{CertificateParts}
 use Rattle.labels.specs.Read.{SpentAt}
 use Rattle.frontier_planner.specs.Planned.{IsPlanOf}
-use Rattle.session_report.specs.Regret.{AreScores, Scores, StandsFor, regret_line, total_line, total_of}
+use Rattle.session_report.specs.Regret.{AreScores, Scores, IsTotalOf, regret_line, total_line, total_of}
 use Rattle.session_report.specs.declared.regret.Total.{Total}
 use Rattle.session_report.proofs.Totals.{stands_is}
 use Rattle.abrlab_top.specs.declared.ending.Ending.{Ending}
@@ -283,7 +283,7 @@ unfolding seen_at
 column_is i table rule r same lt e = sym (map-map (seen_at rule) seen_scored table) ∙ ap (map (seen_at rule)) same ∙ same_on i rule r lt e i.networks
 
 -- the total of the networks before one counts fewer than all
-pub total_short : (rule k : ℕ) (table : List Scored) (t : Total) → StandsFor (map (scores_at rule) (take k table)) t → k < length table → length table ≤ 64 → t.count < 64
+pub total_short : (rule k : ℕ) (table : List Scored) (t : Total) → IsTotalOf (map (scores_at rule) (take k table)) t → k < length table → length table ≤ 64 → t.count < 64
 total_short rule k table t stands lt few =
     let count = stands.count in
     let mapped = length-map (take k table) (scores_at rule) in
@@ -303,19 +303,19 @@ pub scores_as : (score best points top : ℤ) → score ≡ points → best ≡ 
 scores_as score best points top e f h = subst (λ z. AreScores (z, best)) (sym e) (subst (λ z. AreScores (points, z)) (sym f) h)
 
 -- a total of equal scores
-pub total_as : (ps : List Scores) (t : Total) (score best points top : ℤ) → score ≡ points → best ≡ top → StandsFor (ps ++ (score, best) ∷ []) t → StandsFor (ps ++ (points, top) ∷ []) t
-total_as ps t score best points top e f h = subst (λ z. StandsFor (ps ++ (points, z) ∷ []) t) f (subst (λ z. StandsFor (ps ++ (z, best) ∷ []) t) e h)
+pub total_as : (ps : List Scores) (t : Total) (score best points top : ℤ) → score ≡ points → best ≡ top → IsTotalOf (ps ++ (score, best) ∷ []) t → IsTotalOf (ps ++ (points, top) ∷ []) t
+total_as ps t score best points top e f h = subst (λ z. IsTotalOf (ps ++ (points, z) ∷ []) t) f (subst (λ z. IsTotalOf (ps ++ (z, best) ∷ []) t) e h)
 
 -- one network more in the total
 pub total_more : (rule k : ℕ) (table : List Scored) (x : Scored) (score : ℤ) (t : Total) → k < length table → x ≡ get_or table k x → rule < length x.scores.items → score ≡ get_or x.scores.items rule score
-    → StandsFor (map (scores_at rule) (take k table) ++ (score, x.best) ∷ []) t → StandsFor (map (scores_at rule) (take (k + 1) table)) t
+    → IsTotalOf (map (scores_at rule) (take k table) ++ (score, x.best) ∷ []) t → IsTotalOf (map (scores_at rule) (take (k + 1) table)) t
 total_more rule k table x score t lt e low f stands =
     let here : score ≡ slice_index_or x.scores.items rule (pos 0) = f ∙ get_or_default x.scores.items rule score (pos 0) low in
-    subst (λ ps. StandsFor ps t) (ap (λ z. map (scores_at rule) (take k table) ++ (z, x.best) ∷ []) here ∙ sym (map_more (scores_at rule) table k x lt e)) stands
+    subst (λ ps. IsTotalOf ps t) (ap (λ z. map (scores_at rule) (take k table) ++ (z, x.best) ∷ []) here ∙ sym (map_more (scores_at rule) table k x lt e)) stands
 
 -- the total is that of the rule
 pub total_is : (i : InputValues) (table : List Scored) (rule : ℕ) (rules : List NamedRule) (r : NamedRule) (t : Total) → map named rules ≡ i.rules → map seen_scored table ≡ map (scored_on i) i.networks → rule < length rules → r ≡ get_or rules rule r
-    → StandsFor (map (scores_at rule) table) t → total_line (string_bytes r.name) t ≡ total_row i (named r)
+    → IsTotalOf (map (scores_at rule) table) t → total_line (string_bytes r.name) t ≡ total_row i (named r)
 total_is i table rule rules r t same seen lt e stands =
     let count : length i.rules ≡ length rules = sym (ap length same) ∙ length-map rules named in
     let here : named r ≡ get_or i.rules rule (named r) = ap named e ∙ sym (get_or-map named rules rule r (named r) lt) ∙ ap (λ rs. get_or rs rule (named r)) same in

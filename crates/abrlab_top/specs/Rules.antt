@@ -10,14 +10,14 @@ use Rattle.abrlab_top.specs.declared.rule.AnyRule.TheVariants as any
 abbrev pub kind_of : AnyRule → RuleKind
 kind_of (any.Fixed rule) = fixed rule.rung
 kind_of (any.Listed rule) = listed rule
-kind_of (any.Throughput rule) = windows.kind_of rule
+kind_of (any.Throughput rule) = windows.throughput_of rule
 kind_of (any.Bola rule) = bola rule
 kind_of (any.Mpc rule) = mpc rule.horizon
 
 -- the histories that each rule stands for: some look at none
-abbrev pub StandsFor : AnyRule → List ℕ → Type 0
-StandsFor (any.Fixed rule) history = Unit {0}
-StandsFor (any.Listed rule) history = Unit {0}
-StandsFor (any.Throughput rule) history = windows.StandsFor rule history
-StandsFor (any.Bola rule) history = Unit {0}
-StandsFor (any.Mpc rule) history = recall.StandsFor rule history
+abbrev pub HasSeen : AnyRule → List ℕ → Type 0
+HasSeen (any.Fixed rule) history = Unit {0}
+HasSeen (any.Listed rule) history = Unit {0}
+HasSeen (any.Throughput rule) history = windows.HoldLast rule history
+HasSeen (any.Bola rule) history = Unit {0}
+HasSeen (any.Mpc rule) history = recall.IsRecallOf rule history

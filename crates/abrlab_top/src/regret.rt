@@ -11,7 +11,7 @@ ghost use Rattle.lab_words.specs.Rules.{spoken};
 ghost use Rattle.lab_inputs.specs.Roles.{film_files};
 ghost use Rattle.lab_inputs.specs.Stages.{network_of};
 ghost use Rattle.player_core.specs.Scene.{IsTask};
-ghost use Rattle.session_report.specs.Regret.{StandsFor};
+ghost use Rattle.session_report.specs.Regret.{IsTotalOf};
 ghost use Rattle.abrlab_top.specs.Ending.{ended};
 ghost use Rattle.abrlab_top.specs.Outcome.{about};
 ghost use Rattle.abrlab_top.specs.Plan.{task_on};
@@ -230,7 +230,7 @@ fn total_at(table: &[Scored], rule: usize) -> Total
     requires few { length table.now ≤ 64 }
     requires wide { All (λ s. rule < length s.scores.items) table.now }
     requires ranked { All AreRanked table.now }
-    ensures { StandsFor (map (scores_at rule) table.now) result }
+    ensures { IsTotalOf (map (scores_at rule) table.now) result }
 {
     let mut total = Total::start();
     for scored in table {

@@ -4,7 +4,7 @@ ghost use Rattle.std.specs.Prelude.{◌≡◌, [], IfOk, map};
 ghost use Rattle.std.specs.List.{All};
 ghost use Rattle.lab_words.specs.Limits.{IsRuleWithin};
 ghost use Rattle.lab_words.specs.Rules.{spoken};
-ghost use Rattle.abrlab_top.specs.Rules.{StandsFor, kind_of};
+ghost use Rattle.abrlab_top.specs.Rules.{HasSeen, kind_of};
 
 use bola_rule::Bola;
 use lab_model::{Context, Manifest, NoMemory, Rule, Sample, Setup};
@@ -32,7 +32,7 @@ pub enum AnyRule {
 impl Rule for AnyRule {
     ghost kind = { kind_of };
 
-    ghost stands_for = { StandsFor };
+    ghost stands_for = { HasSeen };
 
     fn fits(&self, m: &Manifest) -> bool {
         match self {
@@ -69,7 +69,7 @@ impl Rule for AnyRule {
 pub(crate) fn any_rule(alloc: Global, rule: &RuleWords) -> Result<AnyRule, NoMemory>
     requires { IsRuleWithin (spoken rule.now) }
     ensures kind { IfOk result (λ r. kind_of r ≡ spoken rule.now) }
-    ensures told { IfOk result (λ r. StandsFor r []) }
+    ensures told { IfOk result (λ r. HasSeen r []) }
 {
     match rule {
         RuleWords::Fixed { rung } => Ok(AnyRule::Fixed(Fixed { rung: *rung })),
@@ -99,7 +99,7 @@ pub(crate) fn any_rules(alloc: Global, rules: &[NamedRule]) -> Result<Vec<AnyRul
     requires { All (λ rule. IsRuleWithin (spoken rule.rule)) rules.now }
     ensures kinds { IfOk result (λ rs. map kind_of rs.items
         ≡ map (λ rule. spoken rule.rule) rules.now) }
-    ensures told { IfOk result (λ rs. All (λ r. StandsFor r []) rs.items) }
+    ensures told { IfOk result (λ rs. All (λ r. HasSeen r []) rs.items) }
 {
     let mut played = Vec::new(alloc);
     for rule in rules {

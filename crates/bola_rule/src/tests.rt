@@ -16,7 +16,7 @@ fn film(alloc: Global) -> Result<Manifest, Fail> {
 }
 
 /// What BOLA chooses at a level, with a buffer of ten seconds and utilities 0 and 10.
-fn chosen(alloc: Global, g: u32, level: u32) -> Result<u8, Fail> {
+fn choice_of(alloc: Global, g: u32, level: u32) -> Result<u8, Fail> {
     let m = film(alloc)?;
     let utilities = [0, 10].to_vec(alloc)?;
     let set = Setup {
@@ -39,9 +39,9 @@ fn chosen(alloc: Global, g: u32, level: u32) -> Result<u8, Fail> {
 
 #[test]
 fn bola_tie(rt: HostRuntime) -> Result<(), Fail> {
-    assert_eq!(rt; chosen(rt.alloc(), 10, 0)?, 0);
-    assert_eq!(rt; chosen(rt.alloc(), 5, 0)?, 1);
-    assert_eq!(rt; chosen(rt.alloc(), 10, 9000)?, 1);
+    assert_eq!(rt; choice_of(rt.alloc(), 10, 0)?, 0);
+    assert_eq!(rt; choice_of(rt.alloc(), 5, 0)?, 1);
+    assert_eq!(rt; choice_of(rt.alloc(), 10, 9000)?, 1);
     Ok(())
 }
 

@@ -113,7 +113,7 @@ impl Inputs {
     }
 
     /// The coarse plan.
-    fn planned(
+    fn plan(
         &self,
         rt: &impl Abort,
         alloc: Global,
@@ -174,7 +174,7 @@ fn assert_plans(rt: &impl Abort, alloc: Global, case: &Case, rows: &[Row]) -> Re
             value: *value,
         };
         let coarse = inputs
-            .planned(rt, alloc, grid, 200_000)
+            .plan(rt, alloc, grid, 200_000)
             .map_err(|_| "no plan")?;
         assert_eq!(rt; coarse.plan.score, told.0);
         assert_eq!(rt; coarse.bound, told.1);
@@ -201,7 +201,7 @@ const COARSE: Grid = Grid {
 #[test]
 fn coarse_budget(rt: HostRuntime) -> Result<(), Fail> {
     let alloc = rt.alloc();
-    let answer = Inputs::of(alloc, &SLOW)?.planned(&rt, alloc, COARSE, 11);
+    let answer = Inputs::of(alloc, &SLOW)?.plan(&rt, alloc, COARSE, 11);
     assert_eq!(rt;
         answer.map(|c| c.bound),
         Err(PlanErr::BudgetSpent { segment: 2 })
@@ -244,7 +244,7 @@ end
 fn coarse_grid_text(rt: HostRuntime) -> Result<(), Fail> {
     let alloc = rt.alloc();
     let inputs = Inputs::of(alloc, &SLOW)?;
-    let Ok(coarse) = inputs.planned(&rt, alloc, COARSE, 200_000) else {
+    let Ok(coarse) = inputs.plan(&rt, alloc, COARSE, 200_000) else {
         return Err("no plan".into());
     };
     let mut out = SureSink::new(alloc);

@@ -26,7 +26,7 @@ use Rattle.lab_words.specs.Simulate.{players_by, players_in, several_players, si
 use Rattle.lab_words.specs.Table.{accepted}
 use Rattle.lab_model.specs.OptionSteps.{◌>>=◌}
 use Rattle.lab_model.proofs.OptionSteps.{then_some}
-use Rattle.lab_words.specs.Values.{Either, first, second, Gives, if_agreed, is_given, one_of, is_stray, several, some_plain, number_in, number_if, number_unless, unless_barred, optional, optional_number, required_text}
+use Rattle.lab_words.specs.Values.{Either, first, second, Reads, if_agreed, is_given, one_of, is_stray, several, some_plain, number_in, number_if, number_unless, unless_barred, optional, optional_number, required_text}
 use Rattle.lab_words.specs.Words.{asked_of, command_of, has_dashes, verb_of}
 use Rattle.lab_words.specs.declared.Command.{Command}
 use Rattle.lab_words.specs.declared.Verb.{Verb}
@@ -547,7 +547,7 @@ asked_within verb.Check words c h = let rows = went check_in (accepted check_app
 asked_within verb.Demo words c h = let rows = went demo_in (accepted demo_app words) c h in demo_within rows.0 c rows.2
 
 -- a call that gave what the words behind a command's name ask for
-pub gives_within : (v : Verb) (words : List Text) (r : Result Command WordsErr) → Gives view r (asked_of v words) → IfOk r (λ c. IsWithinLimits (view c))
+pub gives_within : (v : Verb) (words : List Text) (r : Result Command WordsErr) → Reads view r (asked_of v words) → IfOk r (λ c. IsWithinLimits (view c))
 gives_within v words (Ok c) h = asked_within v words (view c) h
 gives_within v words (Err e) h = tt
 

@@ -5,7 +5,7 @@ ghost use Rattle.clap.specs.Words.{found_of, rows_of};
 ghost use Rattle.lab_words.specs.Command.{view};
 ghost use Rattle.lab_words.specs.Check.{check_app, check_in};
 ghost use Rattle.lab_words.specs.Table.{accepted};
-ghost use Rattle.lab_words.specs.Values.{Gives};
+ghost use Rattle.lab_words.specs.Values.{Reads};
 ghost use Rattle.lab_words.specs.Words.{asked_of};
 
 use crate::settings::{MOST_LIVE, SETTINGS, settings_in};
@@ -27,7 +27,7 @@ static CHECK: [Word; 5] = [
 
 /// The matches of `check` on the words behind it.
 fn check_matches<'a>(alloc: Global, words: &'a [String]) -> Result<ArgMatches<'a>, WordsErr>
-    ensures { Gives (λ m. rows_of (found_of m)) result
+    ensures { Reads (λ m. rows_of (found_of m)) result
         (accepted check_app (map string_bytes words.entry.now)) }
 {
     table_matches(alloc, "check", &CHECK, &SETTINGS, words)
@@ -36,7 +36,7 @@ fn check_matches<'a>(alloc: Global, words: &'a [String]) -> Result<ArgMatches<'a
 /// What `check` is asked for, by the values of its options.
 #[tactic(auto, unfolding(crate::specs::Check::check_in))]
 fn check_in(alloc: Global, matches: &ArgMatches<'_>) -> Result<Command, WordsErr>
-    ensures { Gives view result (check_in (rows_of (found_of matches.now))) }
+    ensures { Reads view result (check_in (rows_of (found_of matches.now))) }
 {
     let manifest = file_name(alloc, matches, "manifest")?;
     let trace = file_name(alloc, matches, "trace")?;
@@ -59,7 +59,7 @@ fn check_in(alloc: Global, matches: &ArgMatches<'_>) -> Result<Command, WordsErr
 
 /// What the words behind `check` ask for.
 pub(crate) fn check_of(alloc: Global, words: &[String]) -> Result<Command, WordsErr>
-    ensures { Gives view result (asked_of Verb.Check (map string_bytes words.now)) }
+    ensures { Reads view result (asked_of Verb.Check (map string_bytes words.now)) }
 {
     let matches = check_matches(alloc, words)?;
     check_in(alloc, &matches)

@@ -5,7 +5,7 @@ ghost use Rattle.clap.specs.Words.{found_of, rows_of};
 ghost use Rattle.lab_words.specs.Command.{named, view};
 ghost use Rattle.lab_words.specs.Compare.{budget_in, compare_app, compare_in, distinct, few, rules_in, traces_in};
 ghost use Rattle.lab_words.specs.Table.{accepted};
-ghost use Rattle.lab_words.specs.Values.{Gives};
+ghost use Rattle.lab_words.specs.Values.{Reads};
 ghost use Rattle.lab_words.specs.Words.{asked_of};
 
 use crate::rules::{named_rules, pieces_of};
@@ -39,7 +39,7 @@ const MOST_TRACES: usize = 64;
 
 /// The matches of `compare` on the words behind it.
 fn compare_matches<'a>(alloc: Global, words: &'a [String]) -> Result<ArgMatches<'a>, WordsErr>
-    ensures { Gives (λ m. rows_of (found_of m)) result
+    ensures { Reads (λ m. rows_of (found_of m)) result
         (accepted compare_app (map string_bytes words.entry.now)) }
 {
     table_matches(alloc, "compare", &COMPARE, &SETTINGS, words)
@@ -60,7 +60,7 @@ fn distinct<'a>(alloc: Global, texts: &[&'a str]) -> Result<IndexSet<&'a str>, A
 /// At most so many texts without repeats, each at its first place.
 #[tactic(auto, unfolding(crate::specs::Compare::few))]
 fn few<'a>(alloc: Global, texts: &[&'a str], most: usize) -> Result<IndexSet<&'a str>, WordsErr>
-    ensures { Gives (λ set. map (λ text. text.now) set.keys) result
+    ensures { Reads (λ set. map (λ text. text.now) set.keys) result
         (few most (map (λ text. text.now) texts.now)) }
 {
     let set = distinct(alloc, texts)?;
@@ -73,7 +73,7 @@ fn few<'a>(alloc: Global, texts: &[&'a str], most: usize) -> Result<IndexSet<&'a
 /// The rules, joined by `/`.
 #[tactic(auto, unfolding(crate::specs::Compare::rules_in))]
 fn rules_in(alloc: Global, matches: &ArgMatches<'_>) -> Result<Vec<NamedRule>, WordsErr>
-    ensures { Gives (λ rules. map named rules.items) result
+    ensures { Reads (λ rules. map named rules.items) result
         (rules_in (rows_of (found_of matches.now))) }
 {
     let pieces = pieces_of(alloc, required_text(matches, "rules")?)?;
@@ -82,7 +82,7 @@ fn rules_in(alloc: Global, matches: &ArgMatches<'_>) -> Result<Vec<NamedRule>, W
 }
 
 /// The texts, owned.
-fn owned(alloc: Global, texts: &[&str]) -> Result<Vec<String>, AllocError>
+fn owned_texts(alloc: Global, texts: &[&str]) -> Result<Vec<String>, AllocError>
     ensures { IfOk result (λ names. map string_bytes names.items
         ≡ map (λ text. text.now) texts.now) }
 {
@@ -96,16 +96,16 @@ fn owned(alloc: Global, texts: &[&str]) -> Result<Vec<String>, AllocError>
 /// The traces.
 #[tactic(auto, unfolding(crate::specs::Compare::traces_in))]
 fn traces_in(alloc: Global, matches: &ArgMatches<'_>) -> Result<Vec<String>, WordsErr>
-    ensures { Gives (λ names. map string_bytes names.items) result
+    ensures { Reads (λ names. map string_bytes names.items) result
         (traces_in (rows_of (found_of matches.now))) }
 {
     let names = few(alloc, several(matches, "trace")?, MOST_TRACES)?;
-    Ok(owned(alloc, names.as_slice())?)
+    Ok(owned_texts(alloc, names.as_slice())?)
 }
 
 /// The budget, which is for regrets alone.
 fn budget_in(matches: &ArgMatches<'_>, regret: bool) -> Result<u32, WordsErr>
-    ensures { Gives (λ number. number) result (budget_in regret (rows_of (found_of matches.now))) }
+    ensures { Reads (λ number. number) result (budget_in regret (rows_of (found_of matches.now))) }
 {
     let default = if regret { 200_000 } else { 0 };
     number_unless(matches, "budget", !regret, default, 1, 1_000_000)
@@ -114,7 +114,7 @@ fn budget_in(matches: &ArgMatches<'_>, regret: bool) -> Result<u32, WordsErr>
 /// What `compare` is asked for, by the values of its options.
 #[tactic(auto, using(crate::proofs::Options::some_map), unfolding(crate::specs::Compare::compare_in))]
 fn compare_in(alloc: Global, matches: &ArgMatches<'_>) -> Result<Command, WordsErr>
-    ensures { Gives view result (compare_in (rows_of (found_of matches.now))) }
+    ensures { Reads view result (compare_in (rows_of (found_of matches.now))) }
 {
     let manifest = file_name(alloc, matches, "manifest")?;
     let rules = rules_in(alloc, matches)?;
@@ -141,7 +141,7 @@ fn compare_in(alloc: Global, matches: &ArgMatches<'_>) -> Result<Command, WordsE
 
 /// What the words behind `compare` ask for.
 pub(crate) fn compare_of(alloc: Global, words: &[String]) -> Result<Command, WordsErr>
-    ensures { Gives view result (asked_of Verb.Compare (map string_bytes words.now)) }
+    ensures { Reads view result (asked_of Verb.Compare (map string_bytes words.now)) }
 {
     let matches = compare_matches(alloc, words)?;
     compare_in(alloc, &matches)

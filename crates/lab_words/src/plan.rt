@@ -5,7 +5,7 @@ ghost use Rattle.clap.specs.Words.{found_of, rows_of};
 ghost use Rattle.lab_words.specs.Command.{view};
 ghost use Rattle.lab_words.specs.Plan.{grid_in, plan_app, plan_in};
 ghost use Rattle.lab_words.specs.Table.{accepted};
-ghost use Rattle.lab_words.specs.Values.{Gives};
+ghost use Rattle.lab_words.specs.Values.{Reads};
 ghost use Rattle.lab_words.specs.Words.{asked_of};
 
 use crate::numbers::grid_of;
@@ -29,7 +29,7 @@ static PLAN: [Word; 6] = [
 
 /// The matches of `plan` on the words behind it.
 fn plan_matches<'a>(alloc: Global, words: &'a [String]) -> Result<ArgMatches<'a>, WordsErr>
-    ensures { Gives (λ m. rows_of (found_of m)) result
+    ensures { Reads (λ m. rows_of (found_of m)) result
         (accepted plan_app (map string_bytes words.entry.now)) }
 {
     table_matches(alloc, "plan", &PLAN, &SETTINGS, words)
@@ -38,7 +38,7 @@ fn plan_matches<'a>(alloc: Global, words: &'a [String]) -> Result<ArgMatches<'a>
 /// The grid of a coarse plan, or zeros.
 #[tactic(auto, unfolding(crate::specs::Plan::grid_in))]
 fn grid_in(matches: &ArgMatches<'_>) -> Result<(u32, u32), WordsErr>
-    ensures { Gives (λ grid. grid) result (grid_in (rows_of (found_of matches.now))) }
+    ensures { Reads (λ grid. grid) result (grid_in (rows_of (found_of matches.now))) }
 {
     match optional(matches, "coarse")? {
         Some(text) => grid_of(text).ok_or(WordsErr::Usage),
@@ -49,7 +49,7 @@ fn grid_in(matches: &ArgMatches<'_>) -> Result<(u32, u32), WordsErr>
 /// What `plan` is asked for, by the values of its options.
 #[tactic(auto, unfolding(crate::specs::Plan::plan_in))]
 fn plan_in(alloc: Global, matches: &ArgMatches<'_>) -> Result<Command, WordsErr>
-    ensures { Gives view result (plan_in (rows_of (found_of matches.now))) }
+    ensures { Reads view result (plan_in (rows_of (found_of matches.now))) }
 {
     let manifest = file_name(alloc, matches, "manifest")?;
     let trace = file_name(alloc, matches, "trace")?;
@@ -74,7 +74,7 @@ fn plan_in(alloc: Global, matches: &ArgMatches<'_>) -> Result<Command, WordsErr>
 
 /// What the words behind `plan` ask for.
 pub(crate) fn plan_of(alloc: Global, words: &[String]) -> Result<Command, WordsErr>
-    ensures { Gives view result (asked_of Verb.Plan (map string_bytes words.now)) }
+    ensures { Reads view result (asked_of Verb.Plan (map string_bytes words.now)) }
 {
     let matches = plan_matches(alloc, words)?;
     plan_in(alloc, &matches)

@@ -119,7 +119,7 @@ const LATE_ROWS: [Row; 5] = [
 ];
 
 /// Score and end of the session of a rung.
-fn played(
+fn session_of(
     rt: &impl Abort,
     alloc: Global,
     inputs: &Inputs,
@@ -154,7 +154,7 @@ fn assert_rows(rt: &impl Abort, alloc: Global, case: &Case, rows: &[Row]) -> Res
     let inputs = Inputs::of(alloc, case)?;
     let (film, clock, setup) = (&inputs.film, &inputs.clock, &inputs.setup);
     for (ahead, told, best) in rows {
-        let (value, end) = played(rt, alloc, &inputs, *ahead, told.0)?;
+        let (value, end) = session_of(rt, alloc, &inputs, *ahead, told.0)?;
         assert_eq!(rt; value, told.1);
         assert_eq!(rt; end, told.2);
         assert!(rt; setup.fits(film) && *ahead <= 120_000_000);

@@ -321,7 +321,7 @@ fn truncated_manifests(rt: HostRuntime) -> Result<(), Fail> {
 }
 
 /// A manifest with a title that nests so deep.
-fn nested(alloc: Global, depth: usize) -> Result<String, Fail> {
+fn deep_manifest(alloc: Global, depth: usize) -> Result<String, Fail> {
     let open = "[".repeat(alloc, depth)?;
     let close = "]".repeat(alloc, depth)?;
     Ok(format!(in alloc;
@@ -332,7 +332,7 @@ fn nested(alloc: Global, depth: usize) -> Result<String, Fail> {
 
 #[test]
 fn accepted_manifests(rt: HostRuntime) -> Result<(), Fail> {
-    let deepest = nested(rt.alloc(), 126)?;
+    let deepest = deep_manifest(rt.alloc(), 126)?;
     let manifest = read_manifest(rt.alloc(), deepest.as_bytes()).expect(&rt, "a manifest");
     assert_eq!(rt; manifest.seg_ms(), 1000);
     let rungs = manifest.rungs();
@@ -342,7 +342,7 @@ fn accepted_manifests(rt: HostRuntime) -> Result<(), Fail> {
     assert_eq!(rt; [manifest.bitrate(0), manifest.bitrate(1)], [1000, 2000]);
     assert_eq!(rt; [manifest.size(0, 0), manifest.size(0, 1)], [1, 20]);
     assert_eq!(rt; [manifest.size(1, 0), manifest.size(1, 1)], [300, 4000]);
-    let too_deep = nested(rt.alloc(), 127)?;
+    let too_deep = deep_manifest(rt.alloc(), 127)?;
     assert_eq!(rt;
         refusal_of(&rt, &read_manifest(rt.alloc(), too_deep.as_bytes())),
         not_json()

@@ -12,7 +12,7 @@ use Rattle.lab_model.proofs.Rungs.{rungs_more}
 use Rattle.mpc_rule.specs.declared.outlook.Outlook.{Outlook}
 use Rattle.mpc_rule.specs.declared.forecast.Draft.{Draft}
 use Rattle.mpc_rule.specs.Search.{best_after, better, completions, extended, ladder_of}
-use Rattle.mpc_rule.specs.Hopes.{IsUnder}
+use Rattle.mpc_rule.specs.Relaxations.{IsUnder}
 
 -- ---- the list that is kept of two
 

@@ -12,7 +12,7 @@ use Rattle.lab_model.specs.Horizon.{horizon_score}
 use Rattle.lab_model.specs.Mpc.{best_list, lists_ahead, mpc_choice}
 use Rattle.lab_model.specs.Rates.{error_after, errors_from, errors_of, greatest, harmonic_of, last_of, robust_rate}
 use Rattle.lab_model.proofs.Histories.{last_of_push}
-use Rattle.mpc_rule.specs.Recall.{IsRing, Recall, StandsFor, rate_ahead}
+use Rattle.mpc_rule.specs.Recall.{IsRing, Recall, IsRecallOf, rate_ahead}
 
 -- ---- the rings keep their limits
 
@@ -48,8 +48,8 @@ errors_from_more before (c ∷ cs) x =
     ∙ ap (λ (h : List ℕ). errors_from (before ++ c ∷ []) cs ++ error_after h x ∷ []) (append_assoc before (c ∷ []) cs))
 
 -- the first sample, which has no error
-pub stands_first : (old now : Recall) (history : List ℕ) (x : ℕ) → StandsFor old history → length old.rates ≡ 0
-    → now.rates ≡ last_of 5 (old.rates ++ x ∷ []) → now.errors ≡ old.errors → StandsFor now (history ++ x ∷ [])
+pub stands_first : (old now : Recall) (history : List ℕ) (x : ℕ) → IsRecallOf old history → length old.rates ≡ 0
+    → now.rates ≡ last_of 5 (old.rates ++ x ∷ []) → now.errors ≡ old.errors → IsRecallOf now (history ++ x ∷ [])
 stands_first old now [] x s none rates errors = record {
   rates = rates ∙ ap (λ (r : List ℕ). last_of 5 (r ++ x ∷ [])) s.rates;
   errors = errors ∙ s.errors;
@@ -58,9 +58,9 @@ stands_first old now (c ∷ cs) x s none rates errors =
     let long = ap length s.rates in let cut = length-drop (length (c ∷ cs) - 5) (c ∷ cs) in absurd (omega (arith, none, long, cut))
 
 -- a later sample, with its error
-pub stands_more : (old now : Recall) (history : List ℕ) (x e : ℕ) → StandsFor old history → 0 < length old.rates
+pub stands_more : (old now : Recall) (history : List ℕ) (x e : ℕ) → IsRecallOf old history → 0 < length old.rates
     → e ≡ 1000 * abs_diff (harmonic_of old.rates) x / x
-    → now.rates ≡ last_of 5 (old.rates ++ x ∷ []) → now.errors ≡ last_of 5 (old.errors ++ e ∷ []) → StandsFor now (history ++ x ∷ [])
+    → now.rates ≡ last_of 5 (old.rates ++ x ∷ []) → now.errors ≡ last_of 5 (old.errors ++ e ∷ []) → IsRecallOf now (history ++ x ∷ [])
 stands_more old now [] x e s some is rates errors = let long = ap length s.rates in absurd (omega (arith, some, long))
 stands_more old now (c ∷ cs) x e s some is rates errors =
     let error : e ≡ error_after (c ∷ cs) x = is ∙ ap (λ (r : List ℕ). 1000 * abs_diff (harmonic_of r) x / x) s.rates in
@@ -73,7 +73,7 @@ stands_more old now (c ∷ cs) x e s some is rates errors =
 -- ---- the choice
 
 -- where there are samples, the choice is by the rate that the rings give
-pub choice_is : (r : Recall) (f : Film) (set : Setup) (c : Context) (history : List ℕ) → StandsFor r history → 0 < length r.rates
+pub choice_is : (r : Recall) (f : Film) (set : Setup) (c : Context) (history : List ℕ) → IsRecallOf r history → 0 < length r.rates
     → mpc_choice r.horizon f set c history ≡ slice_index (best_list (horizon_score f set (rate_ahead r) c.next c.level c.last) (lists_ahead r.horizon f c.next)) 0
 choice_is r f set c [] s some = let long = ap length s.rates in absurd (omega (arith, some, long))
 choice_is r f set c (x ∷ xs) s some =

@@ -7,7 +7,7 @@ use Rattle.mpc_rule.specs.declared.outlook.Outlook.{Outlook}
 use Rattle.mpc_rule.specs.declared.forecast.Draft.{Draft}
 use Rattle.mpc_rule.specs.declared.forecast.Forecast.{Forecast}
 use Rattle.mpc_rule.specs.Search.{IsDraft, IsPart, IsWhole, completions, extended, ladder_of, start_of}
-use Rattle.mpc_rule.specs.Hopes.{IsUnder}
+use Rattle.mpc_rule.specs.Relaxations.{IsUnder}
 use Rattle.mpc_rule.proofs.Floors.{extended_whole, whole_itself}
 
 -- one more rung counts one more

@@ -12,8 +12,8 @@ use Rattle.mpc_rule.specs.declared.outlook.Outlook.{Outlook}
 use Rattle.mpc_rule.specs.declared.forecast.Draft.{Draft}
 use Rattle.mpc_rule.specs.Search.{IsDraft, completions, extended, gain_of, ladder_of, segment_after, wait_of, weights_of}
 use Rattle.mpc_rule.specs.declared.forecast.Forecast.{Forecast}
-use Rattle.mpc_rule.specs.declared.hope.Hope.{Hope}
-use Rattle.mpc_rule.specs.Hopes.{IsHope, IsMost, IsPromise, IsUnder, promise_of, room_of}
+use Rattle.mpc_rule.specs.declared.relaxation.Relaxation.{Relaxation}
+use Rattle.mpc_rule.specs.Relaxations.{IsRelaxation, IsMost, IsPromise, IsUnder, promise_of, room_of}
 
 times : (p a b c : ℕ) → p * (a + b + c) ≡ p * a + p * b + p * c
 times p a b c = omega arith
@@ -123,10 +123,10 @@ most_more o p n k m y z low small short promise is rest e = record {
 }
 
 -- what a list in hand comes to at most
-pub reach_is : (f : Forecast) (h : Hope) (d : Draft) (more : ℕ) (y z : ℤ) → IsHope f h → IsDraft f.outlook d more → 0 < more → d.count + more ≡ f.length
+pub reach_is : (f : Forecast) (h : Relaxation) (d : Draft) (more : ℕ) (y z : ℤ) → IsRelaxation f h → IsDraft f.outlook d more → 0 < more → d.count + more ≡ f.length
     → z ≡ top d h.price (slice_index_or h.most (more - 1) y) → All (IsUnder z) (completions f.outlook more d)
-reach_is f h d more y z hope is some whole e =
-    let most = hope.most (more - 1) y (omega (arith, some, whole)) in
+reach_is f h d more y z relaxation is some whole e =
+    let most = relaxation.most (more - 1) y (omega (arith, some, whole)) in
     let n : more - 1 + 1 ≡ more = omega (arith, some) in
     let count : d.count ≡ f.length - (more - 1 + 1) = omega (arith, some, whole) in
     subst (λ (x : ℤ). All (IsUnder x) (completions f.outlook more d)) (sym e)

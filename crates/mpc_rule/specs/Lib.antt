@@ -1,3 +1,3 @@
 pub mod Search
-pub mod Hopes
+pub mod Relaxations
 pub mod Recall

@@ -12,7 +12,7 @@ pub record Recall : Type 0 where
   pub errors : List ℕ
 
 -- it stands for a history: it keeps the last 5 of its rates, and the last 5 of their errors
-pub record StandsFor (r : Recall) (history : List ℕ) : Type 0 where
+pub record IsRecallOf (r : Recall) (history : List ℕ) : Type 0 where
   pub rates : r.rates ≡ last_of 5 history
   pub errors : r.errors ≡ last_of 5 (errors_of history)
 

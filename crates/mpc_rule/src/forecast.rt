@@ -129,7 +129,7 @@ impl Forecast<'_> {
     }
 
     /// The list with one more rung.
-    pub(crate) fn extended(&self, draft: Draft, rung: u8) -> Draft
+    pub(crate) fn with_rung(&self, draft: Draft, rung: u8) -> Draft
         requires forecast { IsForecast self.now }
         requires draft { IsDraft self.now.outlook draft 1 }
         requires segment { draft.count < self.now.length }

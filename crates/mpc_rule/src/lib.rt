@@ -5,10 +5,10 @@
 ghost use Rattle.std.specs.Prelude.{◌≡◌, ◌≤◌, ◌<◌, ◌↔◌, [], ◌∷◌, ◌++◌, ℕ, List, length, IfOk, IsTrue};
 ghost use Rattle.lab_model.specs.Film.{IsWithin};
 ghost use Rattle.lab_model.specs.Rules.{mpc};
-ghost use Rattle.mpc_rule.specs.Recall.{Recall, StandsFor, rate_ahead};
+ghost use Rattle.mpc_rule.specs.Recall.{Recall, IsRecallOf, rate_ahead};
 
 mod forecast;
-mod hope;
+mod relaxation;
 mod outlook;
 mod ring;
 mod search;
@@ -67,7 +67,7 @@ impl RobustMpc {
     /// The rule of a horizon of 1 to 5 segments, for the empty history. `BadHorizon` exactly where the horizon is 0 or above 5.
     pub fn new(alloc: Global, horizon: u8) -> Result<RobustMpc, MpcErr>
         ensures kind { IfOk result (λ r. r.horizon ≡ horizon) }
-        ensures stands { IfOk result (λ r. StandsFor r []) }
+        ensures stands { IfOk result (λ r. IsRecallOf r []) }
         ensures bad { (result ≡ Err MpcErr.BadHorizon) ↔ (¬ IsWithin 1 5 horizon) }
     {
         if horizon == 0 || horizon as usize > LONGEST {
@@ -93,7 +93,7 @@ impl RobustMpc {
 impl Rule for RobustMpc {
     ghost kind = { λ r. mpc r.horizon };
 
-    ghost stands_for = { StandsFor };
+    ghost stands_for = { IsRecallOf };
 
     fn fits(&self, m: &Manifest) -> bool {
         let _ = m;

@@ -3,10 +3,10 @@
 ghost use Rattle.std.specs.Prelude.{◌≡◌, ◌+◌, ◌<◌, ◌≤◌, false};
 ghost use Rattle.std.specs.List.{All};
 ghost use Rattle.mpc_rule.specs.Search.{IsDraft, IsForecast, IsOutlook, IsWhole, best_after, best_rung, completions, ladder_of, segments_ahead};
-ghost use Rattle.mpc_rule.specs.Hopes.{IsHopeless, IsSearch, IsUnder};
+ghost use Rattle.mpc_rule.specs.Relaxations.{IsHopeless, IsSearch, IsUnder};
 
 use crate::forecast::{Draft, Forecast};
-use crate::hope::Hope;
+use crate::relaxation::Relaxation;
 use crate::outlook::Outlook;
 
 /// A search for the best list.
@@ -14,9 +14,9 @@ use crate::outlook::Outlook;
 struct Search<'a> {
     forecast: Forecast<'a>,
     /// What can be added where media costs nothing.
-    free: Hope,
+    free: Relaxation,
     /// What can be added at the price at which that is about least.
-    modest: Hope,
+    tight: Relaxation,
 }
 
 impl Search<'_> {
@@ -30,9 +30,9 @@ impl Search<'_> {
         if more == 0 {
             return draft.score;
         }
-        let free = self.forecast.reach(&self.free, draft, more);
-        let modest = self.forecast.reach(&self.modest, draft, more);
-        free.min(modest)
+        let free = self.forecast.bound(&self.free, draft, more);
+        let tight = self.forecast.bound(&self.tight, draft, more);
+        free.min(tight)
     }
 
     /// Whether a list might come to a greater score than the best one so far.
@@ -62,7 +62,7 @@ impl Search<'_> {
         }
         let mut best = best;
         for rung in 0..self.forecast.outlook.rungs {
-            let longer = self.forecast.extended(draft, rung);
+            let longer = self.forecast.with_rung(draft, rung);
             if self.could_beat(&longer, more - 1, &best) {
                 best = self.best_after(longer, more - 1, best);
             }
@@ -78,7 +78,7 @@ impl Search<'_> {
     {
         let mut draft = self.forecast.start();
         for i in 0..self.forecast.length {
-            draft = self.forecast.extended(draft, rung);
+            draft = self.forecast.with_rung(draft, rung);
         }
         draft
     }
@@ -92,7 +92,7 @@ impl Search<'_> {
     {
         let (mut lead, mut most) = (0, i64::MIN);
         for rung in 0..self.forecast.outlook.rungs {
-            let prospect = self.prospect(&self.forecast.extended(draft, rung), more);
+            let prospect = self.prospect(&self.forecast.with_rung(draft, rung), more);
             if most < prospect {
                 (lead, most) = (rung, prospect);
             }
@@ -101,7 +101,7 @@ impl Search<'_> {
     }
 
     /// A list each of whose rungs is the one by which it can come to most.
-    fn led(&self) -> Draft
+    fn leading_list(&self) -> Draft
         requires { IsSearch self.now }
         ensures { IsWhole self.now.forecast result }
     {
@@ -109,24 +109,24 @@ impl Search<'_> {
         let mut draft = self.forecast.start();
         for count in 0..length {
             let rung = self.lead(draft, length - 1 - count);
-            draft = self.forecast.extended(draft, rung);
+            draft = self.forecast.with_rung(draft, rung);
         }
         draft
     }
 
     /// A whole list with a great score.
-    fn good(&self) -> Draft
+    fn incumbent(&self) -> Draft
         requires { IsSearch self.now }
         ensures { IsWhole self.now.forecast result }
     {
-        let mut good = self.led();
+        let mut incumbent = self.leading_list();
         for rung in 0..self.forecast.outlook.rungs {
             let list = self.constant(rung);
-            if good.score < list.score {
-                good = list;
+            if incumbent.score < list.score {
+                incumbent = list;
             }
         }
-        good
+        incumbent
     }
 
     /// The first rung of the first list with the greatest score. The search begins with a score that some list passes.
@@ -134,7 +134,7 @@ impl Search<'_> {
         requires { IsSearch self.now }
         ensures { result ≡ best_rung self.now.forecast.outlook self.now.forecast.length }
     {
-        let mut below = self.good();
+        let mut below = self.incumbent();
         below.score -= 1;
         self.best_after(self.forecast.start(), self.forecast.length, below)
             .first
@@ -152,8 +152,8 @@ impl Outlook<'_> {
         let forecast = self.forecast(length);
         let search = Search {
             forecast,
-            free: forecast.hope(0),
-            modest: forecast.modest_hope(),
+            free: forecast.relaxation(0),
+            tight: forecast.tight_relaxation(),
         };
         search.first_rung()
     }

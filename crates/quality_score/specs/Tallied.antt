@@ -13,7 +13,7 @@ pub record Tallied : Type 0 where
   pub count : ℕ
 
 -- the tally stands for these segments under these weights
-pub record StandsFor (w : Weighing) (ps : List Played) (t : Tallied) : Type 0 where
+pub record IsTallyOf (w : Weighing) (ps : List Played) (t : Tallied) : Type 0 where
   pub utilities : t.utilities ≡ utilities_of w ps
   pub changes : t.changes ≡ changes_of w None ps
   pub last : t.last ≡ last_rung None ps

@@ -6,7 +6,7 @@ ghost use Rattle.std.specs.List.{All};
 ghost use Rattle.lab_model.specs.declared.context.Played.{Played};
 ghost use Rattle.lab_model.specs.Weighing.{HasUtility, IsWeighing, Weighing, change_of, utility_of};
 ghost use Rattle.quality_score.specs.Score.{CanScore, score_of};
-ghost use Rattle.quality_score.specs.Tallied.{IsSmall, StandsFor};
+ghost use Rattle.quality_score.specs.Tallied.{IsSmall, IsTallyOf};
 
 use lab_model::{Played, Weights};
 use std::marker::Model;
@@ -51,7 +51,7 @@ fn penalty(w: &Weights, changes: u64, stall_ms: u64, startup_ms: u64) -> u128
 impl Tally {
     /// A tally of no segment.
     pub fn start() -> Tally
-        ensures stands { (w : Weighing) → StandsFor w [] result }
+        ensures stands { (w : Weighing) → IsTallyOf w [] result }
         ensures last { result.last ≡ None }
         ensures count { result.count ≡ 0 }
     {
@@ -69,8 +69,8 @@ impl Tally {
         requires utility { HasUtility w.now p.segment p.rung }
         requires before { IfSome self.old.last (λ q. q < w.now.count) }
         requires count { self.old.count < 40000 }
-        ensures stands { (ps : List Played) → StandsFor w.now ps self.old
-            → StandsFor w.now (ps ++ p ∷ []) self.new }
+        ensures stands { (ps : List Played) → IsTallyOf w.now ps self.old
+            → IsTallyOf w.now (ps ++ p ∷ []) self.new }
         ensures last { self.new.last ≡ Some p.rung }
         ensures more { self.new.count ≡ self.old.count + 1 }
     {
@@ -84,7 +84,7 @@ impl Tally {
     pub fn total(&self, stall_ms: u64, startup_ms: u64, w: &Weights) -> i128
         requires stall { stall_ms ≤ 1000000000000000 }
         requires startup { startup_ms ≤ 1000000000000000 }
-        ensures { (ps : List Played) → StandsFor w.now ps self.now
+        ensures { (ps : List Played) → IsTallyOf w.now ps self.now
             → result ≡ score_of w.now ps stall_ms startup_ms }
     {
         1000 * self.utilities as i128 - penalty(w, self.changes, stall_ms, startup_ms) as i128

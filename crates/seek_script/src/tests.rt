@@ -91,7 +91,7 @@ fn text_of(alloc: Global, rows: &str) -> Result<String, Fail> {
     Ok(text)
 }
 
-fn wanted(kind: Kind, key: Key, row: u32, column: u32) -> Refusal {
+fn refusal_at(kind: Kind, key: Key, row: u32, column: u32) -> Refusal {
     Refusal {
         kind,
         key,
@@ -104,7 +104,7 @@ fn wanted(kind: Kind, key: Key, row: u32, column: u32) -> Refusal {
 fn bad_headers(rt: HostRuntime) -> Result<(), Fail> {
     for (text, kind, key, row, column) in BAD_HEADERS {
         let refusal = refusal_of(&rt, &read_seeks(rt.alloc(), text.as_bytes(), 3));
-        assert_eq!(rt; refusal, wanted(kind, key, row, column), "{text}");
+        assert_eq!(rt; refusal, refusal_at(kind, key, row, column), "{text}");
     }
     Ok(())
 }
@@ -114,7 +114,7 @@ fn bad_seeks(rt: HostRuntime) -> Result<(), Fail> {
     for (rows, kind, key, row, column) in BAD_SEEKS {
         let text = text_of(rt.alloc(), rows)?;
         let refusal = refusal_of(&rt, &read_seeks(rt.alloc(), text.as_bytes(), 3));
-        assert_eq!(rt; refusal, wanted(kind, key, row, column), "{rows}");
+        assert_eq!(rt; refusal, refusal_at(kind, key, row, column), "{rows}");
     }
     Ok(())
 }

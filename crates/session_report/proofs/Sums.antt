@@ -6,7 +6,7 @@ use Rattle.std.specs.Int.{int_max}
 use Rattle.std.proofs.lemmas.Int.{ints, clamps}
 use Rattle.std.proofs.lemmas.List.Elements.{All-head, All-push, All-tail}
 use Rattle.session_report.specs.declared.regret.Total.{Total}
-use Rattle.session_report.specs.Regret.{AreScores, Scores, bests_sum, regret_of, regrets_sum, scores_sum, StandsFor, worst_of}
+use Rattle.session_report.specs.Regret.{AreScores, Scores, bests_sum, regret_of, regrets_sum, scores_sum, IsTotalOf, worst_of}
 
 -- a number within n of 0
 pub record IsWithinOf (n : ℕ) (z : ℤ) : Type 0 where
@@ -66,9 +66,9 @@ worst_more [] p = omega (arith, ints, clamps)
 worst_more (q ∷ ps) p = let rest = worst_more ps p in omega (arith, ints, clamps)
 
 -- the total after one more pair
-pub stands_more : (ps : List Scores) (score best : ℤ) (t u : Total) → AreScores (score, best) → t.count < 64 → StandsFor ps t
+pub stands_more : (ps : List Scores) (score best : ℤ) (t u : Total) → AreScores (score, best) → t.count < 64 → IsTotalOf ps t
     → u.score ≡ t.score +ℤ score → u.best ≡ t.best +ℤ best → u.regret ≡ t.regret +ℤ (best -ℤ score) → u.worst ≡ int_max t.worst (best -ℤ score) → u.count ≡ t.count + 1
-    → StandsFor (ps ++ (score, best) ∷ []) u
+    → IsTotalOf (ps ++ (score, best) ∷ []) u
 stands_more ps score best t u pair room stands e f g h k =
     let counted : length (ps ++ (score, best) ∷ []) ≡ length ps + 1 = length-append ps ((score, best) ∷ []) in
     record {

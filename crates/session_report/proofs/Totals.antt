@@ -5,7 +5,7 @@ use Rattle.std.specs.List.{All}
 use Rattle.std.proofs.lemmas.Int.{ints, clamps}
 use Rattle.std.proofs.lemmas.List.Elements.{All-head, All-tail}
 use Rattle.session_report.specs.declared.regret.Total.{Total}
-use Rattle.session_report.specs.Regret.{AreScores, Scores, StandsFor, regrets_sum, total_of, worst_of}
+use Rattle.session_report.specs.Regret.{AreScores, Scores, IsTotalOf, regrets_sum, total_of, worst_of}
 
 -- the total of these fields
 abbrev total_with : ℤ → ℤ → ℤ → ℤ → ℕ → Total
@@ -15,7 +15,7 @@ same_total : (a b c d e f g h : ℤ) (m n : ℕ) → a ≡ e → b ≡ f → c �
 same_total a b c d e f g h m n p q r s t = cc
 
 -- what stands for a list is the list's total
-pub stands_is : (ps : List Scores) (t : Total) → StandsFor ps t → t ≡ total_of ps
+pub stands_is : (ps : List Scores) (t : Total) → IsTotalOf ps t → t ≡ total_of ps
 stands_is ps t s = same_total t.score t.best t.regret t.worst _ _ _ _ t.count _ s.score s.best s.regret s.worst s.count
 
 -- regrets of pairs in order come to at least 0

@@ -47,7 +47,7 @@ abbrev pub total_of : List Scores → Total
 total_of ps = record { score = scores_sum ps; best = bests_sum ps; regret = regrets_sum ps; worst = worst_of ps; count = length ps }
 
 -- a total stands for a list of at most 64 pairs
-pub record StandsFor (ps : List Scores) (t : Total) : Type 0 where
+pub record IsTotalOf (ps : List Scores) (t : Total) : Type 0 where
   pub score : t.score ≡ scores_sum ps
   pub best : t.best ≡ bests_sum ps
   pub regret : t.regret ≡ regrets_sum ps

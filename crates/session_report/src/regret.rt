@@ -2,7 +2,7 @@
 ghost use Rattle.std.specs.Prelude.{◌≡◌, ◌^◌, ◌<◌, ◌∷◌, [], ◌++◌, List, pos};
 ghost use Rattle.lab_io.specs.Sink.{Puts};
 ghost use Rattle.lab_model.specs.Number.{IsNear};
-ghost use Rattle.session_report.specs.Regret.{AreScores, Scores, StandsFor, regret_line, total_line};
+ghost use Rattle.session_report.specs.Regret.{AreScores, Scores, IsTotalOf, regret_line, total_line};
 
 use lab_io::Piece::{Number, Word};
 use lab_io::{PutErr, Sink, put_fields};
@@ -28,7 +28,7 @@ impl Total {
     pub fn start() -> Total
         ensures zero { result
             ≡ record { score = pos 0; best = pos 0; regret = pos 0; worst = pos 0; count = 0 } }
-        ensures stands { StandsFor [] result }
+        ensures stands { IsTotalOf [] result }
     {
         Total {
             score: 0,
@@ -44,9 +44,9 @@ impl Total {
     pub fn add(&mut self, score: i128, best: i128)
         requires pair { AreScores (score, best) }
         requires room { self.old.count < 64 }
-        requires list { (ps : List Scores) × StandsFor ps self.old }
-        ensures { (ps : List Scores) → StandsFor ps self.old
-            → StandsFor (ps ++ (score, best) ∷ []) self.new }
+        requires list { (ps : List Scores) × IsTotalOf ps self.old }
+        ensures { (ps : List Scores) → IsTotalOf ps self.old
+            → IsTotalOf (ps ++ (score, best) ∷ []) self.new }
     {
         let regret = best - score;
         self.score += score;

@@ -4,19 +4,19 @@ use Rattle.std.proofs.Math.Seq.{drop-nil}
 use Rattle.std.proofs.lemmas.List.Elements.{All-nil, All-cons, All-head, All-tail}
 use Rattle.lab_model.specs.Rates.{last_of}
 use Rattle.lab_model.proofs.Histories.{last_of_push}
-use Rattle.throughput_rule.specs.Windows.{Kept, StandsFor, told, untold}
+use Rattle.throughput_rule.specs.Windows.{Kept, HoldLast, told, untold}
 
 -- each window stands for the history
 abbrev Keeps : List ℕ → Kept → Type 0
 Keeps history k = k.rates ≡ last_of k.width history
 
 -- windows without rates stand for the empty history
-pub stands_untold : (widths : List ℕ) → StandsFor (map untold widths) []
+pub stands_untold : (widths : List ℕ) → HoldLast (map untold widths) []
 stands_untold [] = All-nil (Keeps [])
 stands_untold (w ∷ ws) = All-cons (Keeps []) (untold w) (map untold ws) (sym (drop-nil (0 - w))) (stands_untold ws)
 
 -- windows that are told a rate stand for the history with it
-pub stands_told : (ks : List Kept) (history : List ℕ) (rate : ℕ) → StandsFor ks history → StandsFor (map (told rate) ks) (history ++ rate ∷ [])
+pub stands_told : (ks : List Kept) (history : List ℕ) (rate : ℕ) → HoldLast ks history → HoldLast (map (told rate) ks) (history ++ rate ∷ [])
 stands_told [] history rate all = All-nil (Keeps (history ++ rate ∷ []))
 stands_told (k ∷ ks) history rate all =
     All-cons (Keeps (history ++ rate ∷ [])) (told rate k) (map (told rate) ks)

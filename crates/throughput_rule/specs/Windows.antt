@@ -28,9 +28,9 @@ abbrev pub mean_of : Kept → ℕ
 mean_of k = sum k.rates / length k.rates
 
 -- the kind of a rule with these windows
-abbrev pub kind_of : List Kept → RuleKind
-kind_of ks = throughput (map (λ k. k.width) ks)
+abbrev pub throughput_of : List Kept → RuleKind
+throughput_of ks = throughput (map (λ k. k.width) ks)
 
 -- each window keeps the last rates of the history
-abbrev pub StandsFor : List Kept → List ℕ → Type 0
-StandsFor ks history = All (λ k. k.rates ≡ last_of k.width history) ks
+abbrev pub HoldLast : List Kept → List ℕ → Type 0
+HoldLast ks history = All (λ k. k.rates ≡ last_of k.width history) ks

@@ -5,7 +5,7 @@ ghost use Rattle.std.specs.List.{All, reduce};
 ghost use Rattle.lab_model.specs.Film.{IsWithin};
 ghost use Rattle.lab_model.specs.Rules.{throughput};
 ghost use Rattle.lab_model.specs.Throughput.{least};
-ghost use Rattle.throughput_rule.specs.Windows.{AreWindows, Kept, StandsFor, kind_of, mean_of, told, untold};
+ghost use Rattle.throughput_rule.specs.Windows.{AreWindows, Kept, HoldLast, throughput_of, mean_of, told, untold};
 
 use crate::window::Window;
 use lab_model::{Context, Manifest, Rule, Sample, Setup};
@@ -117,8 +117,8 @@ impl Throughput {
     /// The rule with these windows, which was told no sample. `BadWindows` exactly where there are none or more than 4, or
     /// one is 0 or above 100.
     pub fn new(alloc: Global, windows: &[u8]) -> Result<Throughput, RuleErr>
-        ensures kind { IfOk result (λ t. kind_of t ≡ throughput windows.now) }
-        ensures stands { IfOk result (λ t. StandsFor t []) }
+        ensures kind { IfOk result (λ t. throughput_of t ≡ throughput windows.now) }
+        ensures stands { IfOk result (λ t. HoldLast t []) }
         ensures ok { IfOk result (λ t. AreWindows windows.now) }
         ensures bad { IsErrOf result RuleErr.BadWindows ↔ (AreWindows windows.now → ⊥) }
     {
@@ -132,9 +132,9 @@ impl Throughput {
 }
 
 impl Rule for Throughput {
-    ghost kind = { λ ks. kind_of ks };
+    ghost kind = { λ ks. throughput_of ks };
 
-    ghost stands_for = { λ ks history. StandsFor ks history };
+    ghost stands_for = { λ ks history. HoldLast ks history };
 
     fn fits(&self, m: &Manifest) -> bool {
         let _ = m;

@@ -27,7 +27,7 @@ fn setup(alloc: Global) -> Result<Setup, Fail> {
 }
 
 /// What a rule with these windows chooses after samples of these rates in bits per millisecond.
-fn chosen(alloc: Global, windows: &[u8], rates: &[u32]) -> Result<u8, Fail> {
+fn choice_of(alloc: Global, windows: &[u8], rates: &[u32]) -> Result<u8, Fail> {
     let m = film(alloc)?;
     let set = setup(alloc)?;
     let Ok(mut rule) = Throughput::new(alloc, windows) else {
@@ -52,11 +52,11 @@ fn chosen(alloc: Global, windows: &[u8], rates: &[u32]) -> Result<u8, Fail> {
 #[test]
 fn throughput_windows(rt: HostRuntime) -> Result<(), Fail> {
     let alloc = rt.alloc();
-    assert_eq!(rt; chosen(alloc, &[3, 5], &[2000, 2000, 2000])?, 0);
-    assert_eq!(rt; chosen(alloc, &[3, 5], &[])?, 0);
-    assert_eq!(rt; chosen(alloc, &[3, 5], &[2223, 2223, 2223])?, 1);
-    assert_eq!(rt; chosen(alloc, &[1], &[1000, 2223])?, 1);
-    assert_eq!(rt; chosen(alloc, &[1, 2], &[1000, 2223])?, 0);
+    assert_eq!(rt; choice_of(alloc, &[3, 5], &[2000, 2000, 2000])?, 0);
+    assert_eq!(rt; choice_of(alloc, &[3, 5], &[])?, 0);
+    assert_eq!(rt; choice_of(alloc, &[3, 5], &[2223, 2223, 2223])?, 1);
+    assert_eq!(rt; choice_of(alloc, &[1], &[1000, 2223])?, 1);
+    assert_eq!(rt; choice_of(alloc, &[1, 2], &[1000, 2223])?, 0);
     Ok(())
 }
 

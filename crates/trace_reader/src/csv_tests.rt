@@ -116,7 +116,7 @@ fn text_of(alloc: Global, rows: &str) -> Result<String, Fail> {
     Ok(text)
 }
 
-fn wanted(kind: Kind, key: Key, row: u32, column: u32) -> Refusal {
+fn refusal_at(kind: Kind, key: Key, row: u32, column: u32) -> Refusal {
     Refusal {
         kind,
         key,
@@ -129,7 +129,7 @@ fn wanted(kind: Kind, key: Key, row: u32, column: u32) -> Refusal {
 fn bad_csv_headers(rt: HostRuntime) -> Result<(), Fail> {
     for (text, kind, key, row, column) in BAD_HEADERS {
         let refusal = refusal_of(&rt, &read_trace_csv(rt.alloc(), text.as_bytes()));
-        assert_eq!(rt; refusal, wanted(kind, key, row, column), "{text}");
+        assert_eq!(rt; refusal, refusal_at(kind, key, row, column), "{text}");
     }
     Ok(())
 }
@@ -139,7 +139,7 @@ fn bad_csv_periods(rt: HostRuntime) -> Result<(), Fail> {
     for (rows, kind, key, row, column) in BAD_PERIODS {
         let text = text_of(rt.alloc(), rows)?;
         let refusal = refusal_of(&rt, &read_trace_csv(rt.alloc(), text.as_bytes()));
-        assert_eq!(rt; refusal, wanted(kind, key, row, column), "{rows}");
+        assert_eq!(rt; refusal, refusal_at(kind, key, row, column), "{rows}");
     }
     Ok(())
 }
@@ -182,11 +182,11 @@ fn truncated_files(rt: HostRuntime) -> Result<(), Fail> {
     let text = text_of(rt.alloc(), "60000,2000,0\n")?;
     let bytes = text.as_bytes();
     assert_eq!(rt; bytes.len(), 51);
-    let mut fault = wanted(Kind::Empty, Key::Whole, 0, 0);
+    let mut fault = refusal_at(Kind::Empty, Key::Whole, 0, 0);
     for (k, byte) in bytes.iter().enumerate() {
         for (from, kind, key, row, column) in TRUNCATED {
             if from == k {
-                fault = wanted(kind, key, row, column);
+                fault = refusal_at(kind, key, row, column);
             }
         }
         let answer = read_trace_csv(rt.alloc(), &bytes[..k]);
@@ -217,7 +217,7 @@ fn great_csv_traces(rt: HostRuntime) -> Result<(), Fail> {
     let answer = read_trace_csv(rt.alloc(), more.as_bytes());
     assert_eq!(rt;
         refusal_of(&rt, &answer),
-        wanted(Kind::OutOfRange, Key::Whole, 100_002, 0)
+        refusal_at(Kind::OutOfRange, Key::Whole, 100_002, 0)
     );
     Ok(())
 }

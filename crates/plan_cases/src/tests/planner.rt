@@ -10,7 +10,7 @@ use std::test::Fail;
 type Told = (i128, u32, &'static [u8]);
 
 /// The plan of a case within a budget.
-fn planned(
+fn plan_of(
     rt: &impl Abort,
     alloc: Global,
     case: &Case,
@@ -37,7 +37,7 @@ fn worked_plans(rt: HostRuntime) -> Result<(), Fail> {
         (SMALLEST, 1, (-1, 1, &[0])),
     ];
     for (case, budget, told) in &table {
-        let plan = planned(&rt, alloc, case, *budget)?.map_err(|_| "no plan")?;
+        let plan = plan_of(&rt, alloc, case, *budget)?.map_err(|_| "no plan")?;
         assert_eq!(rt; plan.score, told.0);
         assert_eq!(rt; plan.labels, told.1);
         assert_eq!(rt; plan.rungs.as_slice(), told.2);
@@ -48,7 +48,7 @@ fn worked_plans(rt: HostRuntime) -> Result<(), Fail> {
 #[test]
 fn budget_edge(rt: HostRuntime) -> Result<(), Fail> {
     let alloc = rt.alloc();
-    let answer = planned(&rt, alloc, &M1, 13)?.map(|plan| plan.score);
+    let answer = plan_of(&rt, alloc, &M1, 13)?.map(|plan| plan.score);
     assert_eq!(rt; answer, Err(PlanErr::BudgetSpent { segment: 2 }));
     Ok(())
 }

@@ -243,7 +243,7 @@ fn film(alloc: Global, segments: u16, rungs: u8) -> Result<Manifest, Fail> {
 }
 
 /// What the certificate of a text is written as.
-fn rewritten(alloc: Global, text: &str) -> Result<SureSink, Fail> {
+fn text_after_reading(alloc: Global, text: &str) -> Result<SureSink, Fail> {
     let certificate = read_certificate(alloc, text.as_bytes())?;
     let film = film(alloc, certificate.segments, certificate.rungs)?;
     if film.segments() != certificate.segments {
@@ -268,11 +268,11 @@ fn rewritten(alloc: Global, text: &str) -> Result<SureSink, Fail> {
 #[test]
 fn what_is_read_is_written_again(rt: HostRuntime) -> Result<(), Fail> {
     let alloc = rt.alloc();
-    let steady = rewritten(alloc, STEADY_PLAN)?;
+    let steady = text_after_reading(alloc, STEADY_PLAN)?;
     assert_eq!(rt; steady.written(), STEADY_PLAN.as_bytes());
     for (row, line) in GOOD_LINES {
         let text = with_line(alloc, row, line)?;
-        let again = rewritten(alloc, text.as_str())?;
+        let again = text_after_reading(alloc, text.as_str())?;
         assert_eq!(rt; again.written(), text.as_bytes());
     }
     Ok(())

@@ -1,7 +1,7 @@
 use Rattle.std.proofs.Common.{◌<◌, ap, map, rules, subst, sym, take, take_all}
 use Rattle.std.specs.Int.{w128}
 use Rattle.std.proofs.lemmas.Int.{to_z-of_z}
-use Rattle.session_report.specs.Regret.{StandsFor}
+use Rattle.session_report.specs.Regret.{IsTotalOf}
 use Rattle.abrlab_top.specs.Regret.{scores_at}
 use Rattle.abrlab_top.proofs.Regrets.{ranked_at, score_ranked, scores_as, total_as, total_more, total_short, wide_at}
 use Rattle.abrlab_top.proofs.regret.total_at.Goals as goal
@@ -32,4 +32,4 @@ loop-scored-preserved c =
     (wide_at c.args.table.now c.args.rule c.loop-scored.scored-index c.scored-item.result c.loop-scored-test.true c.scored-item.is c.requires.wide) c.index.ensures more
 
 pub returns : goal.returns
-returns c = subst (λ ps. StandsFor ps c.loop-scored.total) (ap (map (scores_at c.args.rule)) (take_all c.loop-scored.scored-index c.args.table.now c.loop-scored-test.false)) c.loop-scored.invariant
+returns c = subst (λ ps. IsTotalOf ps c.loop-scored.total) (ap (map (scores_at c.args.rule)) (take_all c.loop-scored.scored-index c.args.table.now c.loop-scored-test.false)) c.loop-scored.invariant

@@ -2,7 +2,7 @@ use Rattle.std.proofs.Common.{◌+◌, ℕ, arith}
 use Rattle.std.specs.Prelude.{◌≤ℤ◌}
 use Rattle.std.proofs.lemmas.Int.{clamps, ints}
 use borrow.Author.Count.{below_more}
-use Rattle.mpc_rule.specs.Hopes.{promise_of}
+use Rattle.mpc_rule.specs.Relaxations.{promise_of}
 use Rattle.mpc_rule.proofs.forecast.Forecast.greatest_promise.Goals as goal
 
 pub loop-rung-preserved : goal.loop-rung-preserved

@@ -1,6 +1,6 @@
 use Rattle.std.proofs.Common.{◌+◌, ◌<◌, ℕ}
 use Rattle.std.specs.Prelude.{◌≤ℤ◌}
-use Rattle.mpc_rule.specs.Hopes.{IsPromise, promise_of}
+use Rattle.mpc_rule.specs.Relaxations.{IsPromise, promise_of}
 use Rattle.mpc_rule.proofs.forecast.Forecast.greatest_promise.Given as goal
 
 abbrev pub invariant-loop-rung : goal.invariant-loop-rung

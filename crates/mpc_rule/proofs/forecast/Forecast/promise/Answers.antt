@@ -3,7 +3,7 @@ use Rattle.std.proofs.lemmas.Int.{ints}
 use Rattle.mpc_rule.specs.declared.outlook.Foretold.{Foretold}
 use Rattle.lab_model.specs.Weighing.{utility_of}
 use Rattle.mpc_rule.specs.Search.{wait_at, weights_of}
-use Rattle.mpc_rule.specs.Hopes.{room_of}
+use Rattle.mpc_rule.specs.Relaxations.{room_of}
 use Rattle.mpc_rule.proofs.Drafts.{promise_most}
 use Rattle.mpc_rule.proofs.forecast.Forecast.promise.Goals as goal
 

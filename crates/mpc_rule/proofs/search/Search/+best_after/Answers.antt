@@ -25,22 +25,22 @@ returns-else-best-draft t c =
 pub could_beat-requires-clause-draft : goal.could_beat-requires-clause-draft
 could_beat-requires-clause-draft t c =
     let same : c.args.more - 1 + 1 ≡ c.args.more = omega arith in
-    c.extended-longer.ensures.draft (c.args.more - 1) (subst (IsDraft c.args.self.now.forecast.outlook c.args.draft) (sym same) c.requires.draft)
+    c.with_rung-longer.ensures.draft (c.args.more - 1) (subst (IsDraft c.args.self.now.forecast.outlook c.args.draft) (sym same) c.requires.draft)
 
 pub could_beat-requires-clause-whole : goal.could_beat-requires-clause-whole
 could_beat-requires-clause-whole t c =
-    let count = ap (λ (d : Draft). d.count) c.extended-longer.ensures.value in let one = count_extended c.args.self.now.forecast.outlook c.args.draft c.loop-rung.rung in
+    let count = ap (λ (d : Draft). d.count) c.with_rung-longer.ensures.value in let one = count_extended c.args.self.now.forecast.outlook c.args.draft c.loop-rung.rung in
     omega (arith, count, one)
 
 pub best_after-best-requires : goal.best_after-best-requires
 best_after-best-requires t c =
     let same : c.args.more - 1 + 1 ≡ c.args.more = omega arith in
-    let count = ap (λ (d : Draft). d.count) c.extended-longer.ensures.value in let one = count_extended c.args.self.now.forecast.outlook c.args.draft c.loop-rung.rung in (
+    let count = ap (λ (d : Draft). d.count) c.with_rung-longer.ensures.value in let one = count_extended c.args.self.now.forecast.outlook c.args.draft c.loop-rung.rung in (
       omega arith,
       (
         c.requires.search,
         (
-          c.extended-longer.ensures.draft (c.args.more - 1) (subst (IsDraft c.args.self.now.forecast.outlook c.args.draft) (sym same) c.requires.draft),
+          c.with_rung-longer.ensures.draft (c.args.more - 1) (subst (IsDraft c.args.self.now.forecast.outlook c.args.draft) (sym same) c.requires.draft),
           omega (arith, count, one),
         ),
       ),
@@ -49,12 +49,12 @@ best_after-best-requires t c =
 pub loop-rung-preserved : goal.loop-rung-preserved
 loop-rung-preserved t c =
     let o = c.args.self.now.forecast.outlook in let n = c.args.more - 1 in
-    let next = ap (λ (d : Draft). best_after o n d (Some c.loop-rung.best)) c.extended-longer.ensures.value
+    let next = ap (λ (d : Draft). best_after o n d (Some c.loop-rung.best)) c.with_rung-longer.ensures.value
     ∙ rungs_best o n c.args.draft (Some c.args.best) (Some c.loop-rung.best) c.loop-rung.rung c.loop-rung.invariant in
     elim c.if-could_beat.branch [
       | then-could_beat w ↦ ap Some w.best-is ∙ w.best_after-best.ensures ∙ next
       | else-could_beat w ↦ ap Some w.best-is
-          ∙ sym (kept_under c.loop-rung.best (completions o n c.extended-longer.result) (c.could_beat.ensures w.if-could_beat.false)) ∙ next
+          ∙ sym (kept_under c.loop-rung.best (completions o n c.with_rung-longer.result) (c.could_beat.ensures w.if-could_beat.false)) ∙ next
     ]
 
 pub returns : goal.returns

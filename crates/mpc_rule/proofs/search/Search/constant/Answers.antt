@@ -7,8 +7,8 @@ loop-i-init c = part_start c.args.self.now.forecast c.start-draft.result c.start
 
 pub loop-i-preserved : goal.loop-i-preserved
 loop-i-preserved c =
-    part_more c.args.self.now.forecast c.loop-i.i c.loop-i.draft c.extended-draft.result c.args.rung c.loop-i.invariant c.loop-i-test.true c.requires.rung c.extended-draft.ensures.value
-    c.extended-draft.ensures.draft
+    part_more c.args.self.now.forecast c.loop-i.i c.loop-i.draft c.with_rung-draft.result c.args.rung c.loop-i.invariant c.loop-i-test.true c.requires.rung c.with_rung-draft.ensures.value
+    c.with_rung-draft.ensures.draft
 
 pub returns : goal.returns
 returns c =

@@ -11,8 +11,8 @@ pub returns : goal.returns
 returns c =
     let f = c.args.self.now.forecast in let o = f.outlook in let n = f.length in
     let few : n ≤ 5 = omega arith in
-    let list = subst (λ (s : Draft). Contains (completions o n s) c.good-below.result) (sym c.start.ensures.value) c.good-below.ensures.list in
+    let list = subst (λ (s : Draft). Contains (completions o n s) c.incumbent-below.result) (sym c.start.ensures.value) c.incumbent-below.ensures.list in
     ap first_rung c.best_after.ensures
-    ∙ ap first_rung (floor_keeps _ (completions o n c.start.result) c.good-below.result list (omega (arith, ints)))
+    ∙ ap first_rung (floor_keeps _ (completions o n c.start.result) c.incumbent-below.result list (omega (arith, ints)))
     ∙ ap (λ (s : Draft). first_rung (best_after o n s None)) c.start.ensures.value
     ∙ best_is o n c.requires.forecast.some few

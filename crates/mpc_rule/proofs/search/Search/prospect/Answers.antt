@@ -9,4 +9,4 @@ returns-then-more-eq0 c = λ k e h.
 
 pub returns : goal.returns
 returns c = λ k e h.
-    let free = c.reach-free.ensures k e h in let modest = c.reach-modest.ensures k e h in omega (arith, ints, clamps, free, modest)
+    let free = c.bound-free.ensures k e h in let tight = c.bound-tight.ensures k e h in omega (arith, ints, clamps, free, tight)

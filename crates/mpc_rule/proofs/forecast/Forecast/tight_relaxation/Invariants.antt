@@ -1,6 +1,6 @@
 use Rattle.std.proofs.Common.{◌-◌, ◌≤◌}
 use Rattle.mpc_rule.specs.Search.{weights_of}
-use Rattle.mpc_rule.proofs.forecast.Forecast.modest_hope.Given as goal
+use Rattle.mpc_rule.proofs.forecast.Forecast.tight_relaxation.Given as goal
 
 abbrev pub decreases-loop-low : goal.decreases-loop-low
 decreases-loop-low l = l.high - l.low

@@ -5,7 +5,7 @@ use Rattle.lab_model.specs.Weighing.{utility_of}
 use Rattle.mpc_rule.specs.declared.outlook.Outlook.{Outlook}
 use Rattle.mpc_rule.specs.declared.forecast.Draft.{Draft}
 use Rattle.mpc_rule.specs.declared.forecast.Forecast.{Forecast}
-use Rattle.mpc_rule.specs.declared.hope.Hope.{Hope}
+use Rattle.mpc_rule.specs.declared.relaxation.Relaxation.{Relaxation}
 use Rattle.mpc_rule.specs.declared.search.Search.{Search}
 use Rattle.mpc_rule.specs.Search.{IsForecast, completions, wait_at, weights_of}
 
@@ -43,12 +43,12 @@ pub record IsMost (o : Outlook) (price n count : ℕ) (z : ℤ) : Type 0 where
   pub most : z ≤ℤ pos (61000000000 * n)
 
 -- what the segments to come can add, for each number of them
-pub record IsHope (f : Forecast) (h : Hope) : Type 0 where
+pub record IsRelaxation (f : Forecast) (h : Relaxation) : Type 0 where
   pub price : h.price ≤ (weights_of f.outlook).stall
   pub most : (n : ℕ) (z : ℤ) → n < f.length → IsMost f.outlook h.price (n + 1) (f.length - (n + 1)) (slice_index_or h.most n z)
 
 -- what a search is made of fits together
 pub record IsSearch (s : Search) : Type 0 where
   pub forecast : IsForecast s.forecast
-  pub free : IsHope s.forecast s.free
-  pub modest : IsHope s.forecast s.modest
+  pub free : IsRelaxation s.forecast s.free
+  pub tight : IsRelaxation s.forecast s.tight

@@ -1,10 +1,10 @@
 use Rattle.std.proofs.Common.{◌≡◌, ◌∙◌, ◌+◌, ◌-◌, ◌*◌, ◌<◌, ℕ, length, length-set, refl, ap, subst, arith}
 use Rattle.std.specs.Prelude.{ℤ, ◌≤ℤ◌}
 use Rattle.std.proofs.lemmas.Int.{ints}
-use Rattle.mpc_rule.specs.Hopes.{IsMost, promise_of}
+use Rattle.mpc_rule.specs.Relaxations.{IsMost, promise_of}
 use Rattle.mpc_rule.proofs.Places.{filled_more}
 use Rattle.mpc_rule.proofs.Prospects.{most_last, most_more, price_most}
-use Rattle.mpc_rule.proofs.forecast.Forecast.hope.Goals as goal
+use Rattle.mpc_rule.proofs.forecast.Forecast.relaxation.Goals as goal
 
 pub loop-n-init : goal.loop-n-init
 loop-n-init c =

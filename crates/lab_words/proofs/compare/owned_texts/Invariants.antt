@@ -1,5 +1,5 @@
 use Rattle.std.proofs.Common.{◌≡◌, map, take, string_bytes}
-use Rattle.lab_words.proofs.compare.owned.Given as goal
+use Rattle.lab_words.proofs.compare.owned_texts.Given as goal
 
 abbrev pub invariant-loop-text : goal.invariant-loop-text
 invariant-loop-text l = map string_bytes l.names.items ≡ map (λ text. text.now) (take l.text-index l.texts)

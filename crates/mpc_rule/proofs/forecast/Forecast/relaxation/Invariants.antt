@@ -1,7 +1,7 @@
 use Rattle.std.proofs.Common.{◌≡◌, ◌+◌, ◌-◌, ◌<◌, ℕ, length}
 use Rattle.std.specs.Prelude.{ℤ, slice_index_or}
-use Rattle.mpc_rule.specs.Hopes.{IsMost}
-use Rattle.mpc_rule.proofs.forecast.Forecast.hope.Given as goal
+use Rattle.mpc_rule.specs.Relaxations.{IsMost}
+use Rattle.mpc_rule.proofs.forecast.Forecast.relaxation.Given as goal
 
 abbrev pub invariant-loop-n : goal.invariant-loop-n
 invariant-loop-n l = record {

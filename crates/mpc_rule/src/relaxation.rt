@@ -8,13 +8,13 @@
 ghost use Rattle.std.specs.Prelude.{◌≡◌, ℕ, ◌+◌, ◌-◌, ◌*◌, ◌<◌, ◌≤◌, ◌≤ℤ◌};
 ghost use Rattle.std.specs.List.{All};
 ghost use Rattle.mpc_rule.specs.Search.{IsDraft, IsForecast, completions, ladder_of, weights_of};
-ghost use Rattle.mpc_rule.specs.Hopes.{IsHope, IsPromise, IsUnder, promise_at};
+ghost use Rattle.mpc_rule.specs.Relaxations.{IsRelaxation, IsPromise, IsUnder, promise_at};
 
 use crate::forecast::{Draft, Forecast, LONGEST};
 
 /// What so many segments to come can add at most, at a price of a millisecond of media.
 #[derive(Clone, Copy)]
-pub(crate) struct Hope {
+pub(crate) struct Relaxation {
     /// The price in thousandths of a point, at most the weight of a millisecond of stall.
     pub(crate) price: u32,
     /// What the last segments of the horizon can add, the last alone at first, then the last two, and so on.
@@ -55,10 +55,10 @@ impl Forecast<'_> {
     }
 
     /// What the segments to come can add at most, at a price.
-    pub(crate) fn hope(&self, price: u32) -> Hope
+    pub(crate) fn relaxation(&self, price: u32) -> Relaxation
         requires forecast { IsForecast self.now }
         requires price { price ≤ (weights_of self.now.outlook).stall }
-        ensures { IsHope self.now result }
+        ensures { IsRelaxation self.now result }
     {
         let load = (price as u64 * self.outlook.film.seg_ms() as u64) as i64;
         let mut sum = self.greatest_promise(price, self.length - 1);
@@ -67,39 +67,39 @@ impl Forecast<'_> {
             sum += load + self.greatest_promise(price, self.length - 1 - n);
             most[n as usize] = sum;
         }
-        Hope { price, most }
+        Relaxation { price, most }
     }
 
-    /// The most that a list can come to by its segments to come, by this hope.
-    pub(crate) fn reach(&self, hope: &Hope, draft: &Draft, more: u8) -> i64
+    /// The most that a list can come to by its segments to come, by this relaxation.
+    pub(crate) fn bound(&self, relaxation: &Relaxation, draft: &Draft, more: u8) -> i64
         requires forecast { IsForecast self.now }
-        requires hope { IsHope self.now hope.now }
+        requires relaxation { IsRelaxation self.now relaxation.now }
         requires draft { IsDraft self.now.outlook draft.now more }
         requires some { 0 < more }
         requires whole { draft.now.count + more ≡ self.now.length }
         ensures { All (IsUnder result) (completions self.now.outlook more draft.now) }
     {
-        let price = hope.price as u64 * draft.level as u64;
-        draft.score + price as i64 + hope.most[more as usize - 1]
+        let price = relaxation.price as u64 * draft.level as u64;
+        draft.score + price as i64 + relaxation.most[more as usize - 1]
     }
 
-    /// A hope that promises little: the price is sought by halves, where what the whole horizon can come to is least.
-    pub(crate) fn modest_hope(&self) -> Hope
+    /// A relaxation that bounds closely: the price is sought by halves, where what the whole horizon can come to is least.
+    pub(crate) fn tight_relaxation(&self) -> Relaxation
         requires { IsForecast self.now }
-        ensures { IsHope self.now result }
+        ensures { IsRelaxation self.now result }
     {
         let start = self.start();
         let (mut low, mut high) = (0, self.outlook.setup.weights.stall());
         while low < high {
             let middle = low + (high - low) / 2;
-            let here = self.reach(&self.hope(middle), &start, self.length);
-            let above = self.reach(&self.hope(middle + 1), &start, self.length);
+            let here = self.bound(&self.relaxation(middle), &start, self.length);
+            let above = self.bound(&self.relaxation(middle + 1), &start, self.length);
             if here <= above {
                 high = middle;
             } else {
                 low = middle + 1;
             }
         }
-        self.hope(low)
+        self.relaxation(low)
     }
 }

@@ -5,8 +5,8 @@ use Rattle.lab_model.specs.Weighing.{utility_of}
 use Rattle.mpc_rule.specs.declared.outlook.Foretold.{Foretold}
 use Rattle.mpc_rule.specs.Search.{gain_of, loss_of, segment_after, wait_of, weights_of}
 use Rattle.mpc_rule.proofs.Drafts.{draft_grows, extended_is, first_kept, first_new}
-use Rattle.mpc_rule.proofs.forecast.Forecast.extended.Goals as goal
-use Rattle.mpc_rule.proofs.forecast.Forecast.extended.Goals.{then-draft-eq0, else-draft-eq0}
+use Rattle.mpc_rule.proofs.forecast.Forecast.with_rung.Goals as goal
+use Rattle.mpc_rule.proofs.forecast.Forecast.with_rung.Goals.{then-draft-eq0, else-draft-eq0}
 
 pub overflow_add-result-2 : goal.overflow_add-result-2
 overflow_add-result-2 c = omega (arith, ints)

@@ -1,5 +1,0 @@
-use Rattle.mpc_rule.specs.Search.{IsWhole}
-use Rattle.mpc_rule.proofs.search.Search.good.Given as goal
-
-abbrev pub invariant-loop-rung : goal.invariant-loop-rung
-invariant-loop-rung l = IsWhole l.self.forecast l.good
