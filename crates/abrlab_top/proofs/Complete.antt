@@ -133,6 +133,7 @@ pub sure_shelf : (line : List Text) (old : World) (e : Ending) (new : World) →
 sure_shelf line old e new h files s file named there rose =
     let x = s.shelf file named there in never_rose _ _ x.1 ((leaves_shelf line old e new h).asks.asks.steady file.1 x.0) rose
 
+-- where all is sure, the stream for results does not fail
 pub sure_out : (line : List Text) (old new : World) (files : Files) → IsSure line files old → OutFails old.out new.out → ⊥
 sure_out line old new files s x = never_rose _ _ s.faults (x.steady s.out) x.rose
 

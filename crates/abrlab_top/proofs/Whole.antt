@@ -47,6 +47,7 @@ nothing_written old new said e = ([], said, refl, e ∙ same_written old)
 pub none_there : {A B : Type 0} (f : A → B) (o : Option A) (p : Option B) → o ≡ None → option_map f o ≡ p → p ≡ None
 none_there f o p e h = sym h ∙ ap (option_map f) e
 
+-- what is there, seen through a function, is its value
 pub some_there : {A B : Type 0} (f : A → B) (o : Option A) (p : Option B) (x : A) → o ≡ Some x → option_map f o ≡ p → p ≡ Some (f x)
 some_there f o p x e h = sym h ∙ ap (option_map f) e
 
@@ -76,6 +77,7 @@ settings_stop m i meant old why e h = (late_setting m.checks i (misfit i.setup i
 pub unsettled : (i : InputValues) (r : Result (Unit {0}) Stop) (why : Stop) → r ≡ Err why → IsSettled i r → settled i ≡ Err why
 unsettled i r why e h = rw e at h
 
+-- where settling answered, it comes to the inputs themselves, and they fit
 pub all_settled : (i : InputValues) (r : Result (Unit {0}) Stop) (u : Unit {0}) → r ≡ Ok u → IsSettled i r → (settled i ≡ Ok i) × Fits i
 all_settled i r u e h = rw e at h
 

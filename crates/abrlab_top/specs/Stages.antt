@@ -28,9 +28,11 @@ pub record Manner : Type 0 where
 abbrev pub at_the_end : Manner
 at_the_end = record { refused = false; between = false; checks = false }
 
+-- a command that prints rows between its parts
 abbrev pub row_by_row : Manner
 row_by_row = record { refused = false; between = true; checks = false }
 
+-- a command that checks a certificate
 abbrev pub of_a_check : Manner
 of_a_check = record { refused = false; between = false; checks = true }
 

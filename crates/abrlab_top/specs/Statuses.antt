@@ -86,8 +86,10 @@ pub record IsComplete (line : List Text) (old : World) (result : ℕ) (new : Wor
 abbrev pub StatusesHaveCauses : Type 0
 StatusesHaveCauses = (line : List Text) (old : World) (e : Ending) (new : World) → Runs line old e new → HasCause line old (status_of e) new
 
+-- each run leaves the shelf as its status says
 abbrev pub RunsLeaveTheShelf : Type 0
 RunsLeaveTheShelf = (line : List Text) (old : World) (e : Ending) (new : World) → Runs line old e new → LeavesShelf line (status_of e) old.shelf new.shelf
 
+-- each run answers 0 or 1 where files and settings are good and nothing fails
 abbrev pub RunsAreComplete : Type 0
 RunsAreComplete = (line : List Text) (old : World) (e : Ending) (new : World) → Runs line old e new → IsComplete line old (status_of e) new

@@ -4,9 +4,7 @@ ghost use Rattle.std.specs.Prelude.{◌≡◌, ◌≤◌};
 ghost use Rattle.abrlab_top.specs.Ahead.{ahead_of};
 
 use lab_inputs::Inputs;
-
-/// So many milliseconds of media ahead that all of a film is there at instant 0.
-const ALL_AHEAD: u32 = 120_000_000;
+use player_core::limits::ALL_AHEAD_MS;
 
 /// The milliseconds of media that are there at instant 0.
 pub(crate) fn media_ahead(inputs: &Inputs) -> u32
@@ -15,6 +13,6 @@ pub(crate) fn media_ahead(inputs: &Inputs) -> u32
 {
     match inputs.live() {
         Some(ahead) => ahead,
-        None => ALL_AHEAD,
+        None => ALL_AHEAD_MS,
     }
 }

@@ -12,11 +12,11 @@ ghost use Rattle.certificate_text.specs.Walk.{IsBegun, begun, begun_gap, certifi
 ghost use Rattle.certificate_check.specs.Verdict.{SaysGapValid, SaysValid, bounded_verdict, gap_verdict, lines_verdict, verdict_on};
 
 use crate::checker::Checker;
-use crate::whole::ALL_AHEAD;
 use certificate_text::{Layer, Lines};
 use lab_model::{InputFault, Manifest, Setup};
 use labels::Verdict;
 use network_clock::Clock;
+use player_core::limits::ALL_AHEAD_MS;
 
 /// The next layer, where one is left.
 fn next_layer(lines: &mut Lines<'_>) -> Result<Layer, InputFault>
@@ -106,5 +106,5 @@ pub fn check_lines(
         lines.entry.head.score lines.entry.head.score) }
 {
     let score = lines.score();
-    check_lines_from(film, clock, setup, ALL_AHEAD, lines, score)
+    check_lines_from(film, clock, setup, ALL_AHEAD_MS, lines, score)
 }

@@ -17,9 +17,7 @@ use certificate_text::Certificate;
 use lab_model::{Manifest, Setup};
 use labels::{Chain, Verdict};
 use network_clock::Clock;
-
-/// So many milliseconds of media ahead that every film within the limits is there at instant 0.
-pub(crate) const ALL_AHEAD: u32 = 120_000_000;
+use player_core::limits::ALL_AHEAD_MS;
 
 /// The chains of a segment, by rung.
 fn layer(cert: &Certificate, segment: u16) -> &[Chain]
@@ -101,7 +99,7 @@ pub fn check_bound(
     ensures sound { result ≡ Yes → Settles (task_of film.now clock.now setup.now all_ahead)
         cert.now.plan.items cert.now.score bound }
 {
-    check_from(film, clock, setup, ALL_AHEAD, cert, bound)
+    check_from(film, clock, setup, ALL_AHEAD_MS, cert, bound)
 }
 
 /// The verdict for a film on demand, with the certificate's own score as the bound. A yes means that its rung list

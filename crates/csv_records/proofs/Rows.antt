@@ -144,6 +144,7 @@ stands_end xs rows s y h e = h.rest ∙ ap (λ (t : List Fields). rows ++ t) (no
 
 -- ---- the number of fields
 
+-- a record has as many fields as the first
 abbrev pub fits : Option ℕ → Fields → Bool
 fits None r = true
 fits (Some n) r = has_width n r

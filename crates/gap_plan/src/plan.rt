@@ -11,10 +11,8 @@ ghost use Rattle.gap_plan.specs.Gap.{CertifiesGap};
 use frontier_planner::{CoarsePlan, Grid, PlanErr, plan_from};
 use lab_model::{Manifest, Setup};
 use network_clock::Clock;
+use player_core::limits::ALL_AHEAD_MS;
 use std::alloc::Global;
-
-/// So many milliseconds of media ahead that all of a film is there at instant 0.
-const ALL_AHEAD: u32 = 120_000_000;
 
 /// The plan of a film on demand on a grid: the rung list that is read off the coarse frontiers with its true value, and
 /// the greatest end value of their labels, which no rung list passes. They may have as many labels as the budget,
@@ -40,5 +38,5 @@ pub fn plan_coarse(
         budget result }
     ensures bound { grid ≡ exact → IfOk result (λ c. c.bound ≡ c.plan.score) }
 {
-    plan_from(alloc, film, clock, setup, ALL_AHEAD, grid, budget)
+    plan_from(alloc, film, clock, setup, ALL_AHEAD_MS, grid, budget)
 }

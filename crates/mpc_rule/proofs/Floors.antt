@@ -87,6 +87,7 @@ flat_contains {X} f (q ∷ qs) r x is here =
       | inr h ↦ Contains-append_right (f q) (flat_map f qs) x (flat_contains f qs r x h here)
     ]
 
+-- a completion of a list with one more rung completes the list by one rung more
 pub extended_whole : (o : Outlook) (n : ℕ) (d e : Draft) (r : ℕ) → r < ladder_of o → Contains (completions o n (extended o d r)) e → Contains (completions o (suc n) d) e
 unfolding completions
 extended_whole o n d e r low is = flat_contains (λ q. completions o n (extended o d q)) (rungs_below (ladder_of o)) r e (below_contains (ladder_of o) r low) is

@@ -30,6 +30,7 @@ ceil_most a b some =
     absurd (omega (arith, short, much, least)))
     (λ (inside : div_ceil a b ≤ a). inside) (cases_lt a (div_ceil a b))
 
+-- a millisecond uses at most all of the credit
 pub used_most : (p : Period) → used_in p ≤ 100000000
 used_most p = ⊎_elim (λ (none : p.latency ≡ 0). rw (eq-eqb p.latency 0 none) (omega arith))
     (λ (some : p.latency ≡ 0 → ⊥). rw (ne_eqb p.latency 0 some) (ceil_most 100000000 p.latency (omega arith))) (cases_eq p.latency 0)

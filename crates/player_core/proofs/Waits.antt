@@ -21,6 +21,7 @@ abbrev pub waits_for : Case → Player → Option Download → ℕ
 waits_for c p (Some d) = done_on c.network d.asked (asked_size c d) - p.t
 waits_for c p None = (p.y - p.x) + cond (ltb p.k (segments_of c.film)) (available_at c.film c.ahead p.k - p.t) 0
 
+-- the milliseconds for which a player waits: for its download, or else for room and for the segment
 abbrev pub waits_ms : Case → Player → ℕ
 waits_ms c p = waits_for c p p.download
 

@@ -69,6 +69,7 @@ pub record AllCanMeet {R : Type 0} (kind : R → RuleKind) (o : Course) (bs : Li
   pub count : length rs ≡ length bs
   pub each : (i : ℕ) (b : Body) (r : R) → i < length bs → CanMeet o (kind (get_or rs i r)) (get_or bs i b)
 
+-- what meeting an instant makes of each player: its own instant, and its rule has heard what was told
 pub record AllMeet {R : Type 0} (kind : R → RuleKind) (stands_for : R → List ℕ → Type 0) (o : Course) (olds news : List Body) (rules heard : List R) : Type 0 where
   pub bodies : length news ≡ length olds
   pub count : length heard ≡ length rules

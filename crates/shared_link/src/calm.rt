@@ -14,9 +14,9 @@ ghost use Rattle.player_core.specs.State.{Case};
 ghost use Rattle.shared_link.specs.Calm.{AllGlide, CanCome, CanRest, Glides, StaysCalm, lane_case};
 ghost use Rattle.shared_link.specs.Table.{GoesOn};
 
-use crate::joint::LATEST_MS;
 use lab_model::Period;
 use network_clock::Link;
+use player_core::limits::LATEST_MS;
 use player_core::parts::{Body, Course, Running};
 
 /// The instant, after its own, before which nothing happens to a player as long as so many take. Its own instant lies

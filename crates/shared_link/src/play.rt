@@ -13,11 +13,12 @@ ghost use Rattle.shared_link.specs.Joint.{IsJoint, joint_of};
 ghost use Rattle.shared_link.specs.Table.{AreSessions, IsPlain, IsWhole, joint_on};
 
 use crate::calm::{all_calm_until, glide_all};
-use crate::joint::{Joint, LATEST_MS};
+use crate::joint::Joint;
 use crate::table::{count_takers, first_bodies, have_all_ended, meet_all, pass_all, sessions_of};
 use lab_model::{Manifest, NoMemory, Rule, Setup, Trace};
 use network_clock::{Link, share_of};
 use player_core::Scene;
+use player_core::limits::LATEST_MS;
 use player_core::parts::Course;
 use std::alloc::Global;
 
