@@ -24,7 +24,7 @@ use Rattle.lab_inputs.specs.declared.role.Role.TheVariants as role
 use Rattle.utility_table.specs.Table.{utilities_of}
 use Rattle.utility_table.proofs.Limits.{utilities-fit}
 use Rattle.lab_inputs.specs.Contents.{ContentValues, IsTable, is_csv, trace_of, with_certificate, with_film, with_network, with_seeks, with_table}
-use Rattle.lab_inputs.specs.Roles.{NamedFile, later_files, optional_file, row_of, trace_files, trace_role, traces_from}
+use Rattle.lab_inputs.specs.Roles.{NamedFile, certificate_role, later_files, optional_file, row_of, trace_files, trace_role, traces_from}
 use Rattle.lab_inputs.proofs.Steps.{ok_same}
 use Rattle.lab_inputs.proofs.Tables.{no_table_is, table_is}
 
@@ -61,6 +61,8 @@ adds_within role.Seeks name bytes v w h k =
     subst AreWithin x.2 (record { film = k.film; table = k.table; networks = k.networks })
 adds_within role.Certificate name bytes v w h k =
     subst AreWithin (ok_same _ (with_certificate v bytes) w refl h) (record { film = k.film; table = k.table; networks = k.networks })
+adds_within role.PriceCertificate name bytes v w h k =
+    subst AreWithin (ok_same _ (with_certificate v bytes) w refl h) (record { film = k.film; table = k.table; networks = k.networks })
 
 -- ---- how many networks there are
 
@@ -72,6 +74,7 @@ networks_in role.Trace = 1
 networks_in (role.TraceAt place) = 1
 networks_in role.Seeks = 0
 networks_in role.Certificate = 0
+networks_in role.PriceCertificate = 0
 
 -- how many networks these files are
 pub networks_among : List NamedFile → ℕ
@@ -93,6 +96,7 @@ adds_count (role.TraceAt place) name bytes v w h =
     sym (ap (λ (u : ContentValues). length u.networks) x.2) ∙ length-append v.networks ((name, x.0) ∷ [])
 adds_count role.Seeks name bytes v w h = let x = map_ok-ok (with_seeks v) (seeks_of bytes (segments_of v.film)) w h in count_kept v w (sym (ap (λ (u : ContentValues). u.networks) x.2))
 adds_count role.Certificate name bytes v w h = count_kept v w (sym (ap (λ (u : ContentValues). u.networks) (ok_same _ (with_certificate v bytes) w refl h)))
+adds_count role.PriceCertificate name bytes v w h = count_kept v w (sym (ap (λ (u : ContentValues). u.networks) (ok_same _ (with_certificate v bytes) w refl h)))
 
 one_network : (v : Verb) (place : ℕ) → networks_in (trace_role v place) ≡ 1
 unfolding networks_in
@@ -128,12 +132,14 @@ all_networks v place (name ∷ names) =
     let e = among_cons (trace_role v place, name) (traces_from v (place + 1) names) in
     omega (arith, e, one, h)
 
-no_networks : (seeks certificate : Option Text) → networks_among (optional_file role.Seeks seeks ++ optional_file role.Certificate certificate) ≡ 0
+no_networks : (near : Bool) (seeks certificate : Option Text) → networks_among (optional_file role.Seeks seeks ++ optional_file (certificate_role near) certificate) ≡ 0
 unfolding networks_among networks_in
-no_networks None None = refl
-no_networks None (Some name) = refl
-no_networks (Some name) None = refl
-no_networks (Some name) (Some other) = refl
+no_networks near None None = refl
+no_networks true None (Some name) = refl
+no_networks false None (Some name) = refl
+no_networks near (Some name) None = refl
+no_networks true (Some name) (Some other) = refl
+no_networks false (Some name) (Some other) = refl
 
 no_table_networks : (table : Option Text) → networks_among (optional_file role.Utilities table) ≡ 0
 unfolding networks_among networks_in
@@ -144,9 +150,9 @@ no_table_networks (Some name) = refl
 pub networks_named : (c : CommandWords) → networks_among (later_files c) ≡ length c.traces
 unfolding networks_among
 networks_named c =
-    let first = sum_by-append (λ (file : NamedFile). networks_in file.0) (optional_file role.Utilities c.table) (trace_files c.verb c.traces ++ (optional_file role.Seeks c.seeks ++ optional_file role.Certificate c.certificate)) in
-    let e = sum_by-append (λ (file : NamedFile). networks_in file.0) (trace_files c.verb c.traces) (optional_file role.Seeks c.seeks ++ optional_file role.Certificate c.certificate) in
+    let first = sum_by-append (λ (file : NamedFile). networks_in file.0) (optional_file role.Utilities c.table) (trace_files c.verb c.traces ++ (optional_file role.Seeks c.seeks ++ optional_file (certificate_role c.near) c.certificate)) in
+    let e = sum_by-append (λ (file : NamedFile). networks_in file.0) (trace_files c.verb c.traces) (optional_file role.Seeks c.seeks ++ optional_file (certificate_role c.near) c.certificate) in
     let table = no_table_networks c.table in
     let some = all_networks c.verb 1 c.traces in
-    let none = no_networks c.seeks c.certificate in
+    let none = no_networks c.near c.seeks c.certificate in
     omega (arith, first, e, table, some, none)

@@ -1,6 +1,6 @@
 -- The table of roles: for each role of a file its limit, its word and what its bytes add; and the files that a command names, in
 -- the order of refusals.
-use Rattle.std.specs.Prelude.{ℕ, ◌+◌, List, [], ◌∷◌, ◌++◌, Option, Some, None, Result, Ok, Err, codes}
+use Rattle.std.specs.Prelude.{ℕ, ◌+◌, Bool, if◌then◌else◌, List, [], ◌∷◌, ◌++◌, Option, Some, None, Result, Ok, Err, codes}
 use Rattle.std.specs.Fmt.{decimal}
 use Rattle.lab_io.specs.Sink.{Text}
 use Rattle.lab_model.specs.declared.fault.Refusal.{Refusal}
@@ -56,6 +56,11 @@ row_of role.Certificate = record {
   words = codes "certificate";
   adds = λ name v bytes. Ok (with_certificate v bytes);
 }
+row_of role.PriceCertificate = record {
+  limit = 67108864;
+  words = codes "certificate";
+  adds = λ name v bytes. Ok (with_certificate v bytes);
+}
 
 -- ---- the order
 
@@ -85,11 +90,15 @@ abbrev pub optional_file : Role → Option Text → List NamedFile
 optional_file role None = []
 optional_file role (Some name) = (role, name) ∷ []
 
+-- what the certificate of a command is: one by prices, or by labels
+abbrev pub certificate_role : Bool → Role
+certificate_role near = if near then role.PriceCertificate else role.Certificate
+
 -- the files that come behind the manifest
 abbrev pub later_files : CommandWords → List NamedFile
 later_files c =
     optional_file role.Utilities c.table
-    ++ (trace_files c.verb c.traces ++ (optional_file role.Seeks c.seeks ++ optional_file role.Certificate c.certificate))
+    ++ (trace_files c.verb c.traces ++ (optional_file role.Seeks c.seeks ++ optional_file (certificate_role c.near) c.certificate))
 
 -- the files of a command on a film, in the order of refusals
 abbrev pub film_files : CommandWords → List NamedFile

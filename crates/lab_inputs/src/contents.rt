@@ -189,7 +189,7 @@ impl Contents {
             Role::Utilities => self.take_table(alloc, &bytes),
             Role::Trace | Role::TraceAt(_) => self.take_network(alloc, name, &bytes),
             Role::Seeks => self.take_seeks(alloc, &bytes),
-            Role::Certificate => {
+            Role::Certificate | Role::PriceCertificate => {
                 self.take_certificate(bytes);
                 Ok(())
             }

@@ -4,7 +4,7 @@ ghost use Rattle.std.specs.Prelude.{◌≡◌, ◌++◌, IfOk, OnOk, codes, map,
 ghost use Rattle.std.specs.Fmt.{decimal};
 ghost use Rattle.lab_io.specs.Sink.{Puts};
 ghost use Rattle.lab_words.specs.Command.{view};
-ghost use Rattle.lab_inputs.specs.Roles.{later_files, optional_file, row_of, trace_files, trace_role};
+ghost use Rattle.lab_inputs.specs.Roles.{certificate_role, later_files, optional_file, row_of, trace_files, trace_role};
 ghost use Rattle.lab_inputs.specs.Stages.{file_of};
 
 use lab_io::{PutErr, Sink, put_number, put_text};
@@ -24,8 +24,10 @@ pub enum Role {
     TraceAt(usize),
     /// The seek script.
     Seeks,
-    /// The certificate.
+    /// The certificate by labels.
     Certificate,
+    /// The certificate by prices.
+    PriceCertificate,
 }
 
 /// A file that a command names.
@@ -42,8 +44,12 @@ impl Role {
         ensures { result ≡ (row_of self).limit }
     {
         match self {
-            Role::Manifest | Role::Utilities | Role::Trace | Role::TraceAt(_) | Role::Seeks =>
-                67_108_864,
+            Role::Manifest
+            | Role::Utilities
+            | Role::Trace
+            | Role::TraceAt(_)
+            | Role::Seeks
+            | Role::PriceCertificate => 67_108_864,
             Role::Certificate => 536_870_912,
         }
     }
@@ -58,7 +64,7 @@ impl Role {
             Role::Trace => put_text(err, "trace"),
             Role::TraceAt(place) => put_numbered_trace(err, place),
             Role::Seeks => put_text(err, "seeks"),
-            Role::Certificate => put_text(err, "certificate"),
+            Role::Certificate | Role::PriceCertificate => put_text(err, "certificate"),
         }
     }
 }
@@ -101,6 +107,17 @@ fn trace_files(alloc: Global, command: &Command) -> Result<Vec<FileName<'_>>, Al
     Ok(files)
 }
 
+/// What the certificate of a command is: one by prices, or by labels.
+fn certificate_role(near: bool) -> Role
+    ensures { result ≡ certificate_role near }
+{
+    if near {
+        Role::PriceCertificate
+    } else {
+        Role::Certificate
+    }
+}
+
 /// Adds a file of this role, where one is named.
 fn push_named<'a>(
     files: &mut Vec<FileName<'a>>,
@@ -127,6 +144,7 @@ pub(crate) fn later_files(alloc: Global, command: &Command) -> Result<Vec<FileNa
     let mut traces = trace_files(alloc, command)?;
     later.append(&mut traces)?;
     push_named(&mut later, Role::Seeks, &command.seeks)?;
-    push_named(&mut later, Role::Certificate, &command.certificate)?;
+    let role = certificate_role(command.near);
+    push_named(&mut later, role, &command.certificate)?;
     Ok(later)
 }

@@ -26,7 +26,7 @@ use Rattle.lab_words.specs.Simulate.{players_by, players_in, several_players, si
 use Rattle.lab_words.specs.Table.{accepted}
 use Rattle.lab_model.specs.OptionSteps.{◌>>=◌}
 use Rattle.lab_model.proofs.OptionSteps.{then_some}
-use Rattle.lab_words.specs.Values.{Either, first, second, Reads, if_agreed, is_given, one_of, is_stray, several, some_plain, number_in, number_if, number_unless, unless_barred, optional, optional_number, required_text}
+use Rattle.lab_words.specs.Values.{Either, first, second, Understands, if_agreed, is_given, one_of, is_stray, several, some_plain, number_in, number_if, number_unless, unless_barred, optional, optional_number, required_text}
 use Rattle.lab_words.specs.Words.{asked_of, command_of, has_dashes, verb_of}
 use Rattle.lab_words.specs.declared.Command.{Command}
 use Rattle.lab_words.specs.declared.Verb.{Verb}
@@ -219,9 +219,9 @@ barred_default default least most name rows n h =
     by_given None e = cc
     by_given (Some m) e = cc
 
-budget_within : (regret : Bool) (rows : List Row) (n : ℕ) → budget_in regret rows ≡ Some n → IsBudget regret n
-budget_within true rows n h = unless_within false 200000 1 1000000 (codes "budget") rows n (lit≤ tt, lit≤ tt) h
-budget_within false rows n h = sym (barred_default 0 1 1000000 (codes "budget") rows n h)
+budget_within : (regret near : Bool) (rows : List Row) (n : ℕ) → budget_in regret near rows ≡ Some n → IsBudget regret n
+budget_within true near rows n h = unless_within near 200000 1 1000000 (codes "budget") rows n (lit≤ tt, lit≤ tt) h
+budget_within false near rows n h = sym (barred_default 0 1 1000000 (codes "budget") rows n h)
 
 grid_by_within : (time value : Text) (g : ℕ × ℕ) → grid_by time value ≡ Some g → IsGrid g.0 g.1
 grid_by_within time value g h =
@@ -431,7 +431,7 @@ compare_within rows c h =
     let rules = then_some (rules_in rows) _ c manifest.2 in
     let settings = then_some (settings_in rows) _ c rules.2 in
     let seeks = then_some (optional (codes "seeks") rows) _ c settings.2 in
-    let budget = then_some (budget_in (is_given (codes "regret") rows) rows) _ c seeks.2 in
+    let budget = then_some (budget_in (is_given (codes "regret") rows) (is_given (codes "near") rows) rows) _ c seeks.2 in
     let traces = then_some (traces_in rows) _ c budget.2 in
     let within = settings_within rows settings.0 settings.1 in
     let named' = rules_within rows rules.0 rules.1 in
@@ -443,6 +443,7 @@ compare_within rows c h =
       seeks = seeks.0;
       budget = budget.0;
       regret = is_given (codes "regret") rows;
+      near = is_given (codes "near") rows;
     } in
     let agreed = were_agreed compare_agrees made c traces.2 in
     let same : made ≡ c = agreed.1 in
@@ -451,7 +452,7 @@ compare_within rows c h =
       spoken = named'.1;
       buffer = λ film. within.buffer;
       weights = λ film. within.weights;
-      own = budget_within (is_given (codes "regret") rows) rows budget.0 budget.1;
+      own = budget_within (is_given (codes "regret") rows) (is_given (codes "near") rows) rows budget.0 budget.1;
       live = tt;
       grid = inl (refl, refl);
       agreed = agreed.0;
@@ -466,7 +467,7 @@ plan_within rows c h =
     let manifest = then_some (required_text (codes "manifest") rows) _ c h in
     let trace = then_some (required_text (codes "trace") rows) _ c manifest.2 in
     let settings = then_some (settings_in rows) _ c trace.2 in
-    let budget = then_some (number_in 200000 1 1000000 (codes "budget") rows) _ c settings.2 in
+    let budget = then_some (number_unless (is_given (codes "near") rows) 200000 1 1000000 (codes "budget") rows) _ c settings.2 in
     let live = then_some (optional_number 0 120000000 (codes "live") rows) _ c budget.2 in
     let grid = then_some (grid_in rows) _ c live.2 in
     let within = settings_within rows settings.0 settings.1 in
@@ -478,6 +479,7 @@ plan_within rows c h =
       live = live.0;
       coarse_time = grid.0.0;
       coarse_value = grid.0.1;
+      near = is_given (codes "near") rows;
     } in
     let agreed = were_agreed plan_agrees made c grid.2 in
     let same : made ≡ c = agreed.1 in
@@ -486,7 +488,7 @@ plan_within rows c h =
       spoken = no_rules;
       buffer = λ film. within.buffer;
       weights = λ film. within.weights;
-      own = option_within 200000 1 1000000 (codes "budget") rows budget.0 (lit≤ tt, lit≤ tt) budget.1;
+      own = unless_within (is_given (codes "near") rows) 200000 1 1000000 (codes "budget") rows budget.0 (lit≤ tt, lit≤ tt) budget.1;
       live = live_within rows live.0 live.1;
       grid = grid_within rows grid.0 grid.1;
       agreed = agreed.0;
@@ -507,6 +509,7 @@ check_within rows c h =
       certificate = Some certificate.0;
       live = live.0;
       gap = is_given (codes "gap") rows;
+      near = is_given (codes "near") rows;
     } in
     let agreed = were_agreed check_agrees made c live.2 in
     let same : made ≡ c = agreed.1 in
@@ -547,7 +550,7 @@ asked_within verb.Check words c h = let rows = went check_in (accepted check_app
 asked_within verb.Demo words c h = let rows = went demo_in (accepted demo_app words) c h in demo_within rows.0 c rows.2
 
 -- a call that gave what the words behind a command's name ask for
-pub gives_within : (v : Verb) (words : List Text) (r : Result Command WordsErr) → Reads view r (asked_of v words) → IfOk r (λ c. IsWithinLimits (view c))
+pub gives_within : (v : Verb) (words : List Text) (r : Result Command WordsErr) → Understands view r (asked_of v words) → IfOk r (λ c. IsWithinLimits (view c))
 gives_within v words (Ok c) h = asked_within v words (view c) h
 gives_within v words (Err e) h = tt
 

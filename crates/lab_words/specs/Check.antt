@@ -1,5 +1,5 @@
 -- The command `check`: its words and what they ask for.
-use Rattle.std.specs.Prelude.{Bool, List, [], ◌∷◌, Option, Some, codes, is_some}
+use Rattle.std.specs.Prelude.{Bool, ◌||◌, List, [], ◌∷◌, Option, Some, codes, is_some}
 use Rattle.clap.specs.Simple.{App}
 use Rattle.clap.specs.Walk.{Row}
 use Rattle.lab_words.specs.Command.{CommandWords, blank}
@@ -19,15 +19,16 @@ check_words = (codes "manifest", kind.Required)
     ∷ (codes "certificate", kind.Required)
     ∷ (codes "live", kind.Optional)
     ∷ (codes "gap", kind.Flag)
+    ∷ (codes "near", kind.Flag)
     ∷ []
 
 -- the command for `clap`
 unfoldable pub check_app : App
 check_app = table_app (codes "check") check_words settings_words
 
--- not both asked for: media ahead, and a gap certificate
+-- not both asked for: a gap certificate, and media ahead or a bound by prices
 abbrev pub check_agrees : CommandWords → Bool
-check_agrees c = at_most_one (is_some c.live ∷ c.gap ∷ [])
+check_agrees c = at_most_one ((is_some c.live || c.near) ∷ c.gap ∷ [])
 
 -- what `check` is asked for, by the values of its options
 unfoldable pub check_in : List Row → Option CommandWords
@@ -43,4 +44,5 @@ check_in rows = do
     certificate = Some certificate;
     live = live;
     gap = is_given (codes "gap") rows;
+    near = is_given (codes "near") rows;
   })

@@ -31,6 +31,7 @@ pub record CommandWords : Type 0 where
   pub gap : Bool
   pub players : Bool
   pub regret : Bool
+  pub near : Bool
 
 -- a command that asks for nothing yet
 abbrev pub blank : Verb → CommandWords
@@ -57,6 +58,7 @@ blank verb = record {
   gap = false;
   players = false;
   regret = false;
+  near = false;
 }
 
 -- a rule and its word, without where they lie in memory
@@ -88,4 +90,5 @@ view c = record {
   gap = c.gap;
   players = c.players;
   regret = c.regret;
+  near = c.near;
 }

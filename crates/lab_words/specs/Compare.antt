@@ -1,5 +1,5 @@
 -- The command `compare`: its words and what they ask for. Equal rules and equal traces count once, at their first place.
-use Rattle.std.specs.Prelude.{ℕ, ◌==◌, ◌||◌, Bool, not, is_some, List, [], ◌∷◌, length, nat_le, Option, Some, None, option_map, option_and_then, codes, if◌then◌else◌}
+use Rattle.std.specs.Prelude.{ℕ, ◌==◌, ◌&&◌, ◌||◌, Bool, not, is_some, List, [], ◌∷◌, length, nat_le, Option, Some, None, option_map, option_and_then, codes, if◌then◌else◌}
 use Rattle.std.specs.List.{slice_split}
 use Rattle.std.specs.Str.{bytes_eq}
 use Rattle.clap.specs.Simple.{App}
@@ -25,6 +25,7 @@ compare_words = (codes "manifest", kind.Required)
     ∷ (codes "seeks", kind.Optional)
     ∷ (codes "regret", kind.Flag)
     ∷ (codes "budget", kind.Optional)
+    ∷ (codes "near", kind.Flag)
     ∷ (codes "trace", kind.Several)
     ∷ []
 
@@ -51,13 +52,13 @@ rules_in rows = do
 unfoldable pub traces_in : List Row → Option (List Text)
 traces_in rows = option_and_then (few 64) (several (codes "trace") rows)
 
--- the budget, which is for regrets alone
-abbrev pub budget_in : Bool → List Row → Option ℕ
-budget_in regret rows = number_unless (not regret) (if regret then 200000 else 0) 1 1000000 (codes "budget") rows
+-- the budget, which is for regrets alone, and for the best lists, not for bounds by prices
+abbrev pub budget_in : Bool → Bool → List Row → Option ℕ
+budget_in regret near rows = number_unless (not regret || near) (if regret then 200000 else 0) 1 1000000 (codes "budget") rows
 
--- not both asked for: regrets, and a viewer who gives downloads up or seeks
+-- not both asked for: regrets, and a viewer who gives downloads up or seeks; nor bounds by prices, and no regrets
 abbrev pub compare_agrees : CommandWords → Bool
-compare_agrees c = at_most_one (c.regret ∷ (c.abandon || is_some c.seeks) ∷ [])
+compare_agrees c = at_most_one (c.regret ∷ (c.abandon || is_some c.seeks) ∷ []) && at_most_one (c.near ∷ not c.regret ∷ [])
 
 -- what `compare` is asked for, by the values of its options
 unfoldable pub compare_in : List Row → Option CommandWords
@@ -66,7 +67,7 @@ compare_in rows = do
   rules ← rules_in rows
   settings ← settings_in rows
   seeks ← optional (codes "seeks") rows
-  budget ← budget_in (is_given (codes "regret") rows) rows
+  budget ← budget_in (is_given (codes "regret") rows) (is_given (codes "near") rows) rows
   traces ← traces_in rows
   if_agreed compare_agrees (record (with_settings settings (blank verb.Compare)) {
     manifest = manifest;
@@ -76,4 +77,5 @@ compare_in rows = do
     seeks = seeks;
     budget = budget;
     regret = is_given (codes "regret") rows;
+    near = is_given (codes "near") rows;
   })

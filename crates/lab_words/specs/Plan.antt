@@ -1,5 +1,5 @@
 -- The command `plan`: its words and what they ask for.
-use Rattle.std.specs.Prelude.{ℕ, Bool, List, [], ◌∷◌, Option, Some, None, codes, is_some, nat_lt}
+use Rattle.std.specs.Prelude.{ℕ, Bool, ◌||◌, List, [], ◌∷◌, Option, Some, None, codes, is_some, nat_lt}
 use Rattle.clap.specs.Simple.{App}
 use Rattle.clap.specs.Walk.{Row}
 use Rattle.lab_words.specs.Command.{CommandWords, blank}
@@ -7,7 +7,7 @@ use Rattle.lab_words.specs.Settings.{settings_in, settings_words, with_settings}
 use Rattle.lab_words.specs.Spelling.{Text, grid_of}
 use Rattle.lab_words.specs.Table.{table_app}
 use Rattle.lab_model.specs.OptionSteps.{◌>>=◌}
-use Rattle.lab_words.specs.Values.{at_most_one, if_agreed, is_given, number_in, optional, optional_number, required_text}
+use Rattle.lab_words.specs.Values.{at_most_one, if_agreed, is_given, number_unless, optional, optional_number, required_text}
 use Rattle.lab_words.specs.declared.Verb.TheVariants as verb
 use Rattle.lab_words.specs.declared.table.Kind.{Kind}
 use Rattle.lab_words.specs.declared.table.Kind.TheVariants as kind
@@ -20,6 +20,7 @@ plan_words = (codes "manifest", kind.Required)
     ∷ (codes "as-certificate", kind.Flag)
     ∷ (codes "live", kind.Optional)
     ∷ (codes "coarse", kind.Optional)
+    ∷ (codes "near", kind.Flag)
     ∷ []
 
 -- the command for `clap`
@@ -37,9 +38,9 @@ grid_in rows = do
   given ← optional (codes "coarse") rows
   grid_if given
 
--- not both asked for: media ahead, and a coarse plan
+-- not both asked for: a coarse plan, and media ahead or a bound by prices
 abbrev pub plan_agrees : CommandWords → Bool
-plan_agrees c = at_most_one (is_some c.live ∷ nat_lt 0 c.coarse_time ∷ [])
+plan_agrees c = at_most_one ((is_some c.live || c.near) ∷ nat_lt 0 c.coarse_time ∷ [])
 
 -- what `plan` is asked for, by the values of its options
 unfoldable pub plan_in : List Row → Option CommandWords
@@ -47,7 +48,7 @@ plan_in rows = do
   manifest ← required_text (codes "manifest") rows
   trace ← required_text (codes "trace") rows
   settings ← settings_in rows
-  budget ← number_in 200000 1 1000000 (codes "budget") rows
+  budget ← number_unless (is_given (codes "near") rows) 200000 1 1000000 (codes "budget") rows
   live ← optional_number 0 120000000 (codes "live") rows
   grid ← grid_in rows
   if_agreed plan_agrees (record (with_settings settings (blank verb.Plan)) {
@@ -58,4 +59,5 @@ plan_in rows = do
     live = live;
     coarse_time = grid.0;
     coarse_value = grid.1;
+    near = is_given (codes "near") rows;
   })

@@ -11,10 +11,10 @@ use Rattle.lab_words.specs.declared.values.OneOf.{OneOf}
 use Rattle.lab_words.specs.declared.values.OneOf.TheVariants as one
 
 -- a call gave the value, or refused, or was out of memory
-abbrev pub Reads : {X Y : Type 0} → (X → Y) → Result X WordsErr → Option Y → Type 0
-Reads view (Ok x) read = read ≡ Some (view x)
-Reads view (Err errors.Usage) read = read ≡ None
-Reads view (Err errors.Memory) read = Unit {0}
+abbrev pub Understands : {X Y : Type 0} → (X → Y) → Result X WordsErr → Option Y → Type 0
+Understands view (Ok x) read = read ≡ Some (view x)
+Understands view (Err errors.Usage) read = read ≡ None
+Understands view (Err errors.Memory) read = Unit {0}
 
 -- a value that is empty or begins with `-`
 abbrev pub is_stray : Text → Bool

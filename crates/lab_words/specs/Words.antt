@@ -12,7 +12,7 @@ use Rattle.lab_words.specs.Table.{accepted}
 use Rattle.lab_words.specs.declared.Verb.{Verb}
 use Rattle.lab_words.specs.declared.Verb.TheVariants as verb
 pub use Rattle.lab_words.specs.Command.{CommandWords, named, view}
-pub use Rattle.lab_words.specs.Values.{Reads}
+pub use Rattle.lab_words.specs.Values.{Understands}
 
 -- the word `--` stands among the words
 abbrev pub has_dashes : List Text → Bool

@@ -5,7 +5,7 @@ ghost use Rattle.clap.specs.Words.{found_of, rows_of};
 ghost use Rattle.lab_words.specs.Command.{view};
 ghost use Rattle.lab_words.specs.Check.{check_app, check_in};
 ghost use Rattle.lab_words.specs.Table.{accepted};
-ghost use Rattle.lab_words.specs.Values.{Reads};
+ghost use Rattle.lab_words.specs.Values.{Understands};
 ghost use Rattle.lab_words.specs.Words.{asked_of};
 
 use crate::settings::{MOST_LIVE, SETTINGS, settings_in};
@@ -17,17 +17,18 @@ use std::alloc::Global;
 
 /// The words of `check` alone.
 #[rattlefmt::skip]
-static CHECK: [Word; 5] = [
+static CHECK: [Word; 6] = [
     Word { name: "manifest", kind: Kind::Required },
     Word { name: "trace", kind: Kind::Required },
     Word { name: "certificate", kind: Kind::Required },
     Word { name: "live", kind: Kind::Optional },
     Word { name: "gap", kind: Kind::Flag },
+    Word { name: "near", kind: Kind::Flag },
 ];
 
 /// The matches of `check` on the words behind it.
 fn check_matches<'a>(alloc: Global, words: &'a [String]) -> Result<ArgMatches<'a>, WordsErr>
-    ensures { Reads (λ m. rows_of (found_of m)) result
+    ensures { Understands (λ m. rows_of (found_of m)) result
         (accepted check_app (map string_bytes words.entry.now)) }
 {
     table_matches(alloc, "check", &CHECK, &SETTINGS, words)
@@ -36,7 +37,7 @@ fn check_matches<'a>(alloc: Global, words: &'a [String]) -> Result<ArgMatches<'a
 /// What `check` is asked for, by the values of its options.
 #[tactic(auto, unfolding(crate::specs::Check::check_in))]
 fn check_in(alloc: Global, matches: &ArgMatches<'_>) -> Result<Command, WordsErr>
-    ensures { Reads view result (check_in (rows_of (found_of matches.now))) }
+    ensures { Understands view result (check_in (rows_of (found_of matches.now))) }
 {
     let manifest = file_name(alloc, matches, "manifest")?;
     let trace = file_name(alloc, matches, "trace")?;
@@ -44,7 +45,8 @@ fn check_in(alloc: Global, matches: &ArgMatches<'_>) -> Result<Command, WordsErr
     let certificate = file_name(alloc, matches, "certificate")?;
     let live = optional_number(matches, "live", 0, MOST_LIVE)?;
     let gap = is_given(matches, "gap");
-    if !at_most_one(&[live.is_some(), gap]) {
+    let near = is_given(matches, "near");
+    if !at_most_one(&[live.is_some() || near, gap]) {
         return Err(WordsErr::Usage);
     }
     Ok(Command {
@@ -53,13 +55,14 @@ fn check_in(alloc: Global, matches: &ArgMatches<'_>) -> Result<Command, WordsErr
         certificate: Some(certificate),
         live,
         gap,
+        near,
         ..settings.command(alloc, Verb::Check)
     })
 }
 
 /// What the words behind `check` ask for.
 pub(crate) fn check_of(alloc: Global, words: &[String]) -> Result<Command, WordsErr>
-    ensures { Reads view result (asked_of Verb.Check (map string_bytes words.now)) }
+    ensures { Understands view result (asked_of Verb.Check (map string_bytes words.now)) }
 {
     let matches = check_matches(alloc, words)?;
     check_in(alloc, &matches)

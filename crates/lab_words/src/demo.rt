@@ -5,7 +5,7 @@ ghost use Rattle.clap.specs.Words.{found_of, rows_of};
 ghost use Rattle.lab_words.specs.Command.{view};
 ghost use Rattle.lab_words.specs.Demo.{demo_app, demo_in};
 ghost use Rattle.lab_words.specs.Table.{accepted};
-ghost use Rattle.lab_words.specs.Values.{Reads};
+ghost use Rattle.lab_words.specs.Values.{Understands};
 ghost use Rattle.lab_words.specs.Words.{asked_of};
 
 use crate::numbers::number_of;
@@ -23,7 +23,7 @@ static DEMO: [Word; 1] = [
 
 /// The matches of `demo` on the words behind it.
 fn demo_matches<'a>(alloc: Global, words: &'a [String]) -> Result<ArgMatches<'a>, WordsErr>
-    ensures { Reads (λ m. rows_of (found_of m)) result
+    ensures { Understands (λ m. rows_of (found_of m)) result
         (accepted demo_app (map string_bytes words.entry.now)) }
 {
     table_matches(alloc, "demo", &DEMO, &[], words)
@@ -32,7 +32,7 @@ fn demo_matches<'a>(alloc: Global, words: &'a [String]) -> Result<ArgMatches<'a>
 /// What `demo` is asked for, by the values of its options.
 #[tactic(auto, unfolding(crate::specs::Demo::demo_in))]
 fn demo_in(alloc: Global, matches: &ArgMatches<'_>) -> Result<Command, WordsErr>
-    ensures { Reads view result (demo_in (rows_of (found_of matches.now))) }
+    ensures { Understands view result (demo_in (rows_of (found_of matches.now))) }
 {
     let text = required_text(matches, "number")?;
     let number = number_of(text, 0, 2_147_483_647).ok_or(WordsErr::Usage)?;
@@ -44,7 +44,7 @@ fn demo_in(alloc: Global, matches: &ArgMatches<'_>) -> Result<Command, WordsErr>
 
 /// What the words behind `demo` ask for.
 pub(crate) fn demo_of(alloc: Global, words: &[String]) -> Result<Command, WordsErr>
-    ensures { Reads view result (asked_of Verb.Demo (map string_bytes words.now)) }
+    ensures { Understands view result (asked_of Verb.Demo (map string_bytes words.now)) }
 {
     let matches = demo_matches(alloc, words)?;
     demo_in(alloc, &matches)

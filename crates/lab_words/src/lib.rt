@@ -17,7 +17,7 @@ ghost use Rattle.std.specs.List.{list_any};
 ghost use Rattle.std.specs.Str.{bytes_eq};
 ghost use Rattle.lab_words.specs.Limits.{IsWithinLimits};
 ghost use Rattle.lab_words.specs.Command.{blank, view};
-ghost use Rattle.lab_words.specs.Values.{Reads};
+ghost use Rattle.lab_words.specs.Values.{Understands};
 ghost use Rattle.lab_words.specs.Words.{asked_of, begins_with_verb, command_of, has_dashes, verb_of};
 
 use crate::check::check_of;
@@ -112,6 +112,8 @@ pub struct Command {
     pub players: bool,
     /// Whether each rule's regret is asked for.
     pub regret: bool,
+    /// Whether bounds by prices are asked for in place of the best value.
+    pub near: bool,
 }
 
 impl Command {
@@ -142,6 +144,7 @@ impl Command {
             gap: false,
             players: false,
             regret: false,
+            near: false,
         }
     }
 }
@@ -206,7 +209,7 @@ fn verb_of(word: &str) -> Option<Verb>
 
 /// What the words behind a command's name ask for.
 fn asked_of(alloc: Global, verb: Verb, words: &[String]) -> Result<Command, WordsErr>
-    ensures { Reads view result (asked_of verb (map string_bytes words.now)) }
+    ensures { Understands view result (asked_of verb (map string_bytes words.now)) }
 {
     match verb {
         Verb::Simulate => simulate_of(alloc, words),
@@ -222,7 +225,7 @@ fn asked_of(alloc: Global, verb: Verb, words: &[String]) -> Result<Command, Word
 /// first is no command.
 #[tactic(auto, unfolding(crate::specs::Words::command_of))]
 pub fn read_words(alloc: Global, words: &[String]) -> Result<Command, WordsErr>
-    ensures read { Reads view result (command_of (map string_bytes words.now)) }
+    ensures read { Understands view result (command_of (map string_bytes words.now)) }
     ensures limits { IfOk result (λ command. IsWithinLimits (view command)) }
     ensures no_command { begins_with_verb (map string_bytes words.now) ≡ false
         → result ≡ Err WordsErr.Usage }

@@ -3,7 +3,7 @@
 ghost use Rattle.std.specs.Prelude.{◌≡◌, ◌≤◌, IfOk, IfSome, length, map};
 ghost use Rattle.std.specs.Str.{all_ascii_digits};
 ghost use Rattle.lab_words.specs.Spelling.{grid_by, grid_of, is_number, never_falls, number_of, numbers_of, pieces_of, utilities_of};
-ghost use Rattle.lab_words.specs.Values.{Reads};
+ghost use Rattle.lab_words.specs.Values.{Understands};
 
 use crate::WordsErr;
 use std::alloc::{AllocError, Global};
@@ -72,7 +72,7 @@ fn numbers_of(
     least: u32,
     most: u32,
 ) -> Result<Vec<u32>, WordsErr>
-    ensures { Reads (λ numbers. numbers.items) result (numbers_of count least most text.now) }
+    ensures { Understands (λ numbers. numbers.items) result (numbers_of count least most text.now) }
 {
     let pieces = pieces_of(alloc, text)?;
     if pieces.len() > count {
@@ -97,7 +97,7 @@ pub(crate) fn small_numbers_of(
     least: u8,
     most: u8,
 ) -> Result<Vec<u8>, WordsErr>
-    ensures { Reads (λ numbers. numbers.items) result (numbers_of count least most text.now) }
+    ensures { Understands (λ numbers. numbers.items) result (numbers_of count least most text.now) }
 {
     let pieces = pieces_of(alloc, text)?;
     if pieces.len() > count {
@@ -123,7 +123,7 @@ fn never_falls(numbers: &[u32]) -> bool
 /// 1 to 16 utilities joined by `,`, non-decreasing, each from 0 to 1000000.
 #[tactic(auto, unfolding(crate::specs::Spelling::utilities_of))]
 pub(crate) fn utilities_of(alloc: Global, text: &str) -> Result<Vec<u32>, WordsErr>
-    ensures { Reads (λ numbers. numbers.items) result (utilities_of text.now) }
+    ensures { Understands (λ numbers. numbers.items) result (utilities_of text.now) }
 {
     let utilities = numbers_of(alloc, text, 16, 0, 1_000_000)?;
     if never_falls(&utilities) {

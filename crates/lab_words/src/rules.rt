@@ -4,7 +4,7 @@ ghost use Rattle.std.specs.Prelude.{◌≡◌, ◌==◌, IfOk, map};
 ghost use Rattle.std.specs.List.{slice_split};
 ghost use Rattle.lab_words.specs.Command.{named};
 ghost use Rattle.lab_words.specs.Rules.{named_rule, named_rules, rule_of, rule_of_kind, spoken};
-ghost use Rattle.lab_words.specs.Values.{Reads};
+ghost use Rattle.lab_words.specs.Values.{Understands};
 
 use crate::numbers::{number_of, small_number_of, small_numbers_of};
 use crate::{NamedRule, RuleWords, WordsErr};
@@ -12,7 +12,7 @@ use std::alloc::{AllocError, Global};
 
 /// The rule of this kind with these numbers.
 fn rule_of_kind(alloc: Global, kind: &str, numbers: &str) -> Result<RuleWords, WordsErr>
-    ensures { Reads spoken result (rule_of_kind kind.now numbers.now) }
+    ensures { Understands spoken result (rule_of_kind kind.now numbers.now) }
 {
     match kind {
         "fixed" => Ok(RuleWords::Fixed {
@@ -37,7 +37,7 @@ fn rule_of_kind(alloc: Global, kind: &str, numbers: &str) -> Result<RuleWords, W
 /// The rule that the text spells: its kind, a `:` and its numbers.
 #[tactic(auto, unfolding(crate::specs::Rules::rule_of))]
 fn rule_of(alloc: Global, text: &str) -> Result<RuleWords, WordsErr>
-    ensures { Reads spoken result (rule_of text.now) }
+    ensures { Understands spoken result (rule_of text.now) }
 {
     match text.split_once(':') {
         Some((kind, numbers)) => rule_of_kind(alloc, kind, numbers),
@@ -55,7 +55,7 @@ pub(crate) fn pieces_of<'a>(alloc: Global, text: &'a str) -> Result<Vec<&'a str>
 
 /// The rule that a text spells, with the text as its name.
 pub(crate) fn named_rule(alloc: Global, text: &str) -> Result<NamedRule, WordsErr>
-    ensures { Reads named result (named_rule text.now) }
+    ensures { Understands named result (named_rule text.now) }
 {
     Ok(NamedRule {
         rule: rule_of(alloc, text)?,
@@ -65,7 +65,7 @@ pub(crate) fn named_rule(alloc: Global, text: &str) -> Result<NamedRule, WordsEr
 
 /// The rule of each text.
 pub(crate) fn named_rules(alloc: Global, texts: &[&str]) -> Result<Vec<NamedRule>, WordsErr>
-    ensures { Reads (λ rules. map named rules.items) result
+    ensures { Understands (λ rules. map named rules.items) result
         (named_rules (map (λ text. text.now) texts.now)) }
 {
     let mut rules = Vec::new(alloc);

@@ -4,7 +4,7 @@ ghost use Rattle.std.specs.Prelude.{◌≡◌, option_map, string_bytes};
 ghost use Rattle.clap.specs.Words.{found_of, rows_of};
 ghost use Rattle.lab_words.specs.Command.{blank, view};
 ghost use Rattle.lab_words.specs.Settings.{settings_in, settings_view, utilities_in, with_settings};
-ghost use Rattle.lab_words.specs.Values.{Reads};
+ghost use Rattle.lab_words.specs.Values.{Understands};
 
 use crate::numbers::utilities_of;
 use crate::table::{Kind, Word};
@@ -44,7 +44,7 @@ fn utilities_in(
     alloc: Global,
     matches: &ArgMatches<'_>,
 ) -> Result<(Vec<u32>, Option<String>), WordsErr>
-    ensures { Reads (λ words. (words.0.items, option_map string_bytes words.1)) result
+    ensures { Understands (λ words. (words.0.items, option_map string_bytes words.1)) result
         (utilities_in (rows_of (found_of matches.now))) }
 {
     match one_of(matches, "utilities", "utility-table")? {
@@ -56,7 +56,7 @@ fn utilities_in(
 /// What the options of a command on a manifest say.
 #[tactic(auto, unfolding(crate::specs::Settings::settings_in))]
 pub(crate) fn settings_in(alloc: Global, matches: &ArgMatches<'_>) -> Result<Settings, WordsErr>
-    ensures { Reads settings_view result (settings_in (rows_of (found_of matches.now))) }
+    ensures { Understands settings_view result (settings_in (rows_of (found_of matches.now))) }
 {
     let buffer_ms = number_in(matches, "buffer", 25_000, 1, 10_000_000)?;
     let (utilities, table) = utilities_in(alloc, matches)?;

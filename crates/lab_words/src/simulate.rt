@@ -5,7 +5,7 @@ ghost use Rattle.clap.specs.Words.{found_of, rows_of};
 ghost use Rattle.lab_words.specs.Command.{named, view};
 ghost use Rattle.lab_words.specs.Simulate.{players_in, several_players, simulate_app, simulate_in};
 ghost use Rattle.lab_words.specs.Table.{accepted};
-ghost use Rattle.lab_words.specs.Values.{Reads};
+ghost use Rattle.lab_words.specs.Values.{Understands};
 ghost use Rattle.lab_words.specs.Words.{asked_of};
 
 use crate::rules::{named_rule, named_rules, pieces_of};
@@ -35,7 +35,7 @@ const MOST_PLAYERS: usize = 8;
 
 /// The matches of `simulate` on the words behind it.
 fn simulate_matches<'a>(alloc: Global, words: &'a [String]) -> Result<ArgMatches<'a>, WordsErr>
-    ensures { Reads (λ m. rows_of (found_of m)) result
+    ensures { Understands (λ m. rows_of (found_of m)) result
         (accepted simulate_app (map string_bytes words.entry.now)) }
 {
     table_matches(alloc, "simulate", &SIMULATE, &SETTINGS, words)
@@ -44,7 +44,7 @@ fn simulate_matches<'a>(alloc: Global, words: &'a [String]) -> Result<ArgMatches
 /// The rules of several players, joined by `/`.
 #[tactic(auto, unfolding(crate::specs::Simulate::several_players))]
 fn several_players(alloc: Global, text: &str) -> Result<Vec<NamedRule>, WordsErr>
-    ensures { Reads (λ rules. map named rules.items) result (several_players text.now) }
+    ensures { Understands (λ rules. map named rules.items) result (several_players text.now) }
 {
     let texts = pieces_of(alloc, text)?;
     if texts.len() > MOST_PLAYERS {
@@ -56,7 +56,7 @@ fn several_players(alloc: Global, text: &str) -> Result<Vec<NamedRule>, WordsErr
 /// The rules of the players, and whether it is of several that they are.
 #[tactic(auto, unfolding(crate::specs::Simulate::players_in))]
 fn players_in(alloc: Global, matches: &ArgMatches<'_>) -> Result<(Vec<NamedRule>, bool), WordsErr>
-    ensures { Reads (λ players. (map named players.0.items, players.1)) result
+    ensures { Understands (λ players. (map named players.0.items, players.1)) result
         (players_in (rows_of (found_of matches.now))) }
 {
     match one_of(matches, "rule", "players")? {
@@ -71,7 +71,7 @@ fn players_in(alloc: Global, matches: &ArgMatches<'_>) -> Result<(Vec<NamedRule>
 /// What `simulate` is asked for, by the values of its options.
 #[tactic(auto, using(crate::proofs::Options::some_map), unfolding(crate::specs::Simulate::simulate_in))]
 fn simulate_in(alloc: Global, matches: &ArgMatches<'_>) -> Result<Command, WordsErr>
-    ensures { Reads view result (simulate_in (rows_of (found_of matches.now))) }
+    ensures { Understands view result (simulate_in (rows_of (found_of matches.now))) }
 {
     let manifest = file_name(alloc, matches, "manifest")?;
     let trace = file_name(alloc, matches, "trace")?;
@@ -97,7 +97,7 @@ fn simulate_in(alloc: Global, matches: &ArgMatches<'_>) -> Result<Command, Words
 
 /// What the words behind `simulate` ask for.
 pub(crate) fn simulate_of(alloc: Global, words: &[String]) -> Result<Command, WordsErr>
-    ensures { Reads view result (asked_of Verb.Simulate (map string_bytes words.now)) }
+    ensures { Understands view result (asked_of Verb.Simulate (map string_bytes words.now)) }
 {
     let matches = simulate_matches(alloc, words)?;
     simulate_in(alloc, &matches)

@@ -3,7 +3,7 @@
 ghost use Rattle.std.specs.Prelude.{◌≡◌, map, option_map, string_bytes};
 ghost use Rattle.std.specs.List.{list_any};
 ghost use Rattle.clap.specs.Words.{all_of, first_of, found_of, rows_of};
-ghost use Rattle.lab_words.specs.Values.{Reads, at_most_one, either_view, is_given, is_stray, number_in, number_unless, one_of, optional, optional_number, required_text, several, some_plain};
+ghost use Rattle.lab_words.specs.Values.{Understands, at_most_one, either_view, is_given, is_stray, number_in, number_unless, one_of, optional, optional_number, required_text, several, some_plain};
 
 use crate::WordsErr;
 use crate::numbers::number_of;
@@ -33,7 +33,7 @@ pub(crate) fn optional<'a>(
     matches: &ArgMatches<'a>,
     name: &str,
 ) -> Result<Option<&'a str>, WordsErr>
-    ensures { Reads (option_map (λ text. text.now)) result
+    ensures { Understands (option_map (λ text. text.now)) result
         (optional name.now (rows_of (found_of matches.now))) }
 {
     match text_of(matches, name) {
@@ -45,7 +45,7 @@ pub(crate) fn optional<'a>(
 /// The value of an option that has to be given.
 #[tactic(auto, unfolding(crate::specs::Values::required_text))]
 pub(crate) fn required_text<'a>(matches: &ArgMatches<'a>, name: &str) -> Result<&'a str, WordsErr>
-    ensures { Reads (λ text. text.now) result (required_text name.now (rows_of (found_of matches.now))) }
+    ensures { Understands (λ text. text.now) result (required_text name.now (rows_of (found_of matches.now))) }
 {
     optional(matches, name)?.ok_or(WordsErr::Usage)
 }
@@ -64,7 +64,7 @@ pub(crate) fn one_of<'a>(
     name: &str,
     other: &str,
 ) -> Result<OneOf<'a>, WordsErr>
-    ensures { Reads either_view result
+    ensures { Understands either_view result
         (one_of name.now other.now (rows_of (found_of matches.now))) }
 {
     match (optional(matches, name)?, optional(matches, other)?) {
@@ -80,7 +80,7 @@ pub(crate) fn file_name(
     matches: &ArgMatches<'_>,
     name: &str,
 ) -> Result<String, WordsErr>
-    ensures { Reads string_bytes result (required_text name.now (rows_of (found_of matches.now))) }
+    ensures { Understands string_bytes result (required_text name.now (rows_of (found_of matches.now))) }
 {
     Ok(required_text(matches, name)?.to_string(alloc)?)
 }
@@ -91,7 +91,7 @@ pub(crate) fn optional_file_name(
     matches: &ArgMatches<'_>,
     name: &str,
 ) -> Result<Option<String>, WordsErr>
-    ensures { Reads (option_map string_bytes) result
+    ensures { Understands (option_map string_bytes) result
         (optional name.now (rows_of (found_of matches.now))) }
 {
     match optional(matches, name)? {
@@ -108,7 +108,7 @@ pub(crate) fn optional_number(
     least: u32,
     most: u32,
 ) -> Result<Option<u32>, WordsErr>
-    ensures { Reads (λ number. number) result
+    ensures { Understands (λ number. number) result
         (optional_number least most name.now (rows_of (found_of matches.now))) }
 {
     match optional(matches, name)? {
@@ -129,7 +129,7 @@ pub(crate) fn number_in(
     least: u32,
     most: u32,
 ) -> Result<u32, WordsErr>
-    ensures { Reads (λ number. number) result
+    ensures { Understands (λ number. number) result
         (number_in default least most name.now (rows_of (found_of matches.now))) }
 {
     Ok(optional_number(matches, name, least, most)?.unwrap_or(default))
@@ -157,7 +157,7 @@ fn has_stray(texts: &[&str]) -> bool
 
 /// The values, of which there is one and none is stray.
 fn some_plain<'m, 'a>(texts: &'m [&'a str]) -> Result<&'m [&'a str], WordsErr>
-    ensures { Reads (λ texts. map (λ text. text.now) texts.now) result
+    ensures { Understands (λ texts. map (λ text. text.now) texts.now) result
         (some_plain (map (λ text. text.now) texts.entry.now)) }
 {
     match texts {
@@ -172,7 +172,7 @@ pub(crate) fn several<'m, 'a>(
     matches: &'m ArgMatches<'a>,
     name: &str,
 ) -> Result<&'m [&'a str], WordsErr>
-    ensures { Reads (λ texts. map (λ text. text.now) texts.now) result
+    ensures { Understands (λ texts. map (λ text. text.now) texts.now) result
         (several name.now (rows_of (found_of matches.now))) }
 {
     match all_of(matches, name) {
@@ -209,7 +209,7 @@ pub(crate) fn number_unless(
     least: u32,
     most: u32,
 ) -> Result<u32, WordsErr>
-    ensures { Reads (λ number. number) result
+    ensures { Understands (λ number. number) result
         (number_unless barred default least most name.now (rows_of (found_of matches.now))) }
 {
     let given = optional_number(matches, name, least, most)?;

@@ -35,7 +35,7 @@ fn words_of_compare(rt: HostRuntime) -> Result<(), Fail> {
         &rt,
         alloc,
         "compare b --manifest m --rules fixed:1/mpc:2/fixed:1 a --utilities 0,10 b",
-        "Command { verb: Compare, manifest: \"m\", traces: [\"b\", \"a\"], rules: [NamedRule { name: \"fixed:1\", rule: Fixed { rung: 1 } }, NamedRule { name: \"mpc:2\", rule: Mpc { horizon: 2 } }], buffer_ms: 25000, utilities: [0, 10], table: None, switch: 0, stall: 100, startup: 1, abandon: false, seeks: None, budget: 0, as_certificate: false, certificate: None, number: 0, live: None, coarse_time: 0, coarse_value: 0, gap: false, players: false, regret: false }",
+        "Command { verb: Compare, manifest: \"m\", traces: [\"b\", \"a\"], rules: [NamedRule { name: \"fixed:1\", rule: Fixed { rung: 1 } }, NamedRule { name: \"mpc:2\", rule: Mpc { horizon: 2 } }], buffer_ms: 25000, utilities: [0, 10], table: None, switch: 0, stall: 100, startup: 1, abandon: false, seeks: None, budget: 0, as_certificate: false, certificate: None, number: 0, live: None, coarse_time: 0, coarse_value: 0, gap: false, players: false, regret: false, near: false }",
     )?;
     expect(&rt, alloc, BASE, &READ, "read")?;
     expect(&rt, alloc, BASE, &REFUSED, "refused")

@@ -182,6 +182,54 @@ const PLAYERS: [(&str, &str); 9] = [
     ),
 ];
 
+/// Bounds by prices.
+const NEAR: [(&str, &str); 11] = [
+    (
+        "plan --manifest m --trace t --utilities 0 --near --live 5",
+        "budget: 200000, as_certificate",
+    ),
+    (
+        "plan --manifest m --trace t --utilities 0 --as-certificate --near",
+        "regret: false, near: true",
+    ),
+    (
+        "check --manifest m --trace t --utilities 0 --certificate c --near --live 5",
+        "regret: false, near: true",
+    ),
+    (
+        "compare --manifest m --rules fixed:1 --utilities 0 --regret --near t",
+        "budget: 200000, as_certificate",
+    ),
+    (
+        "compare t --manifest m --rules fixed:1 --utilities 0 --regret --near",
+        "regret: true, near: true",
+    ),
+    (
+        "plan --manifest m --trace t --utilities 0 --near --budget 200000",
+        "Usage",
+    ),
+    (
+        "plan --manifest m --trace t --utilities 0 --near --coarse 1,1",
+        "Usage",
+    ),
+    (
+        "check --manifest m --trace t --utilities 0 --certificate c --near --gap",
+        "Usage",
+    ),
+    (
+        "compare --manifest m --rules fixed:1 --utilities 0 --near t",
+        "Usage",
+    ),
+    (
+        "compare --manifest m --rules fixed:1 --utilities 0 --regret --near --budget 7 t",
+        "Usage",
+    ),
+    (
+        "simulate --manifest m --trace t --utilities 0 --players mpc:1 --near",
+        "Usage",
+    ),
+];
+
 /// What the words of a line ask for, or why not.
 fn told(alloc: Global, line: &str) -> Result<String, Fail> {
     let words = words_of(alloc, line)?;
@@ -205,5 +253,6 @@ fn options(rt: HostRuntime) -> Result<(), Fail> {
     shows(&rt, rt.alloc(), &LIVE)?;
     shows(&rt, rt.alloc(), &COARSE)?;
     shows(&rt, rt.alloc(), &REGRET)?;
-    shows(&rt, rt.alloc(), &PLAYERS)
+    shows(&rt, rt.alloc(), &PLAYERS)?;
+    shows(&rt, rt.alloc(), &NEAR)
 }

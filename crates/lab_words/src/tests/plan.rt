@@ -29,7 +29,7 @@ fn words_of_plan(rt: HostRuntime) -> Result<(), Fail> {
         &rt,
         alloc,
         "plan --manifest m --trace t --utilities 0,10 --as-certificate",
-        "Command { verb: Plan, manifest: \"m\", traces: [\"t\"], rules: [], buffer_ms: 25000, utilities: [0, 10], table: None, switch: 0, stall: 100, startup: 1, abandon: false, seeks: None, budget: 200000, as_certificate: true, certificate: None, number: 0, live: None, coarse_time: 0, coarse_value: 0, gap: false, players: false, regret: false }",
+        "Command { verb: Plan, manifest: \"m\", traces: [\"t\"], rules: [], buffer_ms: 25000, utilities: [0, 10], table: None, switch: 0, stall: 100, startup: 1, abandon: false, seeks: None, budget: 200000, as_certificate: true, certificate: None, number: 0, live: None, coarse_time: 0, coarse_value: 0, gap: false, players: false, regret: false, near: false }",
     )?;
     expect(&rt, alloc, BASE, &READ, "read")?;
     expect(&rt, alloc, BASE, &REFUSED, "refused")

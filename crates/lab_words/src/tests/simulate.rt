@@ -7,23 +7,23 @@ use std::test::Fail;
 const LINES: [(&str, &str); 5] = [
     (
         "simulate --manifest m --trace t --rule fixed:1 --utilities 0,10",
-        "Command { verb: Simulate, manifest: \"m\", traces: [\"t\"], rules: [NamedRule { name: \"fixed:1\", rule: Fixed { rung: 1 } }], buffer_ms: 25000, utilities: [0, 10], table: None, switch: 0, stall: 100, startup: 1, abandon: false, seeks: None, budget: 0, as_certificate: false, certificate: None, number: 0, live: None, coarse_time: 0, coarse_value: 0, gap: false, players: false, regret: false }",
+        "Command { verb: Simulate, manifest: \"m\", traces: [\"t\"], rules: [NamedRule { name: \"fixed:1\", rule: Fixed { rung: 1 } }], buffer_ms: 25000, utilities: [0, 10], table: None, switch: 0, stall: 100, startup: 1, abandon: false, seeks: None, budget: 0, as_certificate: false, certificate: None, number: 0, live: None, coarse_time: 0, coarse_value: 0, gap: false, players: false, regret: false, near: false }",
     ),
     (
         "simulate --seeks=s.csv --startup 2 --rule list:0,15,3 --switch=7 --abandon --manifest mé --utilities 5 --trace=a=b --stall 9 --buffer 1000",
-        "Command { verb: Simulate, manifest: \"mé\", traces: [\"a=b\"], rules: [NamedRule { name: \"list:0,15,3\", rule: List { rungs: [0, 15, 3] } }], buffer_ms: 1000, utilities: [5], table: None, switch: 7, stall: 9, startup: 2, abandon: true, seeks: Some(\"s.csv\"), budget: 0, as_certificate: false, certificate: None, number: 0, live: None, coarse_time: 0, coarse_value: 0, gap: false, players: false, regret: false }",
+        "Command { verb: Simulate, manifest: \"mé\", traces: [\"a=b\"], rules: [NamedRule { name: \"list:0,15,3\", rule: List { rungs: [0, 15, 3] } }], buffer_ms: 1000, utilities: [5], table: None, switch: 7, stall: 9, startup: 2, abandon: true, seeks: Some(\"s.csv\"), budget: 0, as_certificate: false, certificate: None, number: 0, live: None, coarse_time: 0, coarse_value: 0, gap: false, players: false, regret: false, near: false }",
     ),
     (
         "simulate --manifest m --trace t --rule throughput:3,20 --utilities 0,0,1000000",
-        "Command { verb: Simulate, manifest: \"m\", traces: [\"t\"], rules: [NamedRule { name: \"throughput:3,20\", rule: Throughput { windows: [3, 20] } }], buffer_ms: 25000, utilities: [0, 0, 1000000], table: None, switch: 0, stall: 100, startup: 1, abandon: false, seeks: None, budget: 0, as_certificate: false, certificate: None, number: 0, live: None, coarse_time: 0, coarse_value: 0, gap: false, players: false, regret: false }",
+        "Command { verb: Simulate, manifest: \"m\", traces: [\"t\"], rules: [NamedRule { name: \"throughput:3,20\", rule: Throughput { windows: [3, 20] } }], buffer_ms: 25000, utilities: [0, 0, 1000000], table: None, switch: 0, stall: 100, startup: 1, abandon: false, seeks: None, budget: 0, as_certificate: false, certificate: None, number: 0, live: None, coarse_time: 0, coarse_value: 0, gap: false, players: false, regret: false, near: false }",
     ),
     (
         "simulate --manifest m --trace t --rule bola:500000 --utilities 0",
-        "Command { verb: Simulate, manifest: \"m\", traces: [\"t\"], rules: [NamedRule { name: \"bola:500000\", rule: Bola { g: 500000 } }], buffer_ms: 25000, utilities: [0], table: None, switch: 0, stall: 100, startup: 1, abandon: false, seeks: None, budget: 0, as_certificate: false, certificate: None, number: 0, live: None, coarse_time: 0, coarse_value: 0, gap: false, players: false, regret: false }",
+        "Command { verb: Simulate, manifest: \"m\", traces: [\"t\"], rules: [NamedRule { name: \"bola:500000\", rule: Bola { g: 500000 } }], buffer_ms: 25000, utilities: [0], table: None, switch: 0, stall: 100, startup: 1, abandon: false, seeks: None, budget: 0, as_certificate: false, certificate: None, number: 0, live: None, coarse_time: 0, coarse_value: 0, gap: false, players: false, regret: false, near: false }",
     ),
     (
         "simulate --manifest m --trace t --rule mpc:5 --utilities 0 --stall 0",
-        "Command { verb: Simulate, manifest: \"m\", traces: [\"t\"], rules: [NamedRule { name: \"mpc:5\", rule: Mpc { horizon: 5 } }], buffer_ms: 25000, utilities: [0], table: None, switch: 0, stall: 0, startup: 1, abandon: false, seeks: None, budget: 0, as_certificate: false, certificate: None, number: 0, live: None, coarse_time: 0, coarse_value: 0, gap: false, players: false, regret: false }",
+        "Command { verb: Simulate, manifest: \"m\", traces: [\"t\"], rules: [NamedRule { name: \"mpc:5\", rule: Mpc { horizon: 5 } }], buffer_ms: 25000, utilities: [0], table: None, switch: 0, stall: 0, startup: 1, abandon: false, seeks: None, budget: 0, as_certificate: false, certificate: None, number: 0, live: None, coarse_time: 0, coarse_value: 0, gap: false, players: false, regret: false, near: false }",
     ),
 ];
 
