@@ -22,7 +22,8 @@ use Rattle.certificate_text.proofs.HeadLaws.{behind_again, behind_takes}
 can_gap : IsSpellable gap_line
 can_gap = (refl, (refl, tt))
 
-can_bound : IsSpellable bound_line
+-- the bound has a line
+pub can_bound : IsSpellable bound_line
 can_bound = (refl, ((lit≤ tt, lit≤ tt), tt))
 
 -- the two lines and what stands behind them

@@ -14,7 +14,7 @@ use Rattle.labels.specs.Form.{place_digits, most_labels, rung_digits, IsCertific
 use Rattle.certificate_text.specs.Line.{Holds, fields_of, values_at}
 use Rattle.certificate_text.specs.Grammar.{end_line, list_line, plan_line, rungs_line, score_line, segments_line, start_line, table_line, version_line}
 use Rattle.certificate_text.specs.Form.{certificate_parts}
-use Rattle.certificate_text.specs.Reading.{Counts, Place, certificate_behind, certificate_of, chains_at, counts_at, end_at, head_at, nothing_at, score_row, table_at, version_at}
+use Rattle.certificate_text.specs.Reading.{Counts, Place, certificate_behind, certificate_of, chains_at, counts_at, end_at, head_at, last_at, nothing_at, score_row, table_at, version_at}
 use Rattle.certificate_text.specs.Walk.{without_chains}
 use Rattle.certificate_text.specs.Spelling.{chains_lines, head_lines, lines_text, spelling, table_lines, version_fields, version_number}
 use Rattle.certificate_text.proofs.Loops.{ok_is}
@@ -35,16 +35,18 @@ short_number = (lit≤ tt, lit≤ tt)
 can_version : IsSpellable version_line
 can_version = (refl, (refl, (lit≤ tt, tt)))
 
-can_segments : IsSpellable segments_line
+-- the counts have lines
+pub can_segments : IsSpellable segments_line
 can_segments = (refl, (lit≤ tt, tt))
 
-can_rungs : IsSpellable rungs_line
+pub can_rungs : IsSpellable rungs_line
 can_rungs = (refl, (lit≤ tt, tt))
 
 can_table : IsSpellable table_line
 can_table = (refl, (refl, tt))
 
-can_score : IsSpellable score_line
+-- the score has a line
+pub can_score : IsSpellable score_line
 can_score = (refl, ((lit≤ tt, lit≤ tt), tt))
 
 can_end : IsSpellable end_line
@@ -217,19 +219,27 @@ nothing_takes : (row : ℕ) (bytes : Text) (u : Unit {0}) → nothing_at row byt
 nothing_takes row [] u h = refl
 nothing_takes row (b ∷ bytes) u h = absurd cc
 
+-- the last line that was read is all that was left
+pub last_takes : (row : ℕ) (bytes : Text) (u : Unit {0}) → last_at row bytes ≡ Ok u → bytes ≡ fields_line (fields_of end_line tt)
+unfolding last_at
+last_takes row bytes u h =
+    let w = then_ok (values_at row end_line bytes) (λ rest. nothing_at (row + 1) rest.1) u h in
+    (line_takes row end_line bytes w.0 can_end (lit≤ tt) w.1).text
+    ∙ ap (λ (t : Text). fields_line (fields_of end_line tt) ++ t) (nothing_takes (row + 1) w.0.1 u w.2) ∙ append-nil (fields_line (fields_of end_line tt))
+
+-- the last line is read where it is all that is left
+pub last_again : (row : ℕ) → last_at row (fields_line (fields_of end_line tt)) ≡ Ok tt
+unfolding last_at
+last_again row =
+    let text = fields_line (fields_of end_line tt) in
+    let last : values_at row end_line text ≡ Ok (tt, []) = ap (values_at row end_line) (sym (append-nil text)) ∙ line_again row end_line tt [] can_end (lit≤ tt) tt in
+    rw last refl
+
 end_takes : (p : Place) (u : Unit {0}) → end_at p ≡ Ok u → p.rest ≡ fields_line (fields_of end_line tt)
-unfolding end_at
-end_takes p u h =
-    let w = then_ok (values_at p.row end_line p.rest) (λ rest. nothing_at (p.row + 1) rest.1) u h in
-    (line_takes p.row end_line p.rest w.0 can_end (lit≤ tt) w.1).text
-    ∙ ap (λ (t : Text). fields_line (fields_of end_line tt) ++ t) (nothing_takes (p.row + 1) w.0.1 u w.2) ∙ append-nil (fields_line (fields_of end_line tt))
+end_takes p u h = last_takes p.row p.rest u h
 
 end_again : (p : Place) → p.rest ≡ fields_line (fields_of end_line tt) → end_at p ≡ Ok tt
-unfolding end_at
-end_again p e =
-    let text = fields_line (fields_of end_line tt) in
-    let last : values_at p.row end_line p.rest ≡ Ok (tt, []) = ap (values_at p.row end_line) (e ∙ sym (append-nil text)) ∙ line_again p.row end_line tt [] can_end (lit≤ tt) tt in
-    rw last refl
+end_again p e = ap (last_at p.row) e ∙ last_again p.row
 
 -- ---- the whole
 

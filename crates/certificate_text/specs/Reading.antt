@@ -125,11 +125,15 @@ abbrev pub nothing_at : ℕ → Text → Result (Unit {0}) Refusal
 nothing_at row [] = Ok tt
 nothing_at row (b ∷ bytes) = Err (bad_line row)
 
--- the last line
-unfoldable pub end_at : Place → Result (Unit {0}) Refusal
-end_at p = do
-  rest ← values_at p.row end_line p.rest
-  nothing_at (p.row + 1) rest.1
+-- the last line, which has this number
+unfoldable pub last_at : ℕ → Text → Result (Unit {0}) Refusal
+last_at row bytes = do
+  rest ← values_at row end_line bytes
+  nothing_at (row + 1) rest.1
+
+-- the last line, where a reader stands
+abbrev pub end_at : Place → Result (Unit {0}) Refusal
+end_at p = last_at p.row p.rest
 
 -- the certificate that the bytes spell behind so many lines of a heading, or the first bad line, counted with these
 unfoldable pub certificate_behind : ℕ → Text → Result CertificateParts Refusal

@@ -4,7 +4,7 @@ ghost use Rattle.lab_model.specs.Reading.{Gives};
 ghost use Rattle.lab_model.specs.Film.{IsWithin};
 ghost use Rattle.labels.specs.Parts.{chain_parts};
 ghost use Rattle.labels.specs.Form.{names_per};
-ghost use Rattle.certificate_text.specs.Reading.{behind, chain_at, chains_at, end_at, label_at, labels_at, layer_at, nothing_at, place_of};
+ghost use Rattle.certificate_text.specs.Reading.{behind, chain_at, chains_at, end_at, label_at, labels_at, last_at, layer_at, nothing_at, place_of};
 
 use crate::fields::{
     PLACE_DIGITS, bad_line, known_at, number_at, push, push_numbers, signed_at, stop_before,
@@ -149,14 +149,23 @@ pub(crate) fn chains_at<'a>(
     Ok((chains, spot))
 }
 
-/// The last line, behind which nothing stands.
-#[tactic(auto, unfolding(crate::specs::Reading::end_at, crate::specs::Line::values_at))]
+/// Reads the last line, `end`, which has this number. It is refused exactly where the line is another, or where bytes
+/// stand behind it: these are a bad line with the next number.
+#[tactic(auto, unfolding(crate::specs::Reading::last_at, crate::specs::Line::values_at))]
+pub fn last_at(row: u32, bytes: &[u8]) -> Result<(), InputFault>
+    requires { row ≤ 4000000000 }
+    ensures { Gives (λ done. done) result (last_at row bytes.now) }
+{
+    match word_at(row, "end", b'\n', bytes)? {
+        [] => Ok(()),
+        [_, ..] => Err(bad_line(row + 1)),
+    }
+}
+
+/// The last line, where a reader stands.
 pub(crate) fn end_at(at: Spot<'_>) -> Result<(), InputFault>
     requires { at.row ≤ 4000000000 }
     ensures { Gives (λ done. done) result (end_at (place_of at.entry)) }
 {
-    match word_at(at.row, "end", b'\n', at.rest)? {
-        [] => Ok(()),
-        [_, ..] => Err(bad_line(at.row + 1)),
-    }
+    last_at(at.row, at.rest)
 }

@@ -14,8 +14,8 @@ use std::alloc::Global;
 /// The most digits of a number that names a place, or counts.
 pub(crate) const PLACE_DIGITS: usize = 7;
 
-/// The line of this number, the first being 1, is the first without its form.
-pub(crate) fn bad_line(row: u32) -> InputFault
+/// The refusal that says that the line of this number, the first being 1, is the first without its form.
+pub fn bad_line(row: u32) -> InputFault
     ensures { result ≡ InputFault.Refused (bad_line row) }
 {
     InputFault::Refused(Refusal {
@@ -50,14 +50,9 @@ pub(crate) fn field_at(row: u32, stop: u8, bytes: &[u8]) -> Result<(&[u8], &[u8]
     }
 }
 
-/// What stands behind this word.
+/// What stands behind this word and the byte that ends it. It is refused exactly where the line goes on otherwise.
 #[tactic(auto, unfolding(crate::specs::Fields::word_at))]
-pub(crate) fn word_at<'a>(
-    row: u32,
-    word: &str,
-    stop: u8,
-    bytes: &'a [u8],
-) -> Result<&'a [u8], InputFault>
+pub fn word_at<'a>(row: u32, word: &str, stop: u8, bytes: &'a [u8]) -> Result<&'a [u8], InputFault>
     ensures { Gives (λ rest. rest.now) result (word_at row word.now stop bytes.now) }
 {
     let (field, rest) = field_at(row, stop, bytes)?;
@@ -114,9 +109,10 @@ fn numeral(digits: usize, text: &[u8]) -> Option<u128>
     }
 }
 
-/// A number of at most so many digits.
+/// A number of at most so many digits, and what stands behind it and the byte that ends it. It is refused exactly where
+/// the line goes on otherwise.
 #[tactic(auto, unfolding(crate::specs::Fields::number_at))]
-pub(crate) fn number_at(
+pub fn number_at(
     row: u32,
     digits: usize,
     stop: u8,
@@ -133,18 +129,19 @@ pub(crate) fn number_at(
     }
 }
 
-/// What stands behind this number.
+/// What stands behind this number and the byte that ends it. It is refused exactly where the line goes on otherwise.
 #[tactic(auto, unfolding(crate::specs::Fields::known_at))]
-pub(crate) fn known_at(row: u32, known: u32, stop: u8, bytes: &[u8]) -> Result<&[u8], InputFault>
+pub fn known_at(row: u32, known: u32, stop: u8, bytes: &[u8]) -> Result<&[u8], InputFault>
     ensures { Gives (λ rest. rest.now) result (known_at row known stop bytes.now) }
 {
     let (n, rest) = number_at(row, PLACE_DIGITS, stop, bytes)?;
     value_if(row, n == u64::from(known), rest)
 }
 
-/// A number from the first to the second.
+/// A number from the first to the second, and what stands behind it and the byte that ends it. It is refused exactly
+/// where the line goes on otherwise.
 #[tactic(auto, unfolding(crate::specs::Fields::within_at))]
-pub(crate) fn within_at(
+pub fn within_at(
     row: u32,
     low: u32,
     high: u32,
@@ -233,7 +230,7 @@ pub(crate) fn stop_before(more: usize) -> u8
 }
 
 /// Appends a value, if memory allows it.
-pub(crate) fn push<T: Drop>(into: &mut Vec<T>, value: T) -> Result<(), InputFault>
+pub fn push<T: Drop>(into: &mut Vec<T>, value: T) -> Result<(), InputFault>
     ensures ok { OnOk result (into.new.items ≡ into.old.items ++ value ∷ []) }
     ensures memory { IfErr result (λ fault. fault ≡ InputFault.Memory) }
 {

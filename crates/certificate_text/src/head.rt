@@ -19,17 +19,18 @@ use std::alloc::Global;
 /// The most labels of a certificate.
 const MOST_LABELS: u32 = 1_000_000;
 /// The most segments.
-const MOST_SEGMENTS: u32 = 2000;
+pub const MOST_SEGMENTS: u32 = 2000;
 /// The most rungs.
-const MOST_RUNGS: u32 = 16;
+pub const MOST_RUNGS: u32 = 16;
 /// The most digits of a score.
 const SCORE_DIGITS: usize = 24;
 /// The most digits of a rung.
-const RUNG_DIGITS: usize = 2;
+pub const RUNG_DIGITS: usize = 2;
 
-/// A line of a word and a number from 1 to the most.
+/// The number of a line of a word and a number from 1 to the most, and what stands behind the line. It is refused
+/// exactly where the line is another.
 #[tactic(auto, unfolding(crate::specs::Line::values_at))]
-fn count_at<'a>(
+pub fn count_at<'a>(
     row: u32,
     word: &str,
     most: u32,
@@ -65,9 +66,10 @@ fn table_at(row: u32, table: bool, bytes: &[u8]) -> Result<&[u8], InputFault>
     word_at(row, "table", b'\n', rest)
 }
 
-/// A line of a word and a number of thousandths of a point.
+/// The number of a line of a word and a number of thousandths of a point, which has at most 24 digits, and what stands
+/// behind the line. It is refused exactly where the line is another.
 #[tactic(auto, unfolding(crate::specs::Line::values_at))]
-fn amount_at<'a>(row: u32, word: &str, bytes: &'a [u8]) -> Result<(i128, &'a [u8]), InputFault>
+pub fn amount_at<'a>(row: u32, word: &str, bytes: &'a [u8]) -> Result<(i128, &'a [u8]), InputFault>
     ensures { Gives (λ x. ((x.0, tt), x.1.now)) result
         (values_at row (amount_line word.now) bytes.now) }
 {
@@ -86,9 +88,10 @@ pub(crate) fn bound_at(bytes: &[u8]) -> Result<(i128, &[u8]), InputFault>
     amount_at(2, "bound", rest)
 }
 
-/// A line of a word and so many numbers.
+/// The numbers of a line of a word and so many numbers of at most so many digits, 7 or fewer, and what stands behind the
+/// line. It is refused exactly where the line is another.
 #[tactic(auto, unfolding(crate::specs::Line::values_at))]
-fn list_at<'a>(
+pub fn list_at<'a>(
     alloc: Global,
     row: u32,
     word: &str,
@@ -134,8 +137,8 @@ fn counts_at(heading: u32, bytes: &[u8]) -> Result<(Counts, &[u8]), InputFault>
     Ok((counts, rest))
 }
 
-/// The numbers in one byte each.
-fn small_numbers(alloc: Global, numbers: &[u32]) -> Result<Vec<u8>, InputFault>
+/// Numbers of at most 2 digits in one byte each, if memory allows it.
+pub fn small_numbers(alloc: Global, numbers: &[u32]) -> Result<Vec<u8>, InputFault>
     requires { All (HasDigits rung_digits) numbers.now }
     ensures numbers { IfOk result (λ v. v.items ≡ numbers.now) }
     ensures memory { IfErr result (λ e. e ≡ InputFault.Memory) }

@@ -19,6 +19,8 @@
 //! T, P and V have at most 18 digits, COUNT and names at most 7, and all COUNTs together are at most 1000000.
 //!
 //! A gap certificate is the lines `abrlab gap 1` and `bound Y`, with Y spelled as X is, and then a certificate.
+//!
+//! What reads and writes single lines and fields is public too, for other texts of such lines.
 #![tactic(auto)]
 
 mod certificate;
@@ -29,6 +31,11 @@ mod lines;
 mod writer;
 
 pub use certificate::{Certificate, GapCertificate, Layer};
+pub use chains::last_at;
+pub use fields::{bad_line, known_at, number_at, push, within_at, word_at};
+pub use head::{
+    MOST_RUNGS, MOST_SEGMENTS, RUNG_DIGITS, amount_at, count_at, list_at, small_numbers,
+};
 pub use labels::Verdict;
 pub use lines::{Lines, one_gap_spelling, one_spelling, read_certificate, read_gap};
-pub use writer::{put_gap, put_plan, put_score, write_certificate};
+pub use writer::{put_bound, put_count, put_gap, put_plan, put_score, write_certificate};

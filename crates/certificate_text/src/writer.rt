@@ -83,8 +83,8 @@ fn put_version<O: Sink>(out: &mut O, version: u16) -> Result<(), PutErr>
     )
 }
 
-/// A line of a word and a count.
-fn put_count<O: Sink>(out: &mut O, word: &str, count: u16) -> Result<(), PutErr>
+/// Puts the line of a word and a count. It takes no memory of its own; after an `Err` a prefix went out.
+pub fn put_count<O: Sink>(out: &mut O, word: &str, count: u16) -> Result<(), PutErr>
     ensures { Puts (O.seen out.old) (fields_line (word.now ∷ decimal count ∷ []))
         (O.seen out.new) result }
 {
@@ -109,8 +109,9 @@ pub fn put_gap<O: Sink>(out: &mut O, bound: i128) -> Result<(), PutErr>
     put_bound(out, bound)
 }
 
-/// The line of a bound, in thousandths of a point.
-fn put_bound<O: Sink>(out: &mut O, bound: i128) -> Result<(), PutErr>
+/// Puts the line of a bound, in thousandths of a point: `bound` and the number. It takes no memory of its own; after an
+/// `Err` a prefix went out.
+pub fn put_bound<O: Sink>(out: &mut O, bound: i128) -> Result<(), PutErr>
     ensures { Puts (O.seen out.old) (fields_line (fields_of bound_line (bound, tt)))
         (O.seen out.new) result }
 {
