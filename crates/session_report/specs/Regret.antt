@@ -6,6 +6,8 @@ use Rattle.std.specs.Fmt.{signed_decimal}
 use Rattle.lab_model.specs.Number.{IsNear}
 use Rattle.lab_io.specs.Sink.{Text}
 use Rattle.lab_io.specs.Piece.{fields_line}
+use Rattle.session_report.specs.declared.regret.Top.{Top}
+use Rattle.session_report.specs.declared.regret.Top.TheVariants as top
 use Rattle.session_report.specs.declared.regret.Total.{Total}
 
 -- the score of a session, and the best score on the same trace
@@ -56,12 +58,25 @@ pub record IsTotalOf (ps : List Scores) (t : Total) : Type 0 where
   pub few : length ps ≤ 64
   pub near : All AreScores ps
 
--- the row of a rule on one trace
-abbrev pub regret_line : Text → ℤ → ℤ → Text
-regret_line name score best =
-    fields_line (codes "rule" ∷ name ∷ codes "score" ∷ signed_decimal score ∷ codes "best" ∷ signed_decimal best ∷ codes "regret" ∷ signed_decimal (best -ℤ score) ∷ [])
+-- the word of what scores are compared with
+abbrev pub top_word : Top → Text
+top_word top.Best = codes "best"
+top_word top.Bound = codes "bound"
+
+-- the row of a rule on one trace, by what its score is compared with
+abbrev pub top_line : Top → Text → ℤ → ℤ → Text
+top_line by name score top =
+    fields_line (codes "rule" ∷ name ∷ codes "score" ∷ signed_decimal score ∷ top_word by ∷ signed_decimal top ∷ codes "regret" ∷ signed_decimal (top -ℤ score) ∷ [])
 
 -- the row of a rule over all traces
+abbrev pub sums_line : Top → Text → Total → Text
+sums_line by name t =
+    fields_line (codes "total" ∷ name ∷ codes "score" ∷ signed_decimal t.score ∷ top_word by ∷ signed_decimal t.best ∷ codes "regret" ∷ signed_decimal t.regret ∷ codes "worst" ∷ signed_decimal t.worst ∷ [])
+
+-- the row of a rule on one trace, beside the best score
+abbrev pub regret_line : Text → ℤ → ℤ → Text
+regret_line = top_line top.Best
+
+-- the row of a rule over all traces, beside the best scores
 abbrev pub total_line : Text → Total → Text
-total_line name t =
-    fields_line (codes "total" ∷ name ∷ codes "score" ∷ signed_decimal t.score ∷ codes "best" ∷ signed_decimal t.best ∷ codes "regret" ∷ signed_decimal t.regret ∷ codes "worst" ∷ signed_decimal t.worst ∷ [])
+total_line = sums_line top.Best

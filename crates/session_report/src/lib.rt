@@ -7,5 +7,5 @@ mod session;
 #[cfg(test)]
 mod tests;
 
-pub use regret::{Total, regret_row, total_row};
+pub use regret::{Top, Total, regret_row, total_row};
 pub use session::{compare_row, write_session};

@@ -2,7 +2,7 @@
 ghost use Rattle.std.specs.Prelude.{◌≡◌, ◌^◌, ◌<◌, ◌∷◌, [], ◌++◌, List, pos};
 ghost use Rattle.lab_io.specs.Sink.{Puts};
 ghost use Rattle.lab_model.specs.Number.{IsNear};
-ghost use Rattle.session_report.specs.Regret.{AreScores, Scores, IsTotalOf, regret_line, total_line};
+ghost use Rattle.session_report.specs.Regret.{AreScores, IsTotalOf, Scores, regret_line, sums_line, top_line, top_word, total_line};
 
 use lab_io::Piece::{Number, Word};
 use lab_io::{PutErr, Sink, put_fields};
@@ -13,7 +13,7 @@ use lab_io::{PutErr, Sink, put_fields};
 pub struct Total {
     /// The sum of the scores.
     pub score: i128,
-    /// The sum of the best scores.
+    /// The sum of the best scores, or of their bounds.
     pub best: i128,
     /// The sum of the differences.
     pub regret: i128,
@@ -57,6 +57,83 @@ impl Total {
     }
 }
 
+/// What scores are compared with.
+#[derive(Clone, Copy, PartialEq, Eq, Debug)]
+pub enum Top {
+    /// The best score of all rung lists.
+    Best,
+    /// A bound that no rung list passes.
+    Bound,
+}
+
+impl Top {
+    /// Its word.
+    fn word(self) -> &'static str
+        ensures { result.now ≡ top_word self }
+    {
+        match self {
+            Top::Best => "best",
+            Top::Bound => "bound",
+        }
+    }
+
+    /// Puts the row of a rule on one trace: `rule NAME`, its score, the top and the difference of the two.
+    /// Both are in thousandths of a point, within 10^24 of 0. After an `Err` a prefix of the row went out.
+    /// It takes no memory of its own.
+    pub fn put_row<O: Sink>(
+        self,
+        name: &str,
+        score: i128,
+        top: i128,
+        out: &mut O,
+    ) -> Result<(), PutErr>
+        requires score { IsNear (10 ^ 24) score }
+        requires top { IsNear (10 ^ 24) top }
+        ensures { Puts (O.seen out.old) (top_line self name.now score top) (O.seen out.new) result }
+    {
+        put_fields(
+            out,
+            &[
+                Word("rule"),
+                Word(name),
+                Word("score"),
+                Number(score),
+                Word(self.word()),
+                Number(top),
+                Word("regret"),
+                Number(top - score),
+            ],
+        )
+    }
+
+    /// Puts the row of a rule over all traces: `total NAME` and its sums, and the greatest difference.
+    /// After an `Err` a prefix of the row went out. It takes no memory of its own.
+    pub fn put_total<O: Sink>(
+        self,
+        name: &str,
+        total: &Total,
+        out: &mut O,
+    ) -> Result<(), PutErr>
+        ensures { Puts (O.seen out.old) (sums_line self name.now total.now) (O.seen out.new) result }
+    {
+        put_fields(
+            out,
+            &[
+                Word("total"),
+                Word(name),
+                Word("score"),
+                Number(total.score),
+                Word(self.word()),
+                Number(total.best),
+                Word("regret"),
+                Number(total.regret),
+                Word("worst"),
+                Number(total.worst),
+            ],
+        )
+    }
+}
+
 /// Puts the row of a rule on one trace: `rule NAME`, its score, the best score and the difference of the two.
 /// Both are in thousandths of a point, within 10^24 of 0. After an `Err` a prefix of the row went out.
 /// It takes no memory of its own.
@@ -65,19 +142,7 @@ pub fn regret_row<O: Sink>(name: &str, score: i128, best: i128, out: &mut O) -> 
     requires best { IsNear (10 ^ 24) best }
     ensures { Puts (O.seen out.old) (regret_line name.now score best) (O.seen out.new) result }
 {
-    put_fields(
-        out,
-        &[
-            Word("rule"),
-            Word(name),
-            Word("score"),
-            Number(score),
-            Word("best"),
-            Number(best),
-            Word("regret"),
-            Number(best - score),
-        ],
-    )
+    Top::Best.put_row(name, score, best, out)
 }
 
 /// Puts the row of a rule over all traces: `total NAME` and its sums, and the greatest difference.
@@ -85,19 +150,5 @@ pub fn regret_row<O: Sink>(name: &str, score: i128, best: i128, out: &mut O) -> 
 pub fn total_row<O: Sink>(name: &str, total: &Total, out: &mut O) -> Result<(), PutErr>
     ensures { Puts (O.seen out.old) (total_line name.now total.now) (O.seen out.new) result }
 {
-    put_fields(
-        out,
-        &[
-            Word("total"),
-            Word(name),
-            Word("score"),
-            Number(total.score),
-            Word("best"),
-            Number(total.best),
-            Word("regret"),
-            Number(total.regret),
-            Word("worst"),
-            Number(total.worst),
-        ],
-    )
+    Top::Best.put_total(name, total, out)
 }

@@ -2,7 +2,7 @@
 ghost use Rattle.std.specs.Prelude.{◌≡◌, ◌∷◌, [], IfOk};
 ghost use Rattle.lab_model.specs.Weighing.{weighing};
 
-use crate::{Total, compare_row, regret_row, total_row, write_session};
+use crate::{Top, Total, compare_row, regret_row, total_row, write_session};
 use lab_io::SureSink;
 use lab_model::{Played, Weights};
 use player_core::{Event, Session};
@@ -129,9 +129,13 @@ fn a_regret_table(rt: HostRuntime) -> Result<(), Fail> {
     regret_row("fixed:0", -202000, -194000, &mut out)?;
     total.add(-202000, -194000);
     total_row("fixed:0", &total, &mut out)?;
+    Top::Bound.put_row("fixed:0", -500, 29000, &mut out)?;
+    Top::Bound.put_total("fixed:0", &total, &mut out)?;
     let text = "rule fixed:0 score -500 best 29000 regret 29500\n\
         rule fixed:0 score -202000 best -194000 regret 8000\n\
-        total fixed:0 score -202500 best -165000 regret 37500 worst 29500\n";
+        total fixed:0 score -202500 best -165000 regret 37500 worst 29500\n\
+        rule fixed:0 score -500 bound 29000 regret 29500\n\
+        total fixed:0 score -202500 bound -165000 regret 37500 worst 29500\n";
     assert_eq!(rt; out.written(), text.as_bytes());
     assert_eq!(rt; total.count, 2);
     Ok(())
