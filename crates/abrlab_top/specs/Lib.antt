@@ -8,6 +8,8 @@ pub mod Simulate
 pub mod Players
 pub mod Compare
 pub mod Plan
+pub mod Near
+pub mod Choice
 pub mod Check
 pub mod Demo
 pub mod Request

@@ -23,14 +23,21 @@ use Rattle.labels.specs.Parts.{CertificateParts}
 use Rattle.labels.specs.Valid.{IsValid}
 use Rattle.labels.specs.declared.verdict.Verdict.TheVariants.{Yes}
 use Rattle.certificate_text.specs.Form.{GapParts, IsGapCertificate}
-use Rattle.session_report.specs.Regret.{total_of}
+use Rattle.price_bounds.specs.Verdict.{PriceParts}
+use Rattle.price_bounds.specs.declared.verdict.PriceVerdict.TheVariants as said
+use Rattle.price_text.specs.Reading.{prices_of}
+use Rattle.price_text.specs.Spelling.{prices_text}
+use Rattle.session_report.specs.Regret.{Scores, total_of}
+use Rattle.session_report.specs.declared.regret.Top.TheVariants as top
 use Rattle.session_report.specs.Session.{session_text}
 use Rattle.shared_link.specs.Joint.{IsJoint, JointCase}
 use Rattle.abrlab_top.specs.Check.{verdict_text}
+use Rattle.abrlab_top.specs.Choice.{AreBounds, IsNearBest}
 use Rattle.abrlab_top.specs.Claim.{claim_of, claim_text}
+use Rattle.abrlab_top.specs.Near.{near_text, price_verdict_text}
 use Rattle.abrlab_top.specs.Plan.{grid_in, parts_text, task_on}
 use Rattle.abrlab_top.specs.Players.{joint_on, joint_text, player_line}
-use Rattle.abrlab_top.specs.Regret.{best_on, regret_text, score_on, scores_over}
+use Rattle.abrlab_top.specs.Regret.{best_on, bests_on, ranked_text, regret_text, scores_over}
 use Rattle.abrlab_top.specs.Runs.{World}
 use Rattle.abrlab_top.specs.Simulate.{case_on}
 
@@ -68,6 +75,23 @@ pub record IsYes (g : Task) (gap : Bool) (bytes text : Text) : Type 0 where
   pub settles : Settles g claim.inner.plan claim.inner.score claim.bound
   pub is : text ≡ verdict_text gap claim.inner.score claim.bound Yes
 
+-- the text is a rung list with its score and a bound, or its certificate by prices. The list has that score for its value, no rung list has a value
+-- above the bound, the certificate proves it, and a file may hold its text
+pub record IsNearText (g : Task) (as_certificate : Bool) (text : Text) : Type 0 where
+  pub found : PriceParts
+  pub settles : Settles g found.plan found.score found.bound
+  pub near : IsNearBest g found
+  pub short : length (prices_text found) ≤ 67108864
+  pub is : text ≡ near_text as_certificate found
+
+-- the text is a yes with the score and the bound of the certificate by prices that the bytes spell. Its rung list has that score for its value, and
+-- no rung list has a value above the bound
+pub record IsPriceYes (g : Task) (bytes text : Text) : Type 0 where
+  pub claim : PriceParts
+  pub spelled : prices_of bytes ≡ Ok claim
+  pub settles : Settles g claim.plan claim.score claim.bound
+  pub is : text ≡ price_verdict_text claim.score claim.bound said.Yes
+
 -- ---- what a run proves that answered 0
 
 -- the files of the command were read and its settings fit, and it is about a live film just where the words say so; on its one network, of
@@ -83,32 +107,43 @@ pub record Proves (c : CommandWords) (files : Files) (OfText : InputValues → L
   pub out : Grew old.out.written text new.out.written
   pub err : new.err ≡ old.err
 
--- where words ask for this command and the run answers 0, over told files it proves this
-abbrev pub WhereDone : Verb → (CommandWords → InputValues → List Period → Text → Type 0) → List Text → World → ℕ → World → Type 0
-WhereDone v OfText line old result new =
-    (c : CommandWords) (files : Files) → command_of line ≡ Some c → c.verb ≡ v → Tells old.shelf files → result ≡ 0 → Proves c files (OfText c) old new
+-- where words ask for this command, with a flag or without it, and the run answers 0, over told files it proves this
+abbrev pub WhereDone : Verb → (CommandWords → Bool) → Bool → (CommandWords → InputValues → List Period → Text → Type 0) → List Text → World → ℕ → World → Type 0
+WhereDone v flag given OfText line old result new =
+    (c : CommandWords) (files : Files) → command_of line ≡ Some c → c.verb ≡ v → flag c ≡ given → Tells old.shelf files → result ≡ 0 → Proves c files (OfText c) old new
 
--- where words ask for `simulate`, of several players or of one, and the run answers 0, over told files it proves this
-abbrev pub WhereSimulated : Bool → (CommandWords → InputValues → List Period → Text → Type 0) → List Text → World → ℕ → World → Type 0
-WhereSimulated several OfText line old result new =
-    (c : CommandWords) (files : Files) → command_of line ≡ Some c → c.verb ≡ verb.Simulate → c.players ≡ several → Tells old.shelf files → result ≡ 0 → Proves c files (OfText c) old new
+-- the flags that part what a command proves
+abbrev pub with_players : CommandWords → Bool
+with_players c = c.players
+
+-- bounds by prices
+abbrev pub with_prices : CommandWords → Bool
+with_prices c = c.near
 
 -- of `simulate --rule`: the session under the one rule of the words
 abbrev pub Simulates : List Text → World → ℕ → World → Type 0
-Simulates = WhereSimulated false (λ c i periods text. (rule : Text × RuleKind) × (i.rules ≡ rule ∷ []) × IsSession (case_on i periods rule.1) text)
+Simulates = WhereDone verb.Simulate with_players false (λ c i periods text. (rule : Text × RuleKind) × (i.rules ≡ rule ∷ []) × IsSession (case_on i periods rule.1) text)
 
 -- of `simulate --players`: the joint session under the rules of the words, in order
 abbrev pub PlaysJointly : List Text → World → ℕ → World → Type 0
-PlaysJointly = WhereSimulated true (λ c i periods text. (i.rules ≡ c.rules) × IsJointSession (joint_on i periods) text)
+PlaysJointly = WhereDone verb.Simulate with_players true (λ c i periods text. (i.rules ≡ c.rules) × IsJointSession (joint_on i periods) text)
 
 -- of `plan`: a rung list and a bound; without a grid this is the list's own score, so no list is better
 abbrev pub PlansTheBest : List Text → World → ℕ → World → Type 0
 PlansTheBest =
-    WhereDone verb.Plan (λ c i periods text. (p : IsBest (task_on i periods) (grid_in c.coarse_time c.coarse_value) c.as_certificate text) × (c.coarse_time ≡ 0 → p.bound ≡ p.best.score))
+    WhereDone verb.Plan with_prices false (λ c i periods text. (p : IsBest (task_on i periods) (grid_in c.coarse_time c.coarse_value) c.as_certificate text) × (c.coarse_time ≡ 0 → p.bound ≡ p.best.score))
 
 -- of `check`: a yes; the bound is that of the gap certificate, or the certificate's own score
 abbrev pub SaysYesSoundly : List Text → World → ℕ → World → Type 0
-SaysYesSoundly = WhereDone verb.Check (λ c i periods text. (p : IsYes (task_on i periods) c.gap i.certificate text) × (c.gap ≡ false → p.claim.bound ≡ p.claim.inner.score))
+SaysYesSoundly = WhereDone verb.Check with_prices false (λ c i periods text. (p : IsYes (task_on i periods) c.gap i.certificate text) × (c.gap ≡ false → p.claim.bound ≡ p.claim.inner.score))
+
+-- of `plan --near`: a rung list with its score, and a bound that no rung list passes
+abbrev pub BoundsTheBest : List Text → World → ℕ → World → Type 0
+BoundsTheBest = WhereDone verb.Plan with_prices true (λ c i periods text. IsNearText (task_on i periods) c.as_certificate text)
+
+-- of `check --near`: a yes
+abbrev pub SaysYesByPrices : List Text → World → ℕ → World → Type 0
+SaysYesByPrices = WhereDone verb.Check with_prices true (λ c i periods text. IsPriceYes (task_on i periods) i.certificate text)
 
 -- ---- regrets
 
@@ -116,11 +151,11 @@ SaysYesSoundly = WhereDone verb.Check (λ c i periods text. (p : IsYes (task_on 
 abbrev pub IsGreatest : Task → ℤ → Type 0
 IsGreatest g best = (rungs : List ℕ) × Settles g rungs best best
 
--- no session of a rule scores more than the best, on these networks; nor is a sum of its regrets below 0, or the worst of them
-pub record IsBehind (i : InputValues) (rule : RuleKind) : Type 0 where
-  pub scores : All (λ n. score_on i n.1 rule ≤ℤ best_on i n.1) i.networks
-  pub regret : pos 0 ≤ℤ (total_of (scores_over i i.networks rule)).regret
-  pub worst : pos 0 ≤ℤ (total_of (scores_over i i.networks rule)).worst
+-- no session of a rule scores more than the tops, on these networks; nor is a sum of its regrets below 0, or the worst of them
+pub record IsBehind (i : InputValues) (tops : List ℤ) (rule : RuleKind) : Type 0 where
+  pub scores : All (λ (s : Scores). s.0 ≤ℤ s.1) (scores_over i i.networks tops rule)
+  pub regret : pos 0 ≤ℤ (total_of (scores_over i i.networks tops rule)).regret
+  pub worst : pos 0 ≤ℤ (total_of (scores_over i i.networks tops rule)).worst
 
 -- the files of the command were read and its settings fit. `out` has grown by exactly the text of regrets: each score is that of the
 -- session of the rule with an empty history, each best is the greatest value of all rung lists on its network, the sums and the worst
@@ -129,14 +164,32 @@ pub record ProvesRegrets (c : CommandWords) (files : Files) (old new : World) : 
   pub inputs : InputValues
   pub read : ready_of c files ≡ Ok inputs
   pub bests : All (λ n. IsGreatest (task_on inputs n.1) (best_on inputs n.1)) inputs.networks
-  pub behind : All (λ rule. IsBehind inputs rule.1) inputs.rules
+  pub behind : All (λ rule. IsBehind inputs (bests_on inputs) rule.1) inputs.rules
   pub out : Grew old.out.written (regret_text inputs) new.out.written
   pub err : new.err ≡ old.err
 
--- of `compare --regret`: where the run answers 0, over told files it proves this
+-- the same beside bounds: `out` has grown by exactly the text of regrets beside bounds that no rung list passes, so none is greater than it says
+pub record ProvesNearRegrets (c : CommandWords) (files : Files) (old new : World) : Type 0 where
+  pub inputs : InputValues
+  pub read : ready_of c files ≡ Ok inputs
+  pub bounds : List ℤ
+  pub are : AreBounds inputs inputs.networks bounds
+  pub behind : All (λ rule. IsBehind inputs bounds rule.1) inputs.rules
+  pub out : Grew old.out.written (ranked_text top.Bound inputs bounds) new.out.written
+  pub err : new.err ≡ old.err
+
+-- where words ask for `compare --regret`, with `--near` or without it, and the run answers 0, over told files it proves this
+abbrev pub WhereRanked : Bool → (CommandWords → Files → World → World → Type 0) → List Text → World → ℕ → World → Type 0
+WhereRanked near Proved line old result new =
+    (c : CommandWords) (files : Files) → command_of line ≡ Some c → c.verb ≡ verb.Compare → c.regret ≡ true → c.near ≡ near → Tells old.shelf files → result ≡ 0 → Proved c files old new
+
+-- of `compare --regret`
 abbrev pub TellsRegrets : List Text → World → ℕ → World → Type 0
-TellsRegrets line old result new =
-    (c : CommandWords) (files : Files) → command_of line ≡ Some c → c.verb ≡ verb.Compare → c.regret ≡ true → Tells old.shelf files → result ≡ 0 → ProvesRegrets c files old new
+TellsRegrets = WhereRanked false ProvesRegrets
+
+-- of `compare --regret --near`
+abbrev pub BoundsRegrets : List Text → World → ℕ → World → Type 0
+BoundsRegrets = WhereRanked true ProvesNearRegrets
 
 -- ---- THE HEADLINE
 
@@ -146,6 +199,7 @@ pub record IsPlain (c : CommandWords) : Type 0 where
   pub one_player : c.players ≡ false
   pub exact : c.coarse_time ≡ 0
   pub no_gap : c.gap ≡ false
+  pub no_prices : c.near ≡ false
 
 -- where such words ask for this command and the run answers 0, over told files it proves this
 abbrev pub WherePlain : Verb → (CommandWords → InputValues → List Period → Text → Type 0) → List Text → World → ℕ → World → Type 0

@@ -1,5 +1,5 @@
 -- A run as one relation: what the shelf was asked, what became of `out` and what `err` was told, by how the run ended.
-use Rattle.std.specs.Prelude.{◌≡◌, ◌⊎◌, true, false, List, [], ◌∷◌, Option, Some, None, Ok, Err}
+use Rattle.std.specs.Prelude.{◌≡◌, ◌⊎◌, true, false, List, [], ◌∷◌, Option, Some, None, IsSome, Ok, Err}
 use Rattle.lab_io.specs.Shelf.{Shelved}
 use Rattle.lab_io.specs.Sink.{Text, Seen, Rose, Grew, GrewPart}
 use Rattle.lab_words.specs.Command.{CommandWords}
@@ -10,6 +10,7 @@ use Rattle.lab_inputs.specs.Stages.{Asks, AsksFor, AsksSome, StopsAt, Tells}
 use Rattle.abrlab_top.specs.declared.ending.Ending.{Ending}
 use Rattle.abrlab_top.specs.declared.ending.Ending.TheVariants as ending
 use Rattle.abrlab_top.specs.Answer.{Answer, Outcome, text_in}
+use Rattle.abrlab_top.specs.Choice.{Choice, Chosen}
 use Rattle.abrlab_top.specs.Ending.{IsWhole, Told}
 use Rattle.abrlab_top.specs.Outcome.{manner_in, named_files, outcome}
 use Rattle.abrlab_top.specs.Stages.{Answers, Manner, OutFails}
@@ -39,7 +40,7 @@ Asked named ending.NoMemory old new = AsksSome named old new
 -- end in usage, and a check alone says no
 abbrev pub Leaves : Manner → Ending → Seen → Seen → Type 0
 Leaves m ending.Done old new = Unit {0}
-Leaves m ending.Invalid old new = m.checks ≡ true
+Leaves m ending.Invalid old new = IsSome m.checks
 Leaves m ending.Usage old new = (m.refused ≡ true) × (new ≡ old)
 Leaves m (ending.Stopped why) old new = new ≡ old
 Leaves m (ending.Spent trace segment) old new = new ≡ old
@@ -72,8 +73,10 @@ abbrev pub Admits : List Text → Option CommandWords → Ending → Type 0
 Admits line None e = (e ≡ ending.Usage) ⊎ ((e ≡ ending.NoMemory) × (begins_with_verb line ≡ true))
 Admits line (Some c) e = Unit {0}
 
--- A RUN of these words, from an old world to a new one, that ended so
+-- A RUN of these words, from an old world to a new one, that ended so; where the words leave a choice, by what was chosen
 pub record Runs (line : List Text) (old : World) (e : Ending) (new : World) : Type 0 where
   pub words : Admits line (command_of line) e
-  pub ends : Ends (named_files line) (manner_in (command_of line)) (outcome line) old.shelf old.out e new.shelf new.out
+  pub choice : Choice
+  pub chosen : Chosen (command_of line) choice old.shelf e
+  pub ends : Ends (named_files line) (manner_in (command_of line)) (outcome choice line) old.shelf old.out e new.shelf new.out
   pub err : Told old.err e new.err

@@ -1,11 +1,12 @@
 -- What the stages of a command have for a cause, once its files are read.
-use Rattle.std.specs.Prelude.{◌≡◌, ◌⊎◌, ◌≤◌, true, false, Bool, Result, Ok, Err}
+use Rattle.std.specs.Prelude.{◌≡◌, ◌⊎◌, ◌≤◌, true, false, Bool, Option, Some, None, IsSome, Result, Ok, Err}
 use Rattle.lab_io.specs.declared.PutErr.{PutErr}
 use Rattle.lab_io.specs.declared.PutErr.TheVariants as put
 use Rattle.lab_io.specs.Sink.{Text, Seen, Rose, Grew, GrewPart}
 use Rattle.lab_model.specs.declared.fault.InputFault.{InputFault}
 use Rattle.lab_model.specs.declared.fault.InputFault.TheVariants.{Memory, Refused}
 use Rattle.lab_model.specs.declared.fault.Refusal.{Refusal}
+use Rattle.lab_inputs.specs.declared.role.Role.{Role}
 use Rattle.lab_inputs.specs.declared.role.Role.TheVariants as role
 use Rattle.lab_inputs.specs.declared.stop.FileFault.TheVariants as fault
 use Rattle.lab_inputs.specs.declared.stop.Stop.{Stop}
@@ -18,27 +19,32 @@ use Rattle.abrlab_top.specs.Answer.{Answer, Outcome, text_in}
 use Rattle.abrlab_top.specs.Check.{check, told_verdict}
 use Rattle.abrlab_top.specs.Ending.{IsWhole}
 
--- how words are answered: whether they are refused, whether rows are written as soon as they are there, and whether a certificate is checked
+-- how words are answered: whether they are refused, whether rows are written as soon as they are there, and what certificate is checked,
+-- if one is
 pub record Manner : Type 0 where
   pub refused : Bool
   pub between : Bool
-  pub checks : Bool
+  pub checks : Option Role
 
 -- a text that is written at the end, row by row, and of a check
 abbrev pub at_the_end : Manner
-at_the_end = record { refused = false; between = false; checks = false }
+at_the_end = record { refused = false; between = false; checks = None }
 
 -- a command that prints rows between its parts
 abbrev pub row_by_row : Manner
-row_by_row = record { refused = false; between = true; checks = false }
+row_by_row = record { refused = false; between = true; checks = None }
 
--- a command that checks a certificate
+-- a command that checks a certificate by labels
 abbrev pub of_a_check : Manner
-of_a_check = record { refused = false; between = false; checks = true }
+of_a_check = record { refused = false; between = false; checks = Some role.Certificate }
+
+-- a command that checks a certificate by prices
+abbrev pub of_a_price_check : Manner
+of_a_price_check = record { refused = false; between = false; checks = Some role.PriceCertificate }
 
 -- the manner of refused words
 abbrev pub refusing : Manner
-refusing = record { refused = true; between = false; checks = false }
+refusing = record { refused = true; between = false; checks = None }
 
 -- the outcome is an answer of which this holds
 abbrev pub Answers : Outcome → (Answer → Type 0) → Type 0
@@ -50,14 +56,14 @@ pub record OutFails (old new : Seen) : Type 0 where
   pub steady : old.sure ≡ true → new.faults ≡ old.faults
 
 -- the stops that come once all files are there: a setting, and where a certificate is checked, a bad line of it
-abbrev pub IsLate : Bool → Stop → Type 0
-IsLate checks (stop.File r why) = (checks ≡ true) × (r ≡ role.Certificate) × (refusal : Refusal) × (why ≡ fault.Refused refusal)
+abbrev pub IsLate : Option Role → Stop → Type 0
+IsLate checks (stop.File r why) = (checks ≡ Some r) × (refusal : Refusal) × (why ≡ fault.Refused refusal)
 IsLate checks (stop.Settings setting) = Unit {0}
 
 -- what a command of this manner that comes to this by its inputs did to `out`, where it ended so
 abbrev pub Writes : Manner → Outcome → Seen → Ending → Seen → Type 0
 Writes m meant old ending.Done new = Answers meant (λ a. (a.ending ≡ ending.Done) × Grew old.written a.text new.written)
-Writes m meant old ending.Invalid new = (m.checks ≡ true) × Answers meant (λ a. (a.ending ≡ ending.Invalid) × Grew old.written a.text new.written)
+Writes m meant old ending.Invalid new = IsSome m.checks × Answers meant (λ a. (a.ending ≡ ending.Invalid) × Grew old.written a.text new.written)
 Writes m meant old ending.Usage new = ⊥
 Writes m meant old (ending.Stopped why) new = IsLate m.checks why × (meant ≡ Err (ending.Stopped why)) × (new ≡ old)
 Writes m meant old (ending.Spent trace segment) new = (meant ≡ Err (ending.Spent trace segment)) × (new ≡ old)
@@ -96,7 +102,7 @@ Judges gap i (Ok j) = check gap i ≡ Ok (judged gap j)
 Judges gap i (Err ending.Done) = ⊥
 Judges gap i (Err ending.Invalid) = ⊥
 Judges gap i (Err ending.Usage) = ⊥
-Judges gap i (Err (ending.Stopped why)) = IsLate true why × (check gap i ≡ Err (ending.Stopped why))
+Judges gap i (Err (ending.Stopped why)) = IsLate (Some role.Certificate) why × (check gap i ≡ Err (ending.Stopped why))
 Judges gap i (Err (ending.Spent trace segment)) = ⊥
 Judges gap i (Err ending.OutputFailed) = ⊥
 Judges gap i (Err ending.NoMemory) = Unit {0}

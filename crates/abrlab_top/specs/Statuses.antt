@@ -15,6 +15,7 @@ use Rattle.lab_inputs.specs.Stages.{Asks, AsksSome, Tells}
 use Rattle.abrlab_top.specs.declared.ending.Ending.{Ending}
 use Rattle.abrlab_top.specs.declared.ending.Ending.TheVariants as ending
 use Rattle.abrlab_top.specs.Answer.{Outcome}
+use Rattle.abrlab_top.specs.Choice.{no_choice}
 use Rattle.abrlab_top.specs.Ending.{status_of, stop_status}
 use Rattle.abrlab_top.specs.Outcome.{named_files, outcome, status}
 use Rattle.abrlab_top.specs.Runs.{Runs, World}
@@ -33,7 +34,7 @@ pub record HasCause (line : List Text) (old : World) (result : ℕ) (new : World
   -- no other status is answered
   pub known : IsAmong result (0 ∷ 1 ∷ 2 ∷ 3 ∷ 4 ∷ 5 ∷ 6 ∷ 9 ∷ [])
   -- over told files only what the outcome allows is answered
-  pub told : (files : Files) → Tells old.shelf files → IsAmong result (answers_to (outcome line files))
+  pub told : (files : Files) → Tells old.shelf files → IsAmong result (answers_to (outcome no_choice line files))
   -- 0: the text went out whole
   pub done : result ≡ 0 → Runs line old ending.Done new
   -- 1: the text went out whole, which says that a certificate isn't valid
