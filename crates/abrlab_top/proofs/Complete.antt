@@ -22,11 +22,13 @@ use Rattle.lab_inputs.proofs.Steps.{lacking, named_film, on_film, stops_some}
 use Rattle.abrlab_top.specs.declared.ending.Ending.{Ending}
 use Rattle.abrlab_top.specs.declared.ending.Ending.TheVariants as ending
 use Rattle.abrlab_top.specs.Answer.{Outcome, ending_in}
+use Rattle.abrlab_top.specs.Choice.{Choice, no_choice}
 use Rattle.abrlab_top.specs.Ending.{status_of, stop_status}
 use Rattle.abrlab_top.specs.Outcome.{about, answer_by, answer_of, manner_in, named_by, named_files, outcome, outcome_by, status}
 use Rattle.abrlab_top.specs.Runs.{Ends, Runs, TellsNamed, World}
 use Rattle.abrlab_top.specs.Stages.{OutFails}
 use Rattle.abrlab_top.specs.Statuses.{IsAmong, IsComplete, IsStatus, IsSure, LeavesShelf, RunsAreComplete, RunsLeaveTheShelf}
+use Rattle.abrlab_top.proofs.Choices.{same_ending}
 use Rattle.abrlab_top.proofs.Statuses.{tells_named}
 
 -- ---- the shelf
@@ -48,13 +50,13 @@ none_asked named old new e = rw e (record { asked = []; later = named; split = r
 
 -- what a run leaves of the shelf
 pub leaves_shelf : RunsLeaveTheShelf
-leaves_shelf line old ending.Done new h = all_asked line 0 old.shelf new.shelf h.ends.asked
-leaves_shelf line old ending.Invalid new h = all_asked line 1 old.shelf new.shelf h.ends.asked
-leaves_shelf line old ending.Usage new h = record { asks = none_asked (named_files line) old.shelf new.shelf h.ends.asked; whole = λ s. never_whole 2 s refl }
-leaves_shelf line old (ending.Stopped why) new h = record { asks = stops_some (named_files line) old.shelf new.shelf why h.ends.asked; whole = λ s. stop_whole why s }
-leaves_shelf line old (ending.Spent trace segment) new h = all_asked line 6 old.shelf new.shelf h.ends.asked
-leaves_shelf line old ending.OutputFailed new h = all_asked line 5 old.shelf new.shelf h.ends.asked
-leaves_shelf line old ending.NoMemory new h = record { asks = h.ends.asked; whole = λ s. never_whole 9 s refl }
+leaves_shelf line old ending.Done new h = all_asked line 0 old.shelf new.shelf h.ends.came.asked
+leaves_shelf line old ending.Invalid new h = all_asked line 1 old.shelf new.shelf h.ends.came.asked
+leaves_shelf line old ending.Usage new h = record { asks = none_asked (named_files line) old.shelf new.shelf h.ends.came.asked; whole = λ s. never_whole 2 s refl }
+leaves_shelf line old (ending.Stopped why) new h = record { asks = stops_some (named_files line) old.shelf new.shelf why h.ends.came.asked; whole = λ s. stop_whole why s }
+leaves_shelf line old (ending.Spent trace segment) new h = all_asked line 6 old.shelf new.shelf h.ends.came.asked
+leaves_shelf line old ending.OutputFailed new h = all_asked line 5 old.shelf new.shelf h.ends.came.asked
+leaves_shelf line old ending.NoMemory new h = record { asks = h.ends.came.asked; whole = λ s. never_whole 9 s refl }
 
 -- ---- completeness
 
@@ -67,12 +69,12 @@ about_lacks : (after : InputValues → Outcome) (c : CommandWords) (files : File
 unfolding about
 about_lacks after c files why e = rw (inputs_lack c files why e) refl
 
-answer_lacks : (v : Verb) (c : CommandWords) (files : Files) (why : Stop) → HasFilm v → contents_of c files ≡ Err why → answer_by v c files ≡ Err (ending.Stopped why)
-answer_lacks verb.Simulate c files why b e = about_lacks _ c files why e
-answer_lacks verb.Compare c files why b e = about_lacks _ c files why e
-answer_lacks verb.Plan c files why b e = about_lacks _ c files why e
-answer_lacks verb.Check c files why b e = about_lacks _ c files why e
-answer_lacks verb.Demo c files why b e = absurd b
+answer_lacks : (choice : Choice) (v : Verb) (c : CommandWords) (files : Files) (why : Stop) → HasFilm v → contents_of c files ≡ Err why → answer_by choice v c files ≡ Err (ending.Stopped why)
+answer_lacks choice verb.Simulate c files why b e = about_lacks _ c files why e
+answer_lacks choice verb.Compare c files why b e = about_lacks _ c files why e
+answer_lacks choice verb.Plan c files why b e = about_lacks _ c files why e
+answer_lacks choice verb.Check c files why b e = about_lacks _ c files why e
+answer_lacks choice verb.Demo c files why b e = absurd b
 
 contained : (named before later : List NamedFile) (file : NamedFile) → named ≡ before ++ file ∷ later → Contains named file
 contained named before later file e = rw e (Contains-append_right before (file ∷ later) file (0, omega arith, refl))
@@ -82,45 +84,51 @@ no_member [] ys x e = cc
 no_member (y ∷ xs) ys x e = cc
 
 -- a file that was not read, and is not there, is what words and files come to
-not_there : (o : Option CommandWords) (files : Files) (before later : List NamedFile) (file : NamedFile) → named_by o ≡ before ++ file ∷ later → AreAccepted before files → files file.1 ≡ None
-    → outcome_by o files ≡ Err (ending.Stopped (stop.File file.0 fault.NotRead))
-not_there None files before later file e ok n = no_member before later file e
-not_there (Some c) files before later file e ok n =
+not_there : (choice : Choice) (o : Option CommandWords) (files : Files) (before later : List NamedFile) (file : NamedFile) → named_by o ≡ before ++ file ∷ later → AreAccepted before files → files file.1 ≡ None
+    → outcome_by choice o files ≡ Err (ending.Stopped (stop.File file.0 fault.NotRead))
+not_there choice None files before later file e ok n = no_member before later file e
+not_there choice (Some c) files before later file e ok n =
     let film = named_film c before later file e in
     let split = sym (on_film c film) ∙ e in
-    answer_lacks c.verb c files (stop.File file.0 fault.NotRead) film (lacking c.manifest (later_files c) before later file files split ok n)
+    answer_lacks choice c.verb c files (stop.File file.0 fault.NotRead) film (lacking c.manifest (later_files c) before later file files split ok n)
 
 -- no count of a file that is there rose
 abbrev pub Faultless : List Text → Files → Shelved → Shelved → Type 0
 Faultless line files old new = (file : NamedFile) → Contains (named_files line) file → IsSome (files file.1) → Rose (old.faults file.1) (new.faults file.1) → ⊥
 
-not_read_outcome : (line : List Text) (old new : Shelved) (role : Role) (files : Files) (file : Option Text) (at : AsksUpTo (named_files line) role old new) → files at.name ≡ file
-    → AreAccepted at.before files → Rose (old.faults at.name) (new.faults at.name) → Faultless line files old new → outcome line files ≡ Err (ending.Stopped (stop.File role fault.NotRead))
-not_read_outcome line old new role files None at n ok rose faultless = not_there (command_of line) files at.before at.later (role, at.name) at.split ok n
-not_read_outcome line old new role files (Some bytes) at n ok rose faultless =
+not_read_outcome : (choice : Choice) (line : List Text) (old new : Shelved) (role : Role) (files : Files) (file : Option Text) (at : AsksUpTo (named_files line) role old new) → files at.name ≡ file
+    → AreAccepted at.before files → Rose (old.faults at.name) (new.faults at.name) → Faultless line files old new → outcome choice line files ≡ Err (ending.Stopped (stop.File role fault.NotRead))
+not_read_outcome choice line old new role files None at n ok rose faultless = not_there choice (command_of line) files at.before at.later (role, at.name) at.split ok n
+not_read_outcome choice line old new role files (Some bytes) at n ok rose faultless =
     absurd (faultless (role, at.name) (contained (named_files line) at.before at.later (role, at.name) at.split) (rw n refl) rose)
 
 -- where no count of a file that is there rose, a stop is what words and files come to
-pub stopped_outcome : (line : List Text) (old new : Shelved) (why : Stop) (files : Files) → Tells old files → Faultless line files old new
-    → AsksFor (named_files line) why old new → StopsAt ending.Stopped (outcome line files) why → outcome line files ≡ Err (ending.Stopped why)
-stopped_outcome line old new (stop.File role fault.NotRead) files t faultless x s = not_read_outcome line old new role files (files x.0.name) x.0 refl (x.2 files t) x.1 faultless
-stopped_outcome line old new (stop.File role fault.TooLong) files t faultless x s = s
-stopped_outcome line old new (stop.File role (fault.Refused why)) files t faultless x s = s
-stopped_outcome line old new (stop.Settings setting) files t faultless x s = s
+pub stopped_outcome : (choice : Choice) (line : List Text) (old new : Shelved) (why : Stop) (files : Files) → Tells old files → Faultless line files old new
+    → AsksFor (named_files line) why old new → StopsAt ending.Stopped (outcome choice line files) why → outcome choice line files ≡ Err (ending.Stopped why)
+stopped_outcome choice line old new (stop.File role fault.NotRead) files t faultless x s = not_read_outcome choice line old new role files (files x.0.name) x.0 refl (x.2 files t) x.1 faultless
+stopped_outcome choice line old new (stop.File role fault.TooLong) files t faultless x s = s
+stopped_outcome choice line old new (stop.File role (fault.Refused why)) files t faultless x s = s
+stopped_outcome choice line old new (stop.Settings setting) files t faultless x s = s
 
 -- where no file that is there and not `out` fails, the status is answered, or 9
 completes : (line : List Text) (old : World) (e : Ending) (new : World) → Runs line old e new → (files : Files) → Tells old.shelf files → Faultless line files old.shelf new.shelf → (OutFails old.out new.out → ⊥) → IsStatus line files (status_of e)
-completes line old e new h files t shelf out = by_ending e h.ends
+completes line old e new h files t shelf out = by_ending e h.ends.came
   where
+    choice : Choice
+    choice = h.ends.choice
+
+    is : (e : Ending) → ending_in (outcome choice line files) ≡ e → IsStatus line files (status_of e)
+    is e same = inl (ap status_of (sym same ∙ same_ending choice no_choice line files))
+
     named : TellsNamed (named_files line) old.shelf files
     named = tells_named (named_files line) old.shelf files t
 
-    by_ending : (e : Ending) → Ends (named_files line) (manner_in (command_of line)) (outcome line) old.shelf old.out e new.shelf new.out → IsStatus line files (status_of e)
-    by_ending ending.Done x = let a = x.comes files named in inl (rw (a.1, a.2.0) refl)
-    by_ending ending.Invalid x = let a = x.comes files named in inl (rw (a.1, a.2.0) refl)
-    by_ending ending.Usage x = inl (rw (x.comes files named) refl)
-    by_ending (ending.Stopped why) x = inl (rw (stopped_outcome line old.shelf new.shelf why files t shelf x.asked (x.comes files named)) refl)
-    by_ending (ending.Spent trace segment) x = inl (rw (x.comes files named) refl)
+    by_ending : (e : Ending) → Ends (named_files line) (manner_in (command_of line)) (outcome choice line) old.shelf old.out e new.shelf new.out → IsStatus line files (status_of e)
+    by_ending ending.Done x = let a = x.comes files named in is ending.Done (ap ending_in a.1 ∙ a.2.0)
+    by_ending ending.Invalid x = let a = x.comes files named in is ending.Invalid (ap ending_in a.1 ∙ a.2.0)
+    by_ending ending.Usage x = is ending.Usage (ap ending_in (x.comes files named))
+    by_ending (ending.Stopped why) x = inl (rw (stopped_outcome choice line old.shelf new.shelf why files t shelf x.asked (x.comes files named)) refl)
+    by_ending (ending.Spent trace segment) x = is (ending.Spent trace segment) (ap ending_in (x.comes files named))
     by_ending ending.OutputFailed x = absurd (out x.leaves)
     by_ending ending.NoMemory x = inr refl
 

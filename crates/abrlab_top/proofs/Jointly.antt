@@ -31,10 +31,11 @@ use Rattle.abrlab_top.specs.declared.ending.Ending.{Ending}
 use Rattle.abrlab_top.specs.declared.ending.Ending.TheVariants as ending
 use Rattle.abrlab_top.specs.declared.rule.AnyRule.{AnyRule}
 use Rattle.abrlab_top.specs.Answer.{printed}
-use Rattle.abrlab_top.specs.Outcome.{about, answer_of, manner_of}
+use Rattle.abrlab_top.specs.Choice.{no_choice}
+use Rattle.abrlab_top.specs.Outcome.{about}
 use Rattle.abrlab_top.specs.Players.{AreOf, joint_on, joint_text, play_jointly, play_jointly_on, player_line, players_text, simulate_by}
 use Rattle.abrlab_top.specs.Rules.{HasSeen, kind_of}
-use Rattle.abrlab_top.specs.Runs.{Ends}
+use Rattle.abrlab_top.specs.Runs.{Ends, EndsBy}
 use Rattle.abrlab_top.specs.Stages.{at_the_end}
 use Rattle.abrlab_top.proofs.Networks.{all_mapped}
 use Rattle.abrlab_top.proofs.Whole.{ends_by}
@@ -65,9 +66,10 @@ for_players c i h players keeps = (
 
 -- how `simulate` ended, by whether it is about several players
 pub simulate_ends : (several : Bool) (c : CommandWords) (shelf : Shelved) (out : Seen) (e : Ending) (shelf2 : Shelved) (out2 : Seen) → c.verb ≡ verb.Simulate → c.players ≡ several
-    → Ends (film_files c) at_the_end (about (simulate_by several) c) shelf out e shelf2 out2 → Ends (files_of c) (manner_of c) (answer_of c) shelf out e shelf2 out2
+    → Ends (film_files c) at_the_end (about (simulate_by several) c) shelf out e shelf2 out2 → EndsBy (Some c) shelf out e shelf2 out2
 simulate_ends several c shelf out e shelf2 out2 v players x =
-    ends_by verb.Simulate c shelf out e shelf2 out2 v (subst (λ b. Ends (film_files c) at_the_end (about (simulate_by b) c) shelf out e shelf2 out2) (sym players) x)
+    ends_by no_choice verb.Simulate c shelf out e shelf2 out2 v (λ files t some i read. tt)
+    (subst (λ b. Ends (film_files c) at_the_end (about (simulate_by b) c) shelf out e shelf2 out2) (sym players) x)
 
 -- ---- the texts
 

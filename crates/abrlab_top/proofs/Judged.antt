@@ -113,7 +113,7 @@ no_network gap i e = ap (check_on gap i) e
 pub bad_judged : (gap : Bool) (i : InputValues) (n : Text × List Period) (f : InputFault) → slice_get i.networks 0 ≡ Some n → Fails f (claim_of gap i.certificate) → Judges gap i (Err (bad_line f))
 unfolding check
 bad_judged gap i n Memory e h = tt
-bad_judged gap i n (Refused why) e h = ((refl, refl, why, refl), rw (e, h) refl)
+bad_judged gap i n (Refused why) e h = ((refl, why, refl), rw (e, h) refl)
 
 -- then a setting that does not fit
 pub misfit_judged : (gap : Bool) (i : InputValues) (n : Text × List Period) (why : Stop) → slice_get i.networks 0 ≡ Some n → settled i ≡ Err why → (k : GapParts) × (claim_of gap i.certificate ≡ Ok k) → Judges gap i (Err (ending.Stopped why))
@@ -178,4 +178,4 @@ verdict_done gap i j old new r u is k p =
   where
     by_verdict : (v : Verdict) → j.verdict ≡ v → Puts old (judged gap j).text new (Ok u) → Writes of_a_check (check gap i) old (verdict_ending v) new
     by_verdict Yes e q = (judged gap j, is, (ap verdict_ending e, q.answered))
-    by_verdict (No clause segment rung label) e q = (refl, (judged gap j, is, (ap verdict_ending e, q.answered)))
+    by_verdict (No clause segment rung label) e q = (tt, (judged gap j, is, (ap verdict_ending e, q.answered)))

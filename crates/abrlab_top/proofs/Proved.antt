@@ -42,9 +42,10 @@ use Rattle.abrlab_top.specs.declared.ending.Ending.TheVariants as ending
 use Rattle.abrlab_top.specs.Ahead.{ahead_of}
 use Rattle.abrlab_top.specs.Answer.{Answer, Outcome, printed, unless_stopped}
 use Rattle.abrlab_top.specs.Check.{check, check_on, claim_in, told_verdict, verdict_ending, verdict_text}
+use Rattle.abrlab_top.specs.Choice.{Choice, ChosenOver}
 use Rattle.abrlab_top.specs.Claim.{claim_of}
 use Rattle.abrlab_top.specs.Ending.{status_of}
-use Rattle.abrlab_top.specs.Outcome.{about, answer_by, answer_of, named_files, outcome, outcome_by}
+use Rattle.abrlab_top.specs.Outcome.{about, answer_by, answer_of, checking, comparison, named_files, outcome, outcome_by, planning}
 use Rattle.abrlab_top.specs.Plan.{PlanAsked, bound_on, certificate_on, chains_on, grid_in, labels_on, options_of, plan, plan_on, plan_text, planned_on, spent_on, task_on, unless_spent}
 use Rattle.abrlab_top.specs.Players.{simulate_by}
 use Rattle.abrlab_top.specs.Proves.{Headline, IsBest, IsPlain, IsSession, IsYes, PlansTheBest, Proves, SaysYesSoundly, Simulates}
@@ -60,33 +61,52 @@ use Rattle.abrlab_top.proofs.Statuses.{statuses, tells_named}
 -- a command that answered, whose text went out whole
 pub record DoneBy (c : CommandWords) (files : Files) (old new : World) : Type 0 where
   pub limits : IsWithinLimits c
+  pub choice : Choice
+  pub chosen : ChosenOver (Some c) choice files
   pub answer : Answer
-  pub gives : answer_of c files ≡ Ok answer
+  pub gives : answer_of choice c files ≡ Ok answer
   pub ending : answer.ending ≡ ending.Done
   pub out : Grew old.out.written answer.text new.out.written
   pub err : new.err ≡ old.err
 
 -- words that ask for a command come to what it comes to
-pub outcome_asked : (line : List Text) (c : CommandWords) (files : Files) → command_of line ≡ Some c → outcome line files ≡ answer_of c files
-outcome_asked line c files e = ap (λ o. outcome_by o files) e
+pub outcome_asked : (choice : Choice) (line : List Text) (c : CommandWords) (files : Files) → command_of line ≡ Some c → outcome choice line files ≡ answer_of choice c files
+outcome_asked choice line c files e = ap (λ o. outcome_by choice o files) e
 
 -- a run of such words that answered 0
 pub done_by : (line : List Text) (old new : World) (e : Ending) → Runs line old e new → status_of e ≡ 0 → (c : CommandWords) (files : Files) → command_of line ≡ Some c → Tells old.shelf files → DoneBy c files old new
 done_by line old new e h s c files asked t =
     let d = (statuses line old e new h).done s in
-    let a = d.ends.comes files (tells_named (named_files line) old.shelf files t) in
+    let choice = d.ends.choice in
+    let a = d.ends.came.comes files (tells_named (named_files line) old.shelf files t) in
     record {
       limits = command_within line c asked;
+      choice = choice;
+      chosen = subst (λ o. ChosenOver o choice files) asked (d.ends.chosen files t tt);
       answer = a.0;
-      gives = sym (outcome_asked line c files asked) ∙ a.1;
+      gives = sym (outcome_asked choice line c files asked) ∙ a.1;
       ending = a.2.0;
       out = a.2.1;
       err = d.err;
     }
 
 -- what a command answered, by its verb
-pub by_verb : (v : Verb) (c : CommandWords) (files : Files) (a : Answer) → c.verb ≡ v → answer_of c files ≡ Ok a → answer_by v c files ≡ Ok a
-by_verb v c files a e h = subst (λ w. answer_by w c files ≡ Ok a) e h
+pub by_verb : (choice : Choice) (v : Verb) (c : CommandWords) (files : Files) (a : Answer) → c.verb ≡ v → answer_of choice c files ≡ Ok a → answer_by choice v c files ≡ Ok a
+by_verb choice v c files a e h = subst (λ w. answer_by choice w c files ≡ Ok a) e h
+
+-- what `plan` answered, with the best or with a bound by prices
+pub by_planning : (choice : Choice) (near : Bool) (c : CommandWords) (files : Files) (a : Answer) → c.verb ≡ verb.Plan → c.near ≡ near → answer_of choice c files ≡ Ok a → about (planning choice near (options_of c)) c files ≡ Ok a
+by_planning choice near c files a v n e = subst (λ b. about (planning choice b (options_of c)) c files ≡ Ok a) n (by_verb choice verb.Plan c files a v e)
+
+-- what `check` answered, of a certificate by prices or by labels
+pub by_checking : (choice : Choice) (near : Bool) (c : CommandWords) (files : Files) (a : Answer) → c.verb ≡ verb.Check → c.near ≡ near → answer_of choice c files ≡ Ok a → about (checking near c.gap) c files ≡ Ok a
+by_checking choice near c files a v n e = subst (λ b. about (checking b c.gap) c files ≡ Ok a) n (by_verb choice verb.Check c files a v e)
+
+-- what `compare --regret` answered, beside the best or beside bounds
+pub by_regrets : (choice : Choice) (near : Bool) (c : CommandWords) (files : Files) (a : Answer) → c.verb ≡ verb.Compare → c.regret ≡ true → c.near ≡ near → answer_of choice c files ≡ Ok a
+    → about (comparison choice true near c.budget) c files ≡ Ok a
+by_regrets choice near c files a v r n e =
+    subst (λ b. about (comparison choice true b c.budget) c files ≡ Ok a) n (subst (λ b. about (comparison choice b c.near c.budget) c files ≡ Ok a) r (by_verb choice verb.Compare c files a v e))
 
 -- a value that no stop came before
 pub stopped_ok : {A : Type 0} (o : Result A Stop) (x : A) → unless_stopped o ≡ Ok x → o ≡ Ok x
@@ -136,14 +156,14 @@ simulated_ok i n rule a e h k =
     (s.0, ap (λ (j : InputValues). printed (session_on j n.1 rule.1)) s.1 ∙ ok_same _ _ a refl x.2)
 
 -- what `simulate` answered, by whether it is about several players
-pub simulating : (several : Bool) (c : CommandWords) (files : Files) (a : Answer) → c.verb ≡ verb.Simulate → c.players ≡ several → answer_of c files ≡ Ok a → about (simulate_by several) c files ≡ Ok a
-simulating several c files a v players h = subst (λ b. about (simulate_by b) c files ≡ Ok a) players (by_verb verb.Simulate c files a v h)
+pub simulating : (choice : Choice) (several : Bool) (c : CommandWords) (files : Files) (a : Answer) → c.verb ≡ verb.Simulate → c.players ≡ several → answer_of choice c files ≡ Ok a → about (simulate_by several) c files ≡ Ok a
+simulating choice several c files a v players h = subst (λ b. about (simulate_by b) c files ≡ Ok a) players (by_verb choice verb.Simulate c files a v h)
 
 -- what `simulate` proves of one player
 pub simulates : (line : List Text) (old new : World) (e : Ending) (r : ℕ) → Runs line old e new → r ≡ status_of e → Simulates line old r new
 simulates line old new e r h k c files asked v one t s =
     let d = done_by line old new e h (sym k ∙ s) c files asked t in
-    let x = about_ok simulate c files d.answer (simulating false c files d.answer v one d.gives) in
+    let x = about_ok simulate c files d.answer (simulating d.choice false c files d.answer v one d.gives) in
     let counts = counts_of c verb.Simulate d.limits v in
     let held = inputs_counted c files x.0 x.1 in
     let network = one_of x.0.networks (held.0 ∙ counts.0) in
@@ -233,10 +253,10 @@ best_is o g fits is few =
 
 -- what `plan` proves
 pub plans_the_best : (line : List Text) (old new : World) (e : Ending) (r : ℕ) → Runs line old e new → r ≡ status_of e → PlansTheBest line old r new
-plans_the_best line old new e r h k c files asked v t s =
+plans_the_best line old new e r h k c files asked v labels t s =
     let d = done_by line old new e h (sym k ∙ s) c files asked t in
     let o = options_of c in
-    let x = about_ok (plan o) c files d.answer (by_verb verb.Plan c files d.answer v d.gives) in
+    let x = about_ok (plan o) c files d.answer (by_planning d.choice false c files d.answer v labels d.gives) in
     let counts = counts_of c verb.Plan d.limits v in
     let network = one_of x.0.networks ((inputs_counted c files x.0 x.1).0 ∙ counts.0) in
     let y = planned_ok o x.0 network.0 d.answer network.1 x.2 in
@@ -275,9 +295,9 @@ is_yes (No clause segment rung label) e = cc
 
 -- what `check` proves
 pub says_yes_soundly : (line : List Text) (old new : World) (e : Ending) (r : ℕ) → Runs line old e new → r ≡ status_of e → SaysYesSoundly line old r new
-says_yes_soundly line old new e r h k c files asked v t s =
+says_yes_soundly line old new e r h k c files asked v labels t s =
     let d = done_by line old new e h (sym k ∙ s) c files asked t in
-    let x = about_ok (check c.gap) c files d.answer (by_verb verb.Check c files d.answer v d.gives) in
+    let x = about_ok (check c.gap) c files d.answer (by_checking d.choice false c files d.answer v labels d.gives) in
     let counts = counts_of c verb.Check d.limits v in
     let network = one_of x.0.networks ((inputs_counted c files x.0 x.1).0 ∙ counts.0) in
     let y = checked_ok c.gap x.0 network.0 d.answer network.1 x.2 in
@@ -331,12 +351,12 @@ headline line old new r simulates plans checks = record {
       plainly c files old new _ _ plain.on_demand (simulates c files asked v plain.one_player t s)
       (λ i periods text none h. (h.0, h.1, subst (λ live. IsSession (case_of i.film periods i.setup i.seeks (ahead_of live) h.0.1) text) none h.2));
   plans = λ c files asked v plain t s.
-      plainly c files old new _ _ plain.on_demand (plans c files asked v t s)
+      plainly c files old new _ _ plain.on_demand (plans c files asked v plain.no_prices t s)
       (λ i periods text none h.
       subst (λ grid. (p : IsBest (task_of i.film periods i.setup all_ahead) grid c.as_certificate text) × (p.bound ≡ p.best.score)) (no_grid c.coarse_time c.coarse_value plain.exact)
       (subst (λ live. (p : IsBest (task_of i.film periods i.setup (ahead_of live)) (grid_in c.coarse_time c.coarse_value) c.as_certificate text) × (p.bound ≡ p.best.score)) none (h.0, h.1 plain.exact)));
   checks = λ c files asked v plain t s.
-      plainly c files old new _ _ plain.on_demand (checks c files asked v t s)
+      plainly c files old new _ _ plain.on_demand (checks c files asked v plain.no_prices t s)
       (λ i periods text none h.
       subst (λ gap. (p : IsYes (task_of i.film periods i.setup all_ahead) gap i.certificate text) × (p.claim.bound ≡ p.claim.inner.score)) plain.no_gap
       (subst (λ live. (p : IsYes (task_of i.film periods i.setup (ahead_of live)) c.gap i.certificate text) × (p.claim.bound ≡ p.claim.inner.score)) none (h.0, h.1 plain.no_gap)));

@@ -22,11 +22,13 @@ use Rattle.lab_inputs.proofs.Steps.{lacking, named_film, on_film, stops_some}
 use Rattle.abrlab_top.specs.declared.ending.Ending.{Ending}
 use Rattle.abrlab_top.specs.declared.ending.Ending.TheVariants as ending
 use Rattle.abrlab_top.specs.Answer.{Answer, Outcome, ending_in}
+use Rattle.abrlab_top.specs.Choice.{Choice, no_choice}
 use Rattle.abrlab_top.specs.Ending.{IsWhole, status_of, stop_status}
-use Rattle.abrlab_top.specs.Outcome.{about, answer_by, comparing, manner_in, named_by, named_files, outcome, outcome_by, status}
+use Rattle.abrlab_top.specs.Outcome.{checks_by, comparing, manner_in, named_by, named_files, outcome, outcome_by, status}
 use Rattle.abrlab_top.specs.Runs.{Admits, Ends, Runs, TellsNamed, World}
 use Rattle.abrlab_top.specs.Stages.{Answers, OutFails}
 use Rattle.abrlab_top.specs.Statuses.{HasCause, IsAmong, IsComplete, IsStatus, LeavesShelf, RunsAreComplete, RunsLeaveTheShelf, StatusesHaveCauses, answers_to}
+use Rattle.abrlab_top.proofs.Choices.{same_answers}
 use Rattle.abrlab_top.proofs.Words.{begins}
 
 -- a shelf that tells its files tells those that are named
@@ -83,20 +85,23 @@ stop_told o (stop.Settings setting) h = rw h refl
 
 module _ (line : List Text) (old new : World) where
   -- over told files only what the outcome allows is answered
-  told : (e : Ending) → Runs line old e new → (files : Files) → Tells old.shelf files → IsAmong (status_of e) (answers_to (outcome line files))
-  told e h files t = by_ending e h.ends
+  told : (e : Ending) → Runs line old e new → (files : Files) → Tells old.shelf files → IsAmong (status_of e) (answers_to (outcome no_choice line files))
+  told e h files t = subst (IsAmong (status_of e)) (same_answers choice no_choice line files) (by_ending e h.ends.came)
     where
+      choice : Choice
+      choice = h.ends.choice
+
       named : TellsNamed (named_files line) old.shelf files
       named = tells_named (named_files line) old.shelf files t
 
-      by_ending : (e : Ending) → Ends (named_files line) (manner_in (command_of line)) (outcome line) old.shelf old.out e new.shelf new.out → IsAmong (status_of e) (answers_to (outcome line files))
+      by_ending : (e : Ending) → Ends (named_files line) (manner_in (command_of line)) (outcome choice line) old.shelf old.out e new.shelf new.out → IsAmong (status_of e) (answers_to (outcome choice line files))
       by_ending ending.Done x = let a = x.comes files named in rw (a.1, a.2.0) refl
       by_ending ending.Invalid x = let a = x.comes files named in rw (a.1, a.2.0) refl
       by_ending ending.Usage x = rw (x.comes files named) refl
-      by_ending (ending.Stopped why) x = stop_told (outcome line files) why (x.comes files named)
+      by_ending (ending.Stopped why) x = stop_told (outcome choice line files) why (x.comes files named)
       by_ending (ending.Spent trace segment) x = rw (x.comes files named) refl
       by_ending ending.OutputFailed x = let a = x.comes files named in rw a.1 (five a.0)
-      by_ending ending.NoMemory x = nine (outcome line files)
+      by_ending ending.NoMemory x = nine (outcome choice line files)
 
   done : (e : Ending) → Runs line old e new → status_of e ≡ 0 → Runs line old ending.Done new
   done ending.Done h s = h
@@ -116,15 +121,19 @@ module _ (line : List Text) (old new : World) where
       by_manner true h = cc
       by_manner false h = cc
 
+      by_check : (near : Bool) → (checks_by near).refused ≡ true → Some c ≡ None
+      by_check true h = cc
+      by_check false h = cc
+
       by_verb : (v : Verb) → (manner_in (Some (record c { verb = v }))).refused ≡ true → Some c ≡ None
       by_verb verb.Simulate h = cc
       by_verb verb.Compare h = by_manner c.regret h
       by_verb verb.Plan h = cc
-      by_verb verb.Check h = cc
+      by_verb verb.Check h = by_check c.near h
       by_verb verb.Demo h = cc
 
   usage : (e : Ending) → Runs line old e new → status_of e ≡ 2 → Runs line old ending.Usage new × (command_of line ≡ None)
-  usage ending.Usage h s = (h, refused_words (command_of line) h.ends.leaves.0)
+  usage ending.Usage h s = (h, refused_words (command_of line) h.ends.came.leaves.0)
   usage (ending.Stopped why) h s = let k = (stop_range why).0 in absurd (omega arith)
   usage e h s = absurd (omega arith)
 

@@ -1,11 +1,13 @@
 -- The stages of a run, put together.
 use Rattle.std.proofs.Common.{◌≡◌, ◌++◌, List, [], ◌∷◌, append-nil, append_assoc, Bool, true, false, Option, option_map, Some, None, Result, Ok, Err, IsSome, inl, inr, ap, subst, sym, ◌∙◌, refl}
+use Rattle.std.specs.List.{slice_get}
 use Rattle.std.specs.Result.{IsErrAnd}
 use Rattle.std.proofs.lemmas.Result.{err_from_is_err_and}
 use Rattle.lab_io.specs.declared.PutErr.{PutErr}
 use Rattle.lab_io.specs.declared.PutErr.TheVariants as put
 use Rattle.lab_io.specs.Shelf.{Shelved}
 use Rattle.lab_io.specs.Sink.{Text, Seen, Grew, GrewPart, Puts}
+use Rattle.lab_model.specs.declared.trace.Period.{Period}
 use Rattle.lab_words.specs.declared.Verb.{Verb}
 use Rattle.lab_words.specs.declared.Verb.TheVariants as verb
 use Rattle.lab_words.specs.Command.{CommandWords}
@@ -22,18 +24,20 @@ use Rattle.lab_inputs.specs.declared.stop.Stop.TheVariants as stop
 use Rattle.lab_model.specs.Steps.{◌>>=◌}
 use Rattle.lab_inputs.specs.Files.{Files}
 use Rattle.lab_inputs.specs.Inputs.{InputValues, inputs_of}
-use Rattle.lab_inputs.specs.Roles.{NamedFile, film_files, files_by, files_of, optional_file, trace_files}
+use Rattle.lab_inputs.specs.Roles.{NamedFile, certificate_role, film_files, files_by, files_of, optional_file, trace_files}
 use Rattle.lab_inputs.specs.Settings.{Fits, misfit, settled, unless_misfit}
 use Rattle.lab_inputs.specs.Stages.{Asks, AsksFor, AsksSome, AsksUpTo, Comes, IsSettled, Means, StopsAt, Tells}
 use Rattle.lab_inputs.proofs.Files.{asks_all, asks_none}
 use Rattle.abrlab_top.specs.declared.ending.Ending.{Ending}
 use Rattle.abrlab_top.specs.declared.ending.Ending.TheVariants as ending
 use Rattle.abrlab_top.specs.Answer.{Answer, Outcome, printed, text_in, unless_stopped}
+use Rattle.abrlab_top.specs.Choice.{AreBounds, Choice, ChosenBy, HasText, IsNearBest, no_choice}
 use Rattle.abrlab_top.specs.Demo.{demo}
 use Rattle.abrlab_top.specs.Ending.{IsWhole, after_halt, after_put, ended}
-use Rattle.abrlab_top.specs.Outcome.{about, answer_by, answer_of, comparing, comparison, manner_by, manner_in, manner_of, named_by, named_files, outcome, outcome_by}
-use Rattle.abrlab_top.specs.Runs.{Admits, ComesTo, Ends}
-use Rattle.abrlab_top.specs.Stages.{Answers, IsLate, Manner, OutFails, Writes, refusing}
+use Rattle.abrlab_top.specs.Outcome.{about, answer_by, checking, checks_by, comparing, comparison, manner_by, named_files, outcome, planning}
+use Rattle.abrlab_top.specs.Plan.{options_of, task_on}
+use Rattle.abrlab_top.specs.Runs.{Admits, ComesTo, Ends, EndsBy}
+use Rattle.abrlab_top.specs.Stages.{Answers, IsLate, Manner, OutFails, Writes, at_the_end, of_a_check, of_a_price_check, refusing}
 
 same_written : (w : Option Text) → Grew w [] w
 same_written None = refl
@@ -65,7 +69,7 @@ setting_is : (i : InputValues) (setting : Setting) (why : Stop) → unless_misfi
 setting_is i setting why e = cc
 
 -- a setting that does not fit comes once all files are there
-pub late_setting : (checks : Bool) (i : InputValues) (o : Option Setting) (why : Stop) → unless_misfit i o ≡ Err why → IsLate checks why
+pub late_setting : (checks : Option Role) (i : InputValues) (o : Option Setting) (why : Stop) → unless_misfit i o ≡ Err why → IsLate checks why
 late_setting checks i None why e = cc
 late_setting checks i (Some setting) why e = subst (IsLate checks) (setting_is i setting why e) tt
 
@@ -124,11 +128,26 @@ read_failed m after c old new out r q h e k x =
     let xx : Comes (film_files c) (λ (i : InputValues). i) (inputs_of c) old (Err h) new = rw e at x in
     subst (λ r. Ends (film_files c) m (about after c) old out (ended r) new out) (sym p.1) (subst (λ y. Ends (film_files c) m (about after c) old out y new out) (sym p.2) (read_halted m after c old new out h xx))
 
+some_role : {q r : Role} → Some q ≡ Some r → r ≡ q
+some_role e = cc
+
+-- a command names a certificate of this role
+abbrev pub HasCertificate : CommandWords → Role → Type 0
+HasCertificate c r = IsSome c.certificate × (r ≡ certificate_role c.near)
+
+-- a check names the certificate that it is about
+pub labels_certificate : (c : CommandWords) (r : Role) → IsSome c.certificate → c.near ≡ false → of_a_check.checks ≡ Some r → HasCertificate c r
+labels_certificate c r some labels e = (some, some_role e ∙ sym (ap certificate_role labels))
+
+-- the same of a certificate by prices
+pub prices_certificate : (c : CommandWords) (r : Role) → IsSome c.certificate → c.near ≡ true → of_a_price_check.checks ≡ Some r → HasCertificate c r
+prices_certificate c r some prices e = (some, some_role e ∙ sym (ap certificate_role prices))
+
 -- the certificate is the last file of a command that names one
-certificate_last : (c : CommandWords) → IsSome c.certificate → (before : List NamedFile) × (name : Text) × (film_files c ≡ before ++ (role.Certificate, name) ∷ [])
+certificate_last : (c : CommandWords) → IsSome c.certificate → (before : List NamedFile) × (name : Text) × (film_files c ≡ before ++ (certificate_role c.near, name) ∷ [])
 certificate_last c some = by_name c.certificate refl some
   where
-    by_name : (o : Option Text) → c.certificate ≡ o → IsSome o → (before : List NamedFile) × (name : Text) × (film_files c ≡ before ++ (role.Certificate, name) ∷ [])
+    by_name : (o : Option Text) → c.certificate ≡ o → IsSome o → (before : List NamedFile) × (name : Text) × (film_files c ≡ before ++ (certificate_role c.near, name) ∷ [])
     by_name None e h = cc
     by_name (Some name) e h = (
       (role.Manifest, c.manifest) ∷ (optional_file role.Utilities c.table ++ (trace_files c.verb c.traces ++ optional_file role.Seeks c.seeks)),
@@ -136,16 +155,17 @@ certificate_last c some = by_name c.certificate refl some
       rw e (ap (λ l. (role.Manifest, c.manifest) ∷ l) (sym (simp append_assoc))),
     )
 
-late_asked : (checks : Bool) (c : CommandWords) (why : Stop) (old new : Shelved) → IsLate checks why → (checks ≡ true → IsSome c.certificate) → Asks (film_files c) old new → AsksFor (film_files c) why old new
+late_asked : (checks : Option Role) (c : CommandWords) (why : Stop) (old new : Shelved) → IsLate checks why → ((r : Role) → checks ≡ Some r → HasCertificate c r) → Asks (film_files c) old new → AsksFor (film_files c) why old new
 late_asked checks c (stop.Settings setting) old new l some asks = asks
 late_asked checks c (stop.File r why) old new l some asks =
-    let last = certificate_last c (some l.0) in
-    let up : AsksUpTo (film_files c) role.Certificate old new = record { before = last.0; name = last.1; later = []; split = last.2; asks = subst (λ named. Asks named old new) last.2 asks } in
-    let at : AsksFor (film_files c) (stop.File role.Certificate (fault.Refused l.2)) old new = up in
-    subst (λ s. AsksFor (film_files c) s old new) (sym (ap (λ q. stop.File q why) l.1 ∙ ap (stop.File role.Certificate) l.3)) at
+    let has = some r l.0 in
+    let last = certificate_last c has.0 in
+    let up : AsksUpTo (film_files c) (certificate_role c.near) old new = record { before = last.0; name = last.1; later = []; split = last.2; asks = subst (λ named. Asks named old new) last.2 asks } in
+    let at : AsksFor (film_files c) (stop.File (certificate_role c.near) (fault.Refused l.1)) old new = up in
+    subst (λ s. AsksFor (film_files c) s old new) (sym (ap (λ q. stop.File q why) has.1 ∙ ap (stop.File (certificate_role c.near)) l.2)) at
 
 -- its files were read, and it then answered by its inputs
-pub about_ends : (m : Manner) (after : InputValues → Outcome) (c : CommandWords) (i : InputValues) (old new : Shelved) (out out2 : Seen) (e : Ending) → (m.checks ≡ true → IsSome c.certificate)
+pub about_ends : (m : Manner) (after : InputValues → Outcome) (c : CommandWords) (i : InputValues) (old new : Shelved) (out out2 : Seen) (e : Ending) → ((r : Role) → m.checks ≡ Some r → HasCertificate c r)
     → Comes (film_files c) (λ (i : InputValues). i) (inputs_of c) old (Ok i) new → Writes m (after i) out e out2 → Ends (film_files c) m (about after c) old out e new out2
 unfolding about
 about_ends m after c i old new out out2 e some read w = by_ending e w
@@ -174,37 +194,66 @@ alone_ends m text shelf out out2 ending.NoMemory w = record { asked = asks_all [
 
 -- ---- words
 
--- how a command ended, by its verb
-pub ends_by : (v : Verb) (c : CommandWords) (shelf : Shelved) (out : Seen) (e : Ending) (shelf2 : Shelved) (out2 : Seen) → c.verb ≡ v → Ends (files_by v c) (manner_by v c) (answer_by v c) shelf out e shelf2 out2 → Ends (files_of c) (manner_of c) (answer_of c) shelf out e shelf2 out2
-ends_by v c shelf out e shelf2 out2 h x = subst (λ w. Ends (files_by w c) (manner_by w c) (answer_by w c) shelf out e shelf2 out2) (sym h) x
+-- how a command ended, by its verb, where this was chosen
+pub ends_by : (choice : Choice) (v : Verb) (c : CommandWords) (shelf : Shelved) (out : Seen) (e : Ending) (shelf2 : Shelved) (out2 : Seen) → c.verb ≡ v
+    → ((files : Files) → Tells shelf files → HasText e → (i : InputValues) → inputs_of c files ≡ Ok i → ChosenBy v c choice i)
+    → Ends (files_by v c) (manner_by v c) (answer_by choice v c) shelf out e shelf2 out2 → EndsBy (Some c) shelf out e shelf2 out2
+ends_by choice v c shelf out e shelf2 out2 h chosen x = record {
+  choice = choice;
+  chosen = λ files t some i read. subst (λ w. ChosenBy w c choice i) (sym h) (chosen files t some i read);
+  came = subst (λ w. Ends (files_by w c) (manner_by w c) (answer_by choice w c) shelf out e shelf2 out2) (sym h) x;
+}
 
--- how a comparison ended, with regrets or row by row
-pub compare_ends : (regrets : Bool) (c : CommandWords) (shelf : Shelved) (out : Seen) (e : Ending) (shelf2 : Shelved) (out2 : Seen) → c.verb ≡ verb.Compare → c.regret ≡ regrets
-    → Ends (film_files c) (comparing regrets) (about (comparison regrets c.budget) c) shelf out e shelf2 out2 → Ends (files_of c) (manner_of c) (answer_of c) shelf out e shelf2 out2
-compare_ends regrets c shelf out e shelf2 out2 v h x =
-    ends_by verb.Compare c shelf out e shelf2 out2 v (subst (λ b. Ends (film_files c) (comparing b) (about (comparison b c.budget) c) shelf out e shelf2 out2) (sym h) x)
+-- how a comparison ended, with regrets beside the best or beside bounds, or row by row
+pub compare_ends : (choice : Choice) (regrets near : Bool) (c : CommandWords) (shelf : Shelved) (out : Seen) (e : Ending) (shelf2 : Shelved) (out2 : Seen) → c.verb ≡ verb.Compare → c.regret ≡ regrets → c.near ≡ near
+    → ((files : Files) → Tells shelf files → HasText e → (i : InputValues) → inputs_of c files ≡ Ok i → regrets ≡ true → near ≡ true → AreBounds i i.networks choice.bounds)
+    → Ends (film_files c) (comparing regrets) (about (comparison choice regrets near c.budget) c) shelf out e shelf2 out2 → EndsBy (Some c) shelf out e shelf2 out2
+compare_ends choice regrets near c shelf out e shelf2 out2 v h k chosen x =
+    ends_by choice verb.Compare c shelf out e shelf2 out2 v (λ files t some i read r n. chosen files t some i read (sym h ∙ r) (sym k ∙ n))
+    (subst (λ b. Ends (film_files c) (comparing b) (about (comparison choice b c.near c.budget) c) shelf out e shelf2 out2) (sym h)
+    (subst (λ b. Ends (film_files c) (comparing regrets) (about (comparison choice regrets b c.budget) c) shelf out e shelf2 out2) (sym k) x))
+
+-- how planning ended, with the best or with a bound by prices
+pub plan_ends : (choice : Choice) (near : Bool) (c : CommandWords) (shelf : Shelved) (out : Seen) (e : Ending) (shelf2 : Shelved) (out2 : Seen) → c.verb ≡ verb.Plan → c.near ≡ near
+    → ((files : Files) → Tells shelf files → HasText e → (i : InputValues) → inputs_of c files ≡ Ok i → near ≡ true → (network : Text × List Period) → slice_get i.networks 0 ≡ Some network → IsNearBest (task_on i network.1) choice.certificate)
+    → Ends (film_files c) at_the_end (about (planning choice near (options_of c)) c) shelf out e shelf2 out2 → EndsBy (Some c) shelf out e shelf2 out2
+plan_ends choice near c shelf out e shelf2 out2 v k chosen x =
+    ends_by choice verb.Plan c shelf out e shelf2 out2 v (λ files t some i read n. chosen files t some i read (sym k ∙ n))
+    (subst (λ b. Ends (film_files c) at_the_end (about (planning choice b (options_of c)) c) shelf out e shelf2 out2) (sym k) x)
+
+-- how a check ended, of a certificate by prices or by labels
+pub check_ends : (near : Bool) (c : CommandWords) (shelf : Shelved) (out : Seen) (e : Ending) (shelf2 : Shelved) (out2 : Seen) → c.verb ≡ verb.Check → c.near ≡ near
+    → Ends (film_files c) (checks_by near) (about (checking near c.gap) c) shelf out e shelf2 out2 → EndsBy (Some c) shelf out e shelf2 out2
+check_ends near c shelf out e shelf2 out2 v k x =
+    ends_by no_choice verb.Check c shelf out e shelf2 out2 v (λ files t some i read. tt)
+    (subst (λ b. Ends (film_files c) (checks_by b) (about (checking b c.gap) c) shelf out e shelf2 out2) (sym k) x)
 
 -- words that ask for a command end as it does
-pub command_ends : (line : List Text) (c : CommandWords) (shelf : Shelved) (out : Seen) (e : Ending) (shelf2 : Shelved) (out2 : Seen) → command_of line ≡ Some c → Ends (files_of c) (manner_of c) (answer_of c) shelf out e shelf2 out2
-    → Admits line (command_of line) e × Ends (named_files line) (manner_in (command_of line)) (outcome line) shelf out e shelf2 out2
-command_ends line c shelf out e shelf2 out2 h x = subst (λ o. Admits line o e × Ends (named_by o) (manner_in o) (outcome_by o) shelf out e shelf2 out2) (sym h) (tt, x)
+pub command_ends : (line : List Text) (c : CommandWords) (shelf : Shelved) (out : Seen) (e : Ending) (shelf2 : Shelved) (out2 : Seen) → command_of line ≡ Some c → EndsBy (Some c) shelf out e shelf2 out2
+    → Admits line (command_of line) e × EndsBy (command_of line) shelf out e shelf2 out2
+command_ends line c shelf out e shelf2 out2 h x = subst (λ o. Admits line o e × EndsBy o shelf out e shelf2 out2) (sym h) (tt, x)
 
 -- refused words
-pub usage_ends : (line : List Text) (shelf : Shelved) (out : Seen) → command_of line ≡ None → Admits line (command_of line) ending.Usage × Ends (named_files line) (manner_in (command_of line)) (outcome line) shelf out ending.Usage shelf out
+pub usage_ends : (line : List Text) (shelf : Shelved) (out : Seen) → command_of line ≡ None → Admits line (command_of line) ending.Usage × EndsBy (command_of line) shelf out ending.Usage shelf out
 usage_ends line shelf out h =
-    subst (λ o. Admits line o ending.Usage × Ends (named_by o) (manner_in o) (outcome_by o) shelf out ending.Usage shelf out) (sym h) (inl refl, record { asked = refl; leaves = (refl, refl); comes = λ files t. refl })
+    subst (λ o. Admits line o ending.Usage × EndsBy o shelf out ending.Usage shelf out) (sym h)
+    (inl refl, record { choice = no_choice; chosen = λ files t some. tt; came = record { asked = refl; leaves = (refl, refl); comes = λ files t. refl } })
 
 admits_wanting : (line : List Text) (o : Option CommandWords) → begins_with_verb line ≡ true → Admits line o ending.NoMemory
 admits_wanting line None b = inr (refl, b)
 admits_wanting line (Some c) b = tt
 
 -- words whose reading wanted memory
-pub wanting_ends : (line : List Text) (shelf : Shelved) (out : Seen) → begins_with_verb line ≡ true → Admits line (command_of line) ending.NoMemory × Ends (named_files line) (manner_in (command_of line)) (outcome line) shelf out ending.NoMemory shelf out
+pub wanting_ends : (line : List Text) (shelf : Shelved) (out : Seen) → begins_with_verb line ≡ true → Admits line (command_of line) ending.NoMemory × EndsBy (command_of line) shelf out ending.NoMemory shelf out
 wanting_ends line shelf out b = (
   admits_wanting line (command_of line) b,
   record {
-    asked = record { asked = []; later = named_files line; split = refl; asks = asks_none shelf };
-    leaves = λ h. inl refl;
-    comes = λ files t. nothing_written out.written out.written (text_in (outcome line files)) refl;
+    choice = no_choice;
+    chosen = λ files t some. absurd some;
+    came = record {
+      asked = record { asked = []; later = named_files line; split = refl; asks = asks_none shelf };
+      leaves = λ h. inl refl;
+      comes = λ files t. nothing_written out.written out.written (text_in (outcome no_choice line files)) refl;
+    };
   },
 )

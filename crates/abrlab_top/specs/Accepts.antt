@@ -104,7 +104,7 @@ abbrev pub NearRunsAreAccepted : Type 0
 NearRunsAreAccepted =
     (line line2 : List Text) (files files2 : Files) (i j : InputValues) (old new old2 new2 : World) (e e2 : Ending)
     → PlansPrices line files i → Tells old.shelf files → (run : Runs line old e new) → status_of e ≡ 0
-    → ChecksPrices line2 files2 j (text run.choice line files) → Tells old2.shelf files2 → Runs line2 old2 e2 new2
+    → ChecksPrices line2 files2 j (text run.ends.choice line files) → Tells old2.shelf files2 → Runs line2 old2 e2 new2
     → ReadAlike i j
-    → (claim : PriceParts) × IsPrices claim × (text run.choice line files ≡ prices_text claim)
+    → (claim : PriceParts) × IsPrices claim × (text run.ends.choice line files ≡ prices_text claim)
     × (outcome no_choice line2 files2 ≡ Ok (printed (price_verdict_text claim.score claim.bound said.Yes))) × IsAmong (status_of e2) (0 ∷ 4 ∷ 5 ∷ 9 ∷ [])

@@ -12,7 +12,7 @@ use Rattle.abrlab_top.specs.declared.ending.Ending.TheVariants as ending
 use Rattle.abrlab_top.specs.Answer.{Answer, Outcome, text_in}
 use Rattle.abrlab_top.specs.Choice.{Choice, Chosen}
 use Rattle.abrlab_top.specs.Ending.{IsWhole, Told}
-use Rattle.abrlab_top.specs.Outcome.{manner_in, named_files, outcome}
+use Rattle.abrlab_top.specs.Outcome.{manner_in, named_by, outcome_by}
 use Rattle.abrlab_top.specs.Stages.{Answers, Manner, OutFails}
 
 -- a shelf and two sinks, as they show themselves at a moment
@@ -73,10 +73,14 @@ abbrev pub Admits : List Text → Option CommandWords → Ending → Type 0
 Admits line None e = (e ≡ ending.Usage) ⊎ ((e ≡ ending.NoMemory) × (begins_with_verb line ≡ true))
 Admits line (Some c) e = Unit {0}
 
--- A RUN of these words, from an old world to a new one, that ended so; where the words leave a choice, by what was chosen
+-- how a run ended of words that ask for this, if they ask for a command: where they leave a choice, by what was chosen
+pub record EndsBy (o : Option CommandWords) (shelf : Shelved) (out : Seen) (e : Ending) (shelf2 : Shelved) (out2 : Seen) : Type 0 where
+  pub choice : Choice
+  pub chosen : Chosen o choice shelf e
+  pub came : Ends (named_by o) (manner_in o) (outcome_by choice o) shelf out e shelf2 out2
+
+-- A RUN of these words, from an old world to a new one, that ended so
 pub record Runs (line : List Text) (old : World) (e : Ending) (new : World) : Type 0 where
   pub words : Admits line (command_of line) e
-  pub choice : Choice
-  pub chosen : Chosen (command_of line) choice old.shelf e
-  pub ends : Ends (named_files line) (manner_in (command_of line)) (outcome choice line) old.shelf old.out e new.shelf new.out
+  pub ends : EndsBy (command_of line) old.shelf old.out e new.shelf new.out
   pub err : Told old.err e new.err

@@ -1,6 +1,6 @@
 //! What a command line asks for, by its command.
 
-ghost use Rattle.std.specs.Prelude.{◌≡◌, IfSome, IsSome, None, false, length};
+ghost use Rattle.std.specs.Prelude.{◌≡◌, IfSome, IsSome, None, false, length, true};
 ghost use Rattle.lab_model.specs.Film.{IsWithin};
 ghost use Rattle.lab_words.specs.Command.{view};
 ghost use Rattle.lab_words.specs.Limits.{IsWithinLimits};
@@ -151,14 +151,16 @@ pub(crate) struct CheckWords {
 }
 
 impl Model for CheckWords {
-    ghost use Rattle.std.specs.Prelude.{◌≡◌, IsSome};
+    ghost use Rattle.std.specs.Prelude.{◌≡◌, IsSome, false};
     ghost use Rattle.lab_words.specs.Command.{CommandWords};
 
     ghost Value = { CommandWords };
 
     ghost view = { λ w. w.words };
 
-    ghost invariant = { λ w. IsSome w.words.certificate × (w.gap ≡ w.words.gap) };
+    ghost invariant = { λ w. IsSome w.words.certificate
+        × (w.words.near ≡ false)
+        × (w.gap ≡ w.words.gap) };
 }
 
 impl CheckWords {
@@ -173,6 +175,35 @@ impl CheckWords {
     pub fn into_film_words(self) -> FilmWords
         ensures value { result ≡ self }
         ensures certificate { IsSome self.certificate }
+        ensures by_labels { self.near ≡ false }
+    {
+        self.words
+    }
+}
+
+/// What `check --near` is asked for: a certificate by prices is among its files.
+#[derive(Drop)]
+pub(crate) struct PriceCheckWords {
+    words: FilmWords,
+}
+
+impl Model for PriceCheckWords {
+    ghost use Rattle.std.specs.Prelude.{◌≡◌, IsSome, true};
+    ghost use Rattle.lab_words.specs.Command.{CommandWords};
+
+    ghost Value = { CommandWords };
+
+    ghost view = { λ w. w.words };
+
+    ghost invariant = { λ w. IsSome w.words.certificate × (w.words.near ≡ true) };
+}
+
+impl PriceCheckWords {
+    /// The words, for the files.
+    pub fn into_film_words(self) -> FilmWords
+        ensures value { result ≡ self }
+        ensures certificate { IsSome self.certificate }
+        ensures by_prices { self.near ≡ true }
     {
         self.words
     }
@@ -188,10 +219,21 @@ pub(crate) enum Request {
     Compare(FilmWords),
     /// Rules by how far they stay behind the best.
     Regret(RegretWords),
+    /// Rules by how far they stay behind a bound by prices at most.
+    NearRegret(RegretWords),
     /// The best rung list, or on a grid one with a bound.
     Plan(FilmWords, PlanOptions),
+    /// A rung list with a bound by prices, or its certificate.
+    NearPlan {
+        /// The words, for the files.
+        words: FilmWords,
+        /// Whether the certificate is to be written.
+        as_certificate: bool,
+    },
     /// The verdict on a certificate.
     Check(CheckWords),
+    /// The verdict on a certificate by prices.
+    PriceCheck(PriceCheckWords),
     /// Everything on the made case of this number.
     Demo(u32),
 }
@@ -208,6 +250,60 @@ fn grid_in(time: u32, value: u32) -> Option<Grid>
 }
 
 impl Request {
+    /// What `compare --regret` asks for.
+    fn of_regret(command: Command) -> Request
+        requires limits { IsWithinLimits (view command) }
+        requires verb { command.verb ≡ Verb.Compare }
+        requires regret { command.regret ≡ true }
+        ensures { IsRequest (view command) result }
+    {
+        let (budget, near) = (command.budget, command.near);
+        let words = FilmWords::of(command);
+        let words = RegretWords { words, budget };
+        if near {
+            Request::NearRegret(words)
+        } else {
+            Request::Regret(words)
+        }
+    }
+
+    /// What `plan` asks for.
+    fn of_plan(command: Command) -> Request
+        requires limits { IsWithinLimits (view command) }
+        requires verb { command.verb ≡ Verb.Plan }
+        ensures { IsRequest (view command) result }
+    {
+        let as_certificate = command.as_certificate;
+        if command.near {
+            let words = FilmWords::of(command);
+            return Request::NearPlan {
+                words,
+                as_certificate,
+            };
+        }
+        let options = PlanOptions {
+            grid: grid_in(command.coarse_time, command.coarse_value),
+            budget: command.budget,
+            as_certificate,
+        };
+        Request::Plan(FilmWords::of(command), options)
+    }
+
+    /// What `check` asks for.
+    fn of_check(command: Command) -> Request
+        requires limits { IsWithinLimits (view command) }
+        requires verb { command.verb ≡ Verb.Check }
+        ensures { IsRequest (view command) result }
+    {
+        let gap = command.gap;
+        if command.near {
+            let words = FilmWords::of(command);
+            return Request::PriceCheck(PriceCheckWords { words });
+        }
+        let words = FilmWords::of(command);
+        Request::Check(CheckWords { words, gap })
+    }
+
     /// What a command asks for.
     pub fn of(command: Command) -> Request
         requires { IsWithinLimits (view command) }
@@ -224,26 +320,13 @@ impl Request {
             }
             Verb::Compare => {
                 if command.regret {
-                    let budget = command.budget;
-                    let words = FilmWords::of(command);
-                    Request::Regret(RegretWords { words, budget })
+                    Request::of_regret(command)
                 } else {
                     Request::Compare(FilmWords::of(command))
                 }
             }
-            Verb::Plan => {
-                let options = PlanOptions {
-                    grid: grid_in(command.coarse_time, command.coarse_value),
-                    budget: command.budget,
-                    as_certificate: command.as_certificate,
-                };
-                Request::Plan(FilmWords::of(command), options)
-            }
-            Verb::Check => {
-                let gap = command.gap;
-                let words = FilmWords::of(command);
-                Request::Check(CheckWords { words, gap })
-            }
+            Verb::Plan => Request::of_plan(command),
+            Verb::Check => Request::of_check(command),
             Verb::Demo => Request::Demo(command.number),
         }
     }

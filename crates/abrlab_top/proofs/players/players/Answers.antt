@@ -18,4 +18,4 @@ write_joint_session-requires-clause-keeps g c =
 
 pub returns : goal.returns
 returns g c =
-    about_ends at_the_end play_jointly c.args.words c.in_ok-inputs.inputs _ _ _ _ _ (λ h. cc) (rw c.into_film_words.ensures.value at c.in_ok-inputs.ensures.comes) c.write_joint_session.ensures
+    about_ends at_the_end play_jointly c.args.words c.in_ok-inputs.inputs _ _ _ _ _ (λ r h. cc) (rw c.into_film_words.ensures.value at c.in_ok-inputs.ensures.comes) c.write_joint_session.ensures

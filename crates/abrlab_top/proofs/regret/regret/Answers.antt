@@ -16,4 +16,4 @@ write_regrets-requires-clause-calm g c =
 
 pub returns : goal.returns
 returns g c =
-    about_ends at_the_end (regret c.args.words.budget) c.args.words c.in_ok-inputs.inputs _ _ _ _ _ (λ h. cc) (rw c.into_film_words.ensures.value at c.in_ok-inputs.ensures.comes) (rw c.budget-budget.ensures.value at c.write_regrets.ensures)
+    about_ends at_the_end (regret c.args.words.budget) c.args.words c.in_ok-inputs.inputs _ _ _ _ _ (λ r h. cc) (rw c.into_film_words.ensures.value at c.in_ok-inputs.ensures.comes) (rw c.budget-budget.ensures.value at c.write_regrets.ensures)
