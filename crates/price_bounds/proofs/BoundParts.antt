@@ -17,7 +17,7 @@ use Rattle.price_bounds.specs.Cells.{farthest_delay}
 use Rattle.price_bounds.specs.Greatest.{greatest_of}
 use Rattle.price_bounds.specs.LinkPart.{link_part}
 use Rattle.price_bounds.specs.ListPart.{list_part}
-use Rattle.price_bounds.specs.Tables.{IsBestBelow, most_bound, most_link_worth, most_list_worth}
+use Rattle.price_bounds.specs.Tables.{IsBestBelow, most_bound, most_link_worth, most_list_worth, most_plain_bound}
 use Rattle.price_bounds.specs.Windows.{CanBound, price_unit}
 use Rattle.price_bounds.proofs.Law.{no_list_passes}
 use Rattle.price_bounds.proofs.ListSteps.{below_greatest}
@@ -41,13 +41,13 @@ module _ (g : Task) (ws : List Window) (q : ℕ) where
 
 -- it isn't far from 0, nor is the sum before the link part
 pub parts_near : (utility startup : ℕ) (gain : ℤ) → utility ≤ 1000000000000000000 → startup ≤ 1000000000000000000000000000 → IsNear most_list_worth gain
-    → IsNear 3000000000000000000000000000000 ((pos utility -ℤ pos startup) +ℤ gain)
+    → IsNear most_plain_bound ((pos utility -ℤ pos startup) +ℤ gain)
 parts_near utility startup gain few cost near =
     let low = near.low in
     let high = near.high in
     record { low = omega (arith, ints, low, cost); high = omega (arith, ints, high, few) }
 
-pub bound_near : (parts worth : ℤ) → IsNear 3000000000000000000000000000000 parts → IsNear most_link_worth worth → IsNear most_bound (parts +ℤ worth)
+pub bound_near : (parts worth : ℤ) → IsNear most_plain_bound parts → IsNear most_link_worth worth → IsNear most_bound (parts +ℤ worth)
 bound_near parts worth h k =
     let low = h.low in
     let high = h.high in

@@ -1,13 +1,13 @@
 -- What the verdict on a certificate by prices proves.
 use Rattle.std.proofs.Common.{◌≡◌, ◌∙◌, ℕ, suc, ◌+◌, ◌≤◌, ◌<◌, List, [], ◌∷◌, length, drop, get_or, Bool, true, false, cond, ◌&&◌, refl, sym, ap, subst, arith, add-one}
-use Rattle.std.specs.Prelude.{Option, Some, None, ℤ, ◌<ℤ◌, ◌≤ℤ◌, int_le, nat_le, nat_lt, if◌then◌else◌, ◌==◌}
+use Rattle.std.specs.Prelude.{◌↔◌, Option, Some, None, ℤ, ◌<ℤ◌, ◌≤ℤ◌, int_le, nat_le, nat_lt, if◌then◌else◌, ◌==◌}
 use Rattle.std.specs.List.{All}
 use Rattle.std.proofs.Math.Seq.{drop-cons}
-use Rattle.std.proofs.lemmas.Bool.{and_from, and_parts, cond-false, cond-true, cond_both, eqb-true, le-ltb, leb-true, lt-ltb, ltb-true}
+use Rattle.std.proofs.lemmas.Bool.{and_from, and_parts, cond-false, cond-true, cond_both, eq-eqb, eqb-true, le-ltb, leb-true, lt-ltb, ltb-true}
 use Rattle.std.proofs.lemmas.Int.{by_lt_z, ints}
 use Rattle.std.proofs.Math.Bool.{and-false}
 use Rattle.std.proofs.lemmas.List.{drop_all}
-use Rattle.std.proofs.lemmas.List.Elements.{All-cons, All-nil}
+use Rattle.std.proofs.lemmas.List.Elements.{All-cons, All-head, All-nil, All-tail}
 use Rattle.lab_model.proofs.Orders.{≤ℤ_trans}
 use Rattle.lab_model.specs.Film.{rungs_of, segments_of}
 use Rattle.player_core.specs.Scene.{IsTask, Task}
@@ -17,7 +17,7 @@ use Rattle.price_bounds.specs.declared.verdict.PriceVerdict.{PriceVerdict}
 use Rattle.price_bounds.specs.declared.verdict.PriceVerdict.TheVariants.{BadRung, BadWindow, BoundAbove, OtherFilm, OtherScore, Yes}
 use Rattle.price_bounds.specs.declared.window.Window.{Window}
 use Rattle.price_bounds.specs.Bound.{bound_of}
-use Rattle.price_bounds.specs.Verdict.{PriceParts, bad_rung, bad_window, bound_verdict, comes_after, is_of_film, is_window, of_place, range_verdict, score_verdict, verdict_of}
+use Rattle.price_bounds.specs.Verdict.{AreInOrder, IsValid, PriceParts, bad_rung, bad_window, bound_verdict, comes_after, is_of_film, is_window, of_place, range_verdict, score_verdict, verdict_of}
 use Rattle.price_bounds.specs.Windows.{AreWindows, CanBound, IsWindow, most_price, most_windows}
 use Rattle.price_bounds.proofs.Law.{no_list_passes}
 
@@ -80,6 +80,11 @@ rungs_fit rungs segment (q ∷ qs) found =
     (λ passes h. All-cons (λ r. r < rungs) q qs (ltb-true q rungs passes) (rungs_fit rungs (segment + 1) qs h))
     (λ fails h. absurd (cc h)) found
 
+-- and where all are, none is found
+pub rungs_none : (rungs segment : ℕ) (qs : List ℕ) → All (λ q. q < rungs) qs → bad_rung rungs segment qs ≡ None
+rungs_none rungs segment [] h = refl
+rungs_none rungs segment (q ∷ qs) h = rung_passed rungs segment q qs (All-head (λ r. r < rungs) q qs h) ∙ rungs_none rungs (segment + 1) qs (All-tail (λ r. r < rungs) q qs h)
+
 -- ---- windows
 
 -- a window that passes the test is within the limits
@@ -123,6 +128,10 @@ windows_fit segments first last number (w ∷ ws) found =
     cond_both (is_window segments w && comes_after first last w) (bad_window segments w.first w.last (number + 1) ws) (Some number) (λ o. o ≡ None → AreWindows segments (w ∷ ws))
     (λ passes h. All-cons (IsWindow segments) w ws (window_fits segments w (and_parts (is_window segments w) (comes_after first last w) passes).0) (windows_fit segments w.first w.last (number + 1) ws h))
     (λ fails h. absurd (cc h)) found
+
+-- windows that are not too many are in order exactly where none is found
+pub order_is : (segments : ℕ) (ws : List Window) → length ws ≤ most_windows → (bad_window segments 0 0 0 ws ≡ None) ↔ AreInOrder segments ws
+order_is segments ws few = (λ none. record { range = record { windows = windows_fit segments 0 0 0 ws none; few = few }; order = none }, λ h. h.order)
 
 -- ---- the verdict
 
@@ -214,20 +223,46 @@ module _ (g : Task) (c : PriceParts) where
       (λ passes h. (le_true bound c.bound passes, score_yes h))
       (λ fails h. absurd (cc h))
 
-  -- a yes proves that the list has the score, and that no list has more than the bound
-  pub yes_settles : IsTask g → length c.plan ≡ c.segments → verdict_of g c ≡ Yes → Settles g c.plan c.score c.bound
+  -- a yes is said only where the claims hold
+  pub yes_valid : length c.plan ≡ c.segments → length c.windows ≤ most_windows → verdict_of g c ≡ Yes → IsValid g c
   unfolding verdict_of
-  yes_settles is long =
-      cond_both (is_of_film g c) (range_verdict g c) OtherFilm (λ v. v ≡ Yes → Settles g c.plan c.score c.bound)
+  yes_valid long few =
+      cond_both (is_of_film g c) (range_verdict g c) OtherFilm (λ v. v ≡ Yes → IsValid g c)
       (λ same h.
       let counts = and_parts (c.segments == segments_of g.film) (c.rungs == rungs_of g.film) same in
+      let segments = eqb-true _ _ counts.0 in
       let rungs = of_rest BadRung (bad_rung (rungs_of g.film) 0 c.plan) (of_place BadWindow (bad_window (segments_of g.film) 0 0 0 c.windows) (bound_verdict g c)) (λ k e. cc e) h in
       let windows = of_rest BadWindow (bad_window (segments_of g.film) 0 0 0 c.windows) (bound_verdict g c) (λ k e. cc e) rungs.1 in
       let parts = bound_yes windows.1 in
       record {
-        list = (long ∙ eqb-true _ _ counts.0, rungs_fit (rungs_of g.film) 0 c.plan rungs.0);
-        value = parts.1;
-        most = λ others fits. ≤ℤ_trans (task_value g others) (bound_of g c.windows) c.bound
-            (no_list_passes g is c.windows (windows_fit (segments_of g.film) 0 0 0 c.windows windows.0) others fits) parts.0;
+        segments = segments;
+        rungs = eqb-true _ _ counts.1;
+        list = (long ∙ segments, rungs_fit (rungs_of g.film) 0 c.plan rungs.0);
+        windows = record { range = record { windows = windows_fit (segments_of g.film) 0 0 0 c.windows windows.0; few = few }; order = windows.0 };
+        bound = parts.0;
+        score = parts.1;
       })
       (λ fails h. absurd (cc h))
+
+  -- and wherever they hold
+  pub valid_yes : IsValid g c → verdict_of g c ≡ Yes
+  valid_yes h =
+      let film = and_from (c.segments == segments_of g.film) (c.rungs == rungs_of g.film) (eq-eqb _ _ h.segments) (eq-eqb _ _ h.rungs) in
+      let score = score_is (task_value g c.plan) refl h.score in
+      let bound = bound_passed (bound_of g c.windows) Yes refl h.bound score in
+      let rungs = subst (λ n. None ≡ bad_rung n 0 c.plan) (sym h.rungs) (sym (rungs_none (rungs_of g.film) 0 c.plan h.list.1)) in
+      let windows = subst (λ n. None ≡ bad_window n 0 0 0 c.windows) (sym h.segments) (sym h.windows.order) in
+      sym (range_passed Yes film rungs windows bound)
+
+  -- then the list has the score, and no list has more than the bound
+  pub valid_settles : IsTask g → IsValid g c → Settles g c.plan c.score c.bound
+  valid_settles is h = record {
+    list = h.list;
+    value = h.score;
+    most = λ others fits. ≤ℤ_trans (task_value g others) (bound_of g c.windows) c.bound (no_list_passes g is c.windows h.windows.range.windows others fits) h.bound;
+  }
+
+  -- what a check says
+  pub said : IsTask g → length c.plan ≡ c.segments → length c.windows ≤ most_windows → (v : PriceVerdict) → v ≡ verdict_of g c → ((v ≡ Yes) ↔ IsValid g c) × (v ≡ Yes → Settles g c.plan c.score c.bound)
+  said is long few v e =
+      (((λ h. yes_valid long few (sym e ∙ h)), (λ h. e ∙ valid_yes h)), λ h. valid_settles is (yes_valid long few (sym e ∙ h)))

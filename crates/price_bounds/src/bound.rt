@@ -9,7 +9,7 @@ ghost use Rattle.lab_model.specs.Number.{IsNear};
 ghost use Rattle.player_core.specs.Scene.{IsTask};
 ghost use Rattle.price_bounds.specs.Bound.{bound_of, bound_on, rounded_up};
 ghost use Rattle.price_bounds.specs.ListPart.{list_part};
-ghost use Rattle.price_bounds.specs.Tables.{most_list_worth, most_bound};
+ghost use Rattle.price_bounds.specs.Tables.{most_bound, most_list_worth, most_plain_bound};
 ghost use Rattle.price_bounds.specs.Windows.{CanBound};
 
 use crate::counts::{rungs, segments};
@@ -39,6 +39,7 @@ fn bound_on(
     requires near { IsNear most_list_worth gain }
     ensures value { IfOk result (λ v. v ≡ bound_on scene.now windows.now rung) }
     ensures near { IfOk result (IsNear most_bound) }
+    ensures plain { IfOk result (λ v. windows.now ≡ [] → v ≤ℤ pos most_plain_bound) }
 {
     prove!(segments(scene) > 0);
     let weights = &scene.setup().weights;
@@ -75,7 +76,7 @@ pub fn bound_of_windows(
         → task_value scene.now rungs ≤ℤ b) }
     // It isn't too low to be spelled in a certificate, and without windows not too high.
     ensures low { IfOk result (λ b. (pos 0 -ℤ pos (10 ^ score_digits)) <ℤ b) }
-    ensures none { windows.now ≡ [] → IfOk result (λ b. b <ℤ pos (10 ^ score_digits)) }
+    ensures plain { IfOk result (λ b. windows.now ≡ [] → b <ℤ pos (10 ^ score_digits)) }
     ensures task { IsTask scene.now }
 {
     let count = rungs(scene);

@@ -1,45 +1,47 @@
 //! Bounds, with answers from outside.
 
-use crate::{PriceCertificate, PriceVerdict, Window, bound_of_windows, check_prices};
 use lab_model::{Manifest, Period, Setup, Trace, Weights};
 use network_clock::Clock;
 use player_core::Scene;
+use price_bounds::{
+    PriceCertificate, PriceVerdict, Window, are_in_order, bound_of_windows, check_prices,
+};
 use std::alloc::Global;
 use std::process::Abort;
 use std::test::Fail;
 
-/// The bounds of the small films, by number.
-const BOUNDS: [i128; 30] = [
-    10000,
-    49307,
-    286430406111266,
-    223898473120242,
-    10000,
-    213140871656872,
-    276054655093630,
-    508490,
-    10000,
-    36564830077893,
-    -8331,
-    459231649376752,
-    10000,
-    204677,
-    433998694985390,
-    372393525527907,
-    10000,
-    62201,
-    134163956896808,
-    646817,
-    10000,
-    205340255837829,
-    329420,
-    640653079188900,
-    10000,
-    51422,
-    306806551037427,
-    241937109933126,
-    10000,
-    181438180935351,
+/// The bounds of the small films, by number, and the greatest values of their lists.
+const BOUNDS: [(i128, i128); 30] = [
+    (10_000, 10_000),
+    (49_307, 33_658),
+    (286_430_406_111_266, 4860),
+    (223_898_473_120_242, 58_140),
+    (10_000, 10_000),
+    (213_140_871_656_872, 34_150),
+    (276_054_655_093_630, 11_010),
+    (508_490, 43_220),
+    (10_000, 10_000),
+    (36_564_830_077_893, 57_372),
+    (-8331, -87_070),
+    (459_231_649_376_752, 45_682),
+    (10_000, 10_000),
+    (204_677, 33_612),
+    (433_998_694_985_390, 12_600),
+    (372_393_525_527_907, 58_233),
+    (10_000, 10_000),
+    (62_201, 33_913),
+    (134_163_956_896_808, 20_000),
+    (646_817, 215_914),
+    (10_000, 10_000),
+    (205_340_255_837_829, 28_235),
+    (329_420, 19_860),
+    (640_653_079_188_900, 83_134),
+    (10_000, 10_000),
+    (51_422, 47_971),
+    (306_806_551_037_427, 23_400),
+    (241_937_109_933_126, 74_436),
+    (10_000, 10_000),
+    (181_438_180_935_351, 73_535),
 ];
 
 /// The film of a number: 1 to 4 segments, 2 or 3 rungs.
@@ -118,23 +120,81 @@ fn windows(alloc: Global, k: u32) -> Result<Vec<Window>, Fail> {
     Ok(windows)
 }
 
+/// The scene of a number: on demand, or live with little media ahead.
+fn ahead(k: u32) -> u32
+    ensures { result ≤ 120000000 }
+{
+    if k % 4 < 2 { 120_000_000 } else { 300 * (k % 9) }
+}
+
 #[test]
 fn small_films(rt: HostRuntime) -> Result<(), Fail> {
     let alloc = rt.alloc();
     for k in 0..30u32 {
         let (m, clock, set) = (film(alloc, k)?, clock(alloc, k)?, setup(alloc, k)?);
         assert!(rt; set.fits(&m));
-        let ahead = if k % 4 < 2 {
-            120_000_000
-        } else {
-            300 * (k % 9)
-        };
-        let scene = Scene::new(&m, &clock, &set, ahead);
+        let scene = Scene::new(&m, &clock, &set, ahead(k));
         let windows = windows(alloc, k)?;
-        assert_eq!(rt;
-            bound_of_windows(alloc, &scene, &windows)?,
-            BOUNDS[k as usize]
-        );
+        assert!(rt; are_in_order(&windows, m.segments()));
+        let bound = bound_of_windows(alloc, &scene, &windows)?;
+        assert_eq!(rt; bound, BOUNDS[k as usize].0);
+    }
+    Ok(())
+}
+
+/// The rung list of a number: its digits, from the first segment on.
+fn list(alloc: Global, number: u32, rungs: u8, segments: u16) -> Result<Vec<u8>, Fail>
+    requires { 1 ≤ rungs }
+{
+    let mut rest = number;
+    let mut plan = Vec::new(alloc);
+    for _ in 0..segments {
+        plan.push((rest % rungs as u32) as u8)?;
+        rest /= rungs as u32;
+    }
+    Ok(plan)
+}
+
+/// The score that a check of a list by its own bound gives, where the certificate says another.
+fn score(
+    rt: &impl Abort,
+    alloc: Global,
+    scene: &Scene<'_>,
+    k: u32,
+    plan: Vec<u8>,
+) -> Result<i128, Fail>
+    requires { k < 30 }
+{
+    let windows = windows(alloc, k)?;
+    let certificate = PriceCertificate {
+        segments: scene.film().segments(),
+        rungs: scene.film().rungs(),
+        score: i128::MAX,
+        bound: BOUNDS[k as usize].0,
+        plan,
+        windows,
+    };
+    assert!(rt; certificate.plan.len() == certificate.segments as usize);
+    assert!(rt; certificate.windows.len() <= 4000);
+    match check_prices(alloc, scene, &certificate)? {
+        PriceVerdict::OtherScore { score } => Ok(score),
+        _ => Err("another verdict")?,
+    }
+}
+
+#[test]
+fn all_lists(rt: HostRuntime) -> Result<(), Fail> {
+    let alloc = rt.alloc();
+    for k in 0..30u32 {
+        let (m, clock, set) = (film(alloc, k)?, clock(alloc, k)?, setup(alloc, k)?);
+        assert!(rt; set.fits(&m));
+        let scene = Scene::new(&m, &clock, &set, ahead(k));
+        let mut best = i128::MIN;
+        for number in 0..81 {
+            let plan = list(alloc, number, m.rungs(), m.segments())?;
+            best = best.max(score(&rt, alloc, &scene, k, plan)?);
+        }
+        assert_eq!(rt; best, BOUNDS[k as usize].1);
     }
     Ok(())
 }
@@ -182,6 +242,7 @@ fn by_hand(rt: HostRuntime) -> Result<(), Fail> {
                 price,
             })?;
         }
+        assert!(rt; are_in_order(&windows, 2));
         assert_eq!(rt; bound_of_windows(alloc, &scene, &windows)?, bound);
     }
     Ok(())
@@ -220,6 +281,7 @@ fn greatest_prices(rt: HostRuntime) -> Result<(), Fail> {
         }
     }
     let scene = Scene::on_demand(&m, &clock, &set);
+    assert!(rt; are_in_order(&windows, 90));
     let bound = bound_of_windows(alloc, &scene, &windows)?;
     assert_eq!(rt; bound, 20_587_381_668_018_809_274_408_000_000);
     Ok(())
@@ -344,5 +406,67 @@ fn verdicts(rt: HostRuntime) -> Result<(), Fail> {
         assert!(rt; claim.segments == 4 && certificate.windows.len() == 2);
         assert_eq!(rt; check_prices(alloc, &scene, &certificate)?, claim.verdict);
     }
+    Ok(())
+}
+
+/// 2000 segments on 16 rungs.
+fn long_film(alloc: Global) -> Result<Manifest, Fail> {
+    let mut bitrates = Vec::new(alloc);
+    for q in 0..16u32 {
+        bitrates.push(300 * (q + 1))?;
+    }
+    let mut sizes = Vec::new(alloc);
+    for i in 0..2000u32 {
+        for q in 0..16u32 {
+            sizes.push(600_000 * (q + 1) + (i * 7919 + q * 50_021) % 100_000)?;
+        }
+    }
+    Ok(Manifest::from_parts(2000, bitrates, sizes).ok_or("not a film")?)
+}
+
+/// 99 windows of 20 segments each.
+fn long_windows(alloc: Global) -> Result<Vec<Window>, Fail> {
+    let mut windows = Vec::new(alloc);
+    for number in 0..99u16 {
+        windows.push(Window {
+            first: 1 + 20 * number,
+            last: 20 + 20 * number,
+            price: 33_000 + 100 * (number % 7) as u64,
+        })?;
+    }
+    Ok(windows)
+}
+
+#[test]
+fn long_films(rt: HostRuntime) -> Result<(), Fail> {
+    let alloc = rt.alloc();
+    let m = long_film(alloc)?;
+    let mut utilities = Vec::new(alloc);
+    for q in 0..16u32 {
+        utilities.push(20 * q)?;
+    }
+    let periods = vec![in alloc;
+        Period {
+            duration_ms: 8000,
+            bandwidth: 2_500_000,
+            latency: 0
+        },
+        Period {
+            duration_ms: 4000,
+            bandwidth: 900_000,
+            latency: 30
+        },
+    ]?;
+    let clock = Clock::new(alloc, &Trace::from_parts(periods).ok_or("not a trace")?)?;
+    let set = Setup {
+        buffer_ms: 20_000,
+        weights: Weights::from_parts(utilities, 1, 1000, 1).ok_or("no weights")?,
+        abandon: false,
+    };
+    assert!(rt; set.fits(&m) && m.segments() == 2000);
+    let scene = Scene::on_demand(&m, &clock, &set);
+    let windows = long_windows(alloc)?;
+    assert!(rt; are_in_order(&windows, 2000));
+    assert_eq!(rt; bound_of_windows(alloc, &scene, &windows)?, 328_525_056);
     Ok(())
 }
