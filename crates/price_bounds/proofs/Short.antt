@@ -20,7 +20,7 @@ use Rattle.price_bounds.specs.Bound.{bound_of, rounded_up}
 use Rattle.price_bounds.specs.Cells.{least_delay}
 use Rattle.price_bounds.specs.Greatest.{greatest_of}
 use Rattle.price_bounds.specs.LinkPart.{cell_in, link_gain, link_part, rising_cells}
-use Rattle.price_bounds.specs.Tables.{most_plain_bound}
+use Rattle.price_bounds.specs.Tables.{most_list_worth, most_plain_bound, most_start_worth}
 use Rattle.price_bounds.specs.Windows.{AreWindows, price_unit}
 use Rattle.price_bounds.proofs.Greatest.{greatest_reached}
 use Rattle.price_bounds.proofs.Law.{no_list_passes}
@@ -74,8 +74,8 @@ unfolding link_part
 link_none g first = at_most (link_gain g [] first) (pos 0) (rising_cells (segments_of g.film) first) (omega (arith, ints)) (λ cells. gains_none g first cells)
 
 -- so the bound on a first rung isn't far above 0
-pub plain_low : (parts worth : ℤ) → IsNear most_plain_bound parts → worth ≤ℤ pos 0 → (parts +ℤ worth) ≤ℤ pos most_plain_bound
-plain_low parts worth near none = let high = near.high in omega (arith, ints, high, none)
+pub plain_low : (start gain worth : ℤ) → IsNear most_start_worth start → IsNear most_list_worth gain → worth ≤ℤ pos 0 → ((start +ℤ gain) +ℤ worth) ≤ℤ pos most_plain_bound
+plain_low start gain worth near far none = let high = near.high in let most = far.high in omega (arith, ints, high, most, none)
 
 -- nor is it when it is rounded up
 pub plain_short : (z : ℤ) → z ≤ℤ pos most_plain_bound → rounded_up z <ℤ pos (10 ^ score_digits)

@@ -59,6 +59,10 @@ pub record AreLosses (g : Task) (first : ℕ) (losses : List ℤ) : Type 0 where
   pub count : length losses ≡ cells_of first
   pub each : (c : ℕ) → c < cells_of first → slice_index_or losses c (pos 0) ≡ pos 0 -ℤ pos (stall_cost g first c)
 
+-- what a first rung and its startup come to lies no farther from 0
+abbrev pub most_start_worth : ℕ
+most_start_worth = 1000000000000000000000000000
+
 -- no list part lies farther from 0
 abbrev pub most_list_worth : ℕ
 most_list_worth = 2000000000000000000000000000000

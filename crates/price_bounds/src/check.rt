@@ -132,6 +132,29 @@ fn bound_verdict(
     Ok(score_verdict(scene, certificate))
 }
 
+/// P1 to P4 in their order.
+fn verdict_on(
+    alloc: Global,
+    scene: &Scene<'_>,
+    certificate: &PriceCertificate,
+) -> Result<PriceVerdict, NoMemory>
+    requires plan { length certificate.now.plan.items ≡ certificate.now.segments }
+    requires windows { length certificate.now.windows.items ≤ most_windows }
+    ensures verdict { IfOk result (λ v. v ≡ verdict_of scene.now (price_parts certificate.now)) }
+    ensures task { IsTask scene.now }
+{
+    if !is_of_film(scene, certificate) {
+        return Ok(PriceVerdict::OtherFilm);
+    }
+    if let Some(segment) = bad_rung(&certificate.plan, certificate.rungs) {
+        return Ok(PriceVerdict::BadRung { segment });
+    }
+    if let Some(window) = bad_window(&certificate.windows, certificate.segments) {
+        return Ok(PriceVerdict::BadWindow { window });
+    }
+    bound_verdict(alloc, scene, certificate)
+}
+
 /// The verdict on a certificate whose list has a rung for each of its segments, and which has at most 4000 windows.
 pub fn check_prices(
     alloc: Global,
@@ -147,14 +170,5 @@ pub fn check_prices(
     ensures sound { IfOk result (λ v. v ≡ Yes →
         Settles scene.now certificate.now.plan.items certificate.now.score certificate.now.bound) }
 {
-    if !is_of_film(scene, certificate) {
-        return Ok(PriceVerdict::OtherFilm);
-    }
-    if let Some(segment) = bad_rung(&certificate.plan, certificate.rungs) {
-        return Ok(PriceVerdict::BadRung { segment });
-    }
-    if let Some(window) = bad_window(&certificate.windows, certificate.segments) {
-        return Ok(PriceVerdict::BadWindow { window });
-    }
-    bound_verdict(alloc, scene, certificate)
+    verdict_on(alloc, scene, certificate)
 }
