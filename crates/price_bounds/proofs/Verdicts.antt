@@ -174,40 +174,40 @@ module _ (g : Task) (c : PriceParts) where
   unfolding verdict_of
   film_passed h = sym (cond-true (is_of_film g c) (range_verdict g c) OtherFilm h)
 
+  -- the counts are then the film's
+  same_segments : is_of_film g c ≡ true → c.segments ≡ segments_of g.film
+  same_segments h = eqb-true _ _ (and_parts (c.segments == segments_of g.film) (c.rungs == rungs_of g.film) h).0
+
+  same_rungs : is_of_film g c ≡ true → c.rungs ≡ rungs_of g.film
+  same_rungs h = eqb-true _ _ (and_parts (c.segments == segments_of g.film) (c.rungs == rungs_of g.film) h).1
+
   -- P2: a rung isn't the film's
   pub rung_verdict : (k : ℕ) → is_of_film g c ≡ true → Some k ≡ bad_rung c.rungs 0 c.plan → BadRung k ≡ verdict_of g c
   rung_verdict k h found =
-      let counts = and_parts (c.segments == segments_of g.film) (c.rungs == rungs_of g.film) h in
-      ap (λ o. of_place BadRung o (of_place BadWindow (bad_window (segments_of g.film) 0 0 0 c.windows) (bound_verdict g c))) (found ∙ ap (λ n. bad_rung n 0 c.plan) (eqb-true _ _ counts.1))
+      ap (λ o. of_place BadRung o (of_place BadWindow (bad_window (segments_of g.film) 0 0 0 c.windows) (bound_verdict g c))) (found ∙ ap (λ n. bad_rung n 0 c.plan) (same_rungs h))
       ∙ film_passed h
 
   -- or a window is out of range or order
   pub window_verdict : (k : ℕ) → is_of_film g c ≡ true → None ≡ bad_rung c.rungs 0 c.plan → Some k ≡ bad_window c.segments 0 0 0 c.windows → BadWindow k ≡ verdict_of g c
   window_verdict k h none found =
-      let counts = and_parts (c.segments == segments_of g.film) (c.rungs == rungs_of g.film) h in
-      ap (λ o. of_place BadWindow o (bound_verdict g c)) (found ∙ ap (λ n. bad_window n 0 0 0 c.windows) (eqb-true _ _ counts.0))
-      ∙ ap (λ o. of_place BadRung o (of_place BadWindow (bad_window (segments_of g.film) 0 0 0 c.windows) (bound_verdict g c))) (none ∙ ap (λ n. bad_rung n 0 c.plan) (eqb-true _ _ counts.1))
+      ap (λ o. of_place BadWindow o (bound_verdict g c)) (found ∙ ap (λ n. bad_window n 0 0 0 c.windows) (same_segments h))
+      ∙ ap (λ o. of_place BadRung o (of_place BadWindow (bad_window (segments_of g.film) 0 0 0 c.windows) (bound_verdict g c))) (none ∙ ap (λ n. bad_rung n 0 c.plan) (same_rungs h))
       ∙ film_passed h
 
   -- behind P2 the verdict is that of bound and score
   pub range_passed : (rest : PriceVerdict) → is_of_film g c ≡ true → None ≡ bad_rung c.rungs 0 c.plan → None ≡ bad_window c.segments 0 0 0 c.windows → rest ≡ bound_verdict g c → rest ≡ verdict_of g c
   range_passed rest h none all e =
-      let counts = and_parts (c.segments == segments_of g.film) (c.rungs == rungs_of g.film) h in
-      e ∙ ap (λ o. of_place BadWindow o (bound_verdict g c)) (all ∙ ap (λ n. bad_window n 0 0 0 c.windows) (eqb-true _ _ counts.0))
-      ∙ ap (λ o. of_place BadRung o (of_place BadWindow (bad_window (segments_of g.film) 0 0 0 c.windows) (bound_verdict g c))) (none ∙ ap (λ n. bad_rung n 0 c.plan) (eqb-true _ _ counts.1))
+      e ∙ ap (λ o. of_place BadWindow o (bound_verdict g c)) (all ∙ ap (λ n. bad_window n 0 0 0 c.windows) (same_segments h))
+      ∙ ap (λ o. of_place BadRung o (of_place BadWindow (bad_window (segments_of g.film) 0 0 0 c.windows) (bound_verdict g c))) (none ∙ ap (λ n. bad_rung n 0 c.plan) (same_rungs h))
       ∙ film_passed h
 
   -- the list is then a rung list
   pub rungs_passed : is_of_film g c ≡ true → length c.plan ≡ c.segments → None ≡ bad_rung c.rungs 0 c.plan → AreRungs g (segments_of g.film) c.plan
-  rungs_passed h long none =
-      let counts = and_parts (c.segments == segments_of g.film) (c.rungs == rungs_of g.film) h in
-      (long ∙ eqb-true _ _ counts.0, subst (λ n. All (λ q. q < n) c.plan) (eqb-true _ _ counts.1) (rungs_fit c.rungs 0 c.plan (sym none)))
+  rungs_passed h long none = (long ∙ same_segments h, subst (λ n. All (λ q. q < n) c.plan) (same_rungs h) (rungs_fit c.rungs 0 c.plan (sym none)))
 
   -- and the windows are in range
   pub windows_passed : is_of_film g c ≡ true → length c.windows ≤ most_windows → None ≡ bad_window c.segments 0 0 0 c.windows → CanBound (segments_of g.film) c.windows
-  windows_passed h few all =
-      let counts = and_parts (c.segments == segments_of g.film) (c.rungs == rungs_of g.film) h in
-      record { windows = subst (λ n. AreWindows n c.windows) (eqb-true _ _ counts.0) (windows_fit c.segments 0 0 0 c.windows (sym all)); few = few }
+  windows_passed h few all = record { windows = subst (λ n. AreWindows n c.windows) (same_segments h) (windows_fit c.segments 0 0 0 c.windows (sym all)); few = few }
 
   score_yes : score_verdict g c ≡ Yes → task_value g c.plan ≡ c.score
   score_yes =
@@ -262,7 +262,7 @@ module _ (g : Task) (c : PriceParts) where
     most = λ others fits. ≤ℤ_trans (task_value g others) (bound_of g c.windows) c.bound (no_list_passes g is c.windows h.windows.range.windows others fits) h.bound;
   }
 
-  -- what a check says
+  -- what is said of a certificate, that is so
   pub said : IsTask g → length c.plan ≡ c.segments → length c.windows ≤ most_windows → (v : PriceVerdict) → v ≡ verdict_of g c → ((v ≡ Yes) ↔ IsValid g c) × (v ≡ Yes → Settles g c.plan c.score c.bound)
   said is long few v e =
       (((λ h. yes_valid long few (sym e ∙ h)), (λ h. e ∙ valid_yes h)), λ h. valid_settles is (yes_valid long few (sym e ∙ h)))

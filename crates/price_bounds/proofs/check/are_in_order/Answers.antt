@@ -1,4 +1,0 @@
-use Rattle.price_bounds.proofs.check.are_in_order.Goals as goal
-
-pub returns : goal.returns
-returns c = ?
