@@ -1,7 +1,8 @@
 -- What the verdict on a certificate by prices proves.
-use Rattle.std.proofs.Common.{◌≡◌, ◌∙◌, ℕ, suc, ◌+◌, ◌≤◌, ◌<◌, List, [], ◌∷◌, length, drop, get_or, Bool, true, false, cond, ◌&&◌, refl, sym, ap, subst, arith, add-one}
-use Rattle.std.specs.Prelude.{◌↔◌, Option, Some, None, ℤ, ◌<ℤ◌, ◌≤ℤ◌, int_le, nat_le, nat_lt, if◌then◌else◌, ◌==◌}
+use Rattle.std.proofs.Common.{◌≡◌, ◌∙◌, ℕ, suc, ◌+◌, ◌≤◌, ◌<◌, List, [], ◌∷◌, length, drop, get_or, Bool, true, false, cond, not, ◌&&◌, refl, sym, ap, subst, arith, add-one}
+use Rattle.std.specs.Prelude.{◌↔◌, IsTrue, Option, Some, None, ℤ, ◌<ℤ◌, ◌≤ℤ◌, int_le, nat_le, nat_lt, if◌then◌else◌, ◌==◌}
 use Rattle.std.specs.List.{All}
+use Rattle.std.specs.Option.{is_some}
 use Rattle.std.proofs.Math.Seq.{drop-cons}
 use Rattle.std.proofs.lemmas.Bool.{and_from, and_parts, cond-false, cond-true, cond_both, eq-eqb, eqb-true, le-ltb, leb-true, lt-ltb, ltb-true}
 use Rattle.std.proofs.lemmas.Int.{by_lt_z, ints}
@@ -132,6 +133,13 @@ windows_fit segments first last number (w ∷ ws) found =
 -- windows that are not too many are in order exactly where none is found
 pub order_is : (segments : ℕ) (ws : List Window) → length ws ≤ most_windows → (bad_window segments 0 0 0 ws ≡ None) ↔ AreInOrder segments ws
 order_is segments ws few = (λ none. record { range = record { windows = windows_fit segments 0 0 0 ws none; few = few }; order = none }, λ h. h.order)
+
+-- the test for it
+pub order_test : (segments : ℕ) (ws : List Window) (found : Option ℕ) (b : Bool) → length ws ≤ most_windows → found ≡ bad_window segments 0 0 0 ws → is_some found ≡ not b → IsTrue b ↔ AreInOrder segments ws
+order_test segments ws None true few e h = (λ t. (order_is segments ws few).0 (sym e), λ order. refl)
+order_test segments ws None false few e h = absurd (cc h)
+order_test segments ws (Some k) true few e h = absurd (cc h)
+order_test segments ws (Some k) false few e h = (λ t. absurd (cc t), λ order. absurd (cc (e, order.order)))
 
 -- ---- the verdict
 

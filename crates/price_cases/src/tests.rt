@@ -124,7 +124,11 @@ fn windows(alloc: Global, k: u32) -> Result<Vec<Window>, Fail> {
 fn ahead(k: u32) -> u32
     ensures { result ≤ 120000000 }
 {
-    if k % 4 < 2 { 120_000_000 } else { 300 * (k % 9) }
+    if k % 4 < 2 {
+        120_000_000
+    } else {
+        300 * (k % 9)
+    }
 }
 
 #[test]
