@@ -13,6 +13,7 @@ use Rattle.lab_model.specs.declared.fault.InputFault.{InputFault}
 use Rattle.lab_model.specs.declared.fault.InputFault.TheVariants.{Memory, Refused}
 use Rattle.lab_model.specs.declared.trace.Period.{Period}
 use Rattle.lab_model.specs.Reading.{Fails}
+use Rattle.lab_inputs.specs.declared.role.Role.TheVariants as role
 use Rattle.lab_inputs.specs.declared.stop.Stop.{Stop}
 use Rattle.lab_inputs.specs.Inputs.{InputValues}
 use Rattle.lab_inputs.specs.Settings.{misfit, settled}
@@ -110,7 +111,7 @@ unfolding check
 no_network gap i e = ap (check_on gap i) e
 
 -- a bad line of the certificate comes first
-pub bad_judged : (gap : Bool) (i : InputValues) (n : Text × List Period) (f : InputFault) → slice_get i.networks 0 ≡ Some n → Fails f (claim_of gap i.certificate) → Judges gap i (Err (bad_line f))
+pub bad_judged : (gap : Bool) (i : InputValues) (n : Text × List Period) (f : InputFault) → slice_get i.networks 0 ≡ Some n → Fails f (claim_of gap i.certificate) → Judges gap i (Err (bad_line role.Certificate f))
 unfolding check
 bad_judged gap i n Memory e h = tt
 bad_judged gap i n (Refused why) e h = ((refl, why, refl), rw (e, h) refl)

@@ -16,6 +16,7 @@ pub mod Request
 pub mod Stages
 pub mod Outcome
 pub mod Runs
+pub mod Chosen
 pub mod Proves
 pub mod Statuses
 pub mod Accepts

@@ -87,10 +87,10 @@ pub record WritesRows (old : Seen) (said : Text) (r : Result (Unit {0}) PutErr) 
 
 -- ---- checks
 
--- how a fault of a certificate ends the command
-abbrev pub bad_line : InputFault → Ending
-bad_line Memory = ending.NoMemory
-bad_line (Refused why) = ending.Stopped (stop.File role.Certificate (fault.Refused why))
+-- how a fault of a certificate of this role ends the command
+abbrev pub bad_line : Role → InputFault → Ending
+bad_line r Memory = ending.NoMemory
+bad_line r (Refused why) = ending.Stopped (stop.File r (fault.Refused why))
 
 -- the answer that says a judgement on a certificate, plain or with a gap
 abbrev pub judged : Bool → Judgement → Answer

@@ -40,15 +40,13 @@ pub(crate) struct Judgement {
     pub verdict: Verdict,
 }
 
-/// How a fault of the certificate ends the command.
-fn bad_line(fault: InputFault) -> Ending
-    ensures { result ≡ bad_line fault }
+/// How a fault of a certificate of this role ends the command.
+pub(crate) fn bad_line(role: Role, fault: InputFault) -> Ending
+    ensures { result ≡ bad_line role fault }
 {
     match fault {
         InputFault::Memory => Ending::NoMemory,
-        InputFault::Refused(why) => {
-            Ending::Stopped(Stop::File(Role::Certificate, FileFault::Refused(why)))
-        }
+        InputFault::Refused(why) => Ending::Stopped(Stop::File(role, FileFault::Refused(why))),
     }
 }
 
@@ -89,7 +87,7 @@ fn judge_lines(
             bound,
             verdict,
         }),
-        Err(fault) => Err(bad_line(fault)),
+        Err(fault) => Err(bad_line(Role::Certificate, fault)),
     }
 }
 
@@ -102,7 +100,7 @@ fn misfit_behind(gap: bool, lines: Lines<'_>, why: Stop) -> Ending
 {
     match lines.read_rest() {
         Ok(()) => Ending::Stopped(why),
-        Err(fault) => bad_line(fault),
+        Err(fault) => bad_line(Role::Certificate, fault),
     }
 }
 
@@ -113,7 +111,7 @@ fn judge(alloc: Global, inputs: &Inputs, network: &Network, gap: bool) -> Result
 {
     let lines = match begin(alloc, gap, inputs.certificate()) {
         Ok(lines) => lines,
-        Err(fault) => return Err(bad_line(fault)),
+        Err(fault) => return Err(bad_line(Role::Certificate, fault)),
     };
     match inputs.fit() {
         Ok(()) => judge_lines(alloc, inputs, network, gap, lines),

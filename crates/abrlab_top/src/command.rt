@@ -1,21 +1,20 @@
 //! The command that the words ask for, and what became of it.
 
-ghost use Rattle.std.specs.Prelude.{◌≡◌, map, string_bytes};
+ghost use Rattle.std.specs.Prelude.{◌≡◌, Some, map, string_bytes};
 ghost use Rattle.lab_words.specs.Command.{view};
 ghost use Rattle.lab_words.specs.Limits.{IsWithinLimits};
 ghost use Rattle.lab_words.specs.Words.{command_of};
-ghost use Rattle.lab_inputs.specs.Roles.{files_of};
 ghost use Rattle.abrlab_top.specs.Ending.{ended};
-ghost use Rattle.abrlab_top.specs.Outcome.{answer_of, manner_in, manner_of, named_files, outcome};
-ghost use Rattle.abrlab_top.specs.Runs.{Admits, Ends};
+ghost use Rattle.abrlab_top.specs.Runs.{Admits, EndsBy};
 
 use crate::check::check;
 use crate::compare::compare;
 use crate::demo::demo;
 use crate::ending::Ending;
+use crate::near::{near_plan, price_check};
 use crate::plan::plan;
 use crate::players::players;
-use crate::regret::regret;
+use crate::regret::{near_regret, regret};
 use crate::request::Request;
 use crate::simulate::simulate;
 use lab_io::{Shelf, Sink};
@@ -30,7 +29,7 @@ fn answer_command<F: Shelf, O: Sink>(
     out: &mut O,
 ) -> Result<(), Ending>
     requires limits { IsWithinLimits (view command) }
-    ensures { Ends (files_of (view command)) (manner_of (view command)) (answer_of (view command))
+    ensures { EndsBy (Some (view command))
         (F.shelved shelf.old) (O.seen out.old) (ended result)
         (F.shelved shelf.new) (O.seen out.new) }
 {
@@ -39,8 +38,14 @@ fn answer_command<F: Shelf, O: Sink>(
         Request::Players(words) => players(alloc, words, shelf, out),
         Request::Compare(words) => compare(alloc, words, shelf, out),
         Request::Regret(words) => regret(alloc, words, shelf, out),
+        Request::NearRegret(words) => near_regret(alloc, words, shelf, out),
         Request::Plan(words, options) => plan(alloc, words, options, shelf, out),
+        Request::NearPlan {
+            words,
+            as_certificate,
+        } => near_plan(alloc, words, as_certificate, shelf, out),
         Request::Check(words) => check(alloc, words, shelf, out),
+        Request::PriceCheck(words) => price_check(alloc, words, shelf, out),
         Request::Demo(number) => demo(alloc, number, out),
     }
 }
@@ -64,8 +69,7 @@ pub(crate) fn run_command<F: Shelf, O: Sink>(
 ) -> Ending
     ensures words { Admits (map string_bytes words.now)
         (command_of (map string_bytes words.now)) result }
-    ensures ends { Ends (named_files (map string_bytes words.now))
-        (manner_in (command_of (map string_bytes words.now))) (outcome (map string_bytes words.now))
+    ensures ends { EndsBy (command_of (map string_bytes words.now))
         (F.shelved shelf.old) (O.seen out.old) result (F.shelved shelf.new) (O.seen out.new) }
 {
     match read_words(alloc, words) {

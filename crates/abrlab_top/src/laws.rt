@@ -1,6 +1,6 @@
 //! The laws of whole runs, each the contract of a function that does nothing.
 
-ghost use Rattle.abrlab_top.specs.Accepts.{RunsAreAccepted};
+ghost use Rattle.abrlab_top.specs.Accepts.{NearRunsAreAccepted, RunsAreAccepted};
 ghost use Rattle.abrlab_top.specs.Statuses.{RunsAreComplete, RunsLeaveTheShelf, StatusesHaveCauses};
 
 /// Each status has its cause, and each outcome its statuses.
@@ -22,4 +22,10 @@ pub fn runs_are_complete()
 /// the same film, network and setup with as much media ahead, or it ends with 4, 5 or 9.
 pub fn plans_are_accepted()
     ensures { RunsAreAccepted }
+{}
+
+/// `check --near` says yes to what `plan --near --as-certificate` printed whole, where both read the same film, network and setup
+/// with as much media ahead, or it ends with 4, 5 or 9.
+pub fn near_plans_are_accepted()
+    ensures { NearRunsAreAccepted }
 {}

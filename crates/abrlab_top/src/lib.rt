@@ -9,6 +9,7 @@ mod demo;
 mod ending;
 mod laws;
 mod memory;
+mod near;
 mod plan;
 mod players;
 mod regret;
@@ -20,13 +21,16 @@ mod simulate;
 ghost use Rattle.std.specs.Prelude.{◌≡◌, map, string_bytes};
 ghost use Rattle.abrlab_top.specs.declared.ending.Ending.{Ending};
 ghost use Rattle.abrlab_top.specs.Ending.{status_of};
-ghost use Rattle.abrlab_top.specs.Proves.{Headline, PlansTheBest, PlaysJointly, SaysYesSoundly, Simulates, TellsRegrets};
+ghost use Rattle.abrlab_top.specs.Proves.{BoundsRegrets, BoundsTheBest, Headline, PlansTheBest, PlaysJointly, SaysYesByPrices, SaysYesSoundly, Simulates, TellsRegrets};
 ghost use Rattle.abrlab_top.specs.Runs.{Runs, world};
 
 use crate::command::run_command;
 pub use ending::Ending;
 use lab_io::{Shelf, Sink};
-pub use laws::{plans_are_accepted, runs_are_complete, runs_leave_the_shelf, statuses_have_causes};
+pub use laws::{
+    near_plans_are_accepted, plans_are_accepted, runs_are_complete, runs_leave_the_shelf,
+    statuses_have_causes,
+};
 pub use memory::{Printed, run_in_memory};
 pub use rule::AnyRule;
 use std::alloc::Global;
@@ -37,7 +41,7 @@ use std::alloc::Global;
 /// The answer is the status. 0: the text went out whole. 1: the same, and it says that a certificate isn't valid. 2: the words
 /// are refused. 3: a file is longer than its limit or is refused by its reader, or the settings do not fit the film. 4: a file
 /// was not read. 5: `out` did not take the text. 6: the labels of a plan are more than the budget; with `--regret` of the plan on
-/// some trace. 9: out of memory.
+/// some trace; with `--near` never. 9: out of memory.
 ///
 /// Refusals come in this order: the words; the files one after the other, of each first that it was not read, then that it is
 /// too long, then its first fault; the first bad line of a certificate; the buffer, the utilities and the rules; the budget. Only
@@ -72,6 +76,18 @@ pub fn run<F: Shelf, O: Sink, E: Sink>(
         result
         (world (F.shelved shelf.new) (O.seen out.new) (E.seen err.new)) }
     ensures regrets { TellsRegrets (map string_bytes words.now)
+        (world (F.shelved shelf.old) (O.seen out.old) (E.seen err.old))
+        result
+        (world (F.shelved shelf.new) (O.seen out.new) (E.seen err.new)) }
+    ensures bounds { BoundsTheBest (map string_bytes words.now)
+        (world (F.shelved shelf.old) (O.seen out.old) (E.seen err.old))
+        result
+        (world (F.shelved shelf.new) (O.seen out.new) (E.seen err.new)) }
+    ensures price_checks { SaysYesByPrices (map string_bytes words.now)
+        (world (F.shelved shelf.old) (O.seen out.old) (E.seen err.old))
+        result
+        (world (F.shelved shelf.new) (O.seen out.new) (E.seen err.new)) }
+    ensures near_regrets { BoundsRegrets (map string_bytes words.now)
         (world (F.shelved shelf.old) (O.seen out.old) (E.seen err.old))
         result
         (world (F.shelved shelf.new) (O.seen out.new) (E.seen err.new)) }

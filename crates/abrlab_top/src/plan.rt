@@ -65,7 +65,7 @@ fn put_lines<O: Sink>(out: &mut O, plan: &Plan) -> Result<(), PutErr>
 }
 
 /// Writes the line of a bound.
-fn put_bound<O: Sink>(out: &mut O, bound: i128) -> Result<(), PutErr>
+pub(crate) fn put_bound<O: Sink>(out: &mut O, bound: i128) -> Result<(), PutErr>
     ensures { Puts (O.seen out.old) (bound_line bound) (O.seen out.new) result }
 {
     put_fields(out, &[Word("bound"), Number(bound)])

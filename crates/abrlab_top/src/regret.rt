@@ -1,6 +1,6 @@
-//! `compare --regret`: how far the sessions of rules stay behind the best that each network allowed.
+//! `compare --regret`: how far the sessions of rules stay behind the best that each network allowed, or behind a bound by prices.
 
-ghost use Rattle.std.specs.Prelude.{◌≡◌, ◌<◌, ◌≤◌, IfOk, None, false, length, map};
+ghost use Rattle.std.specs.Prelude.{◌≡◌, ◌<◌, ◌≤◌, IfOk, IfSome, None, Some, false, length, map};
 ghost use Rattle.std.specs.List.{All, flat_map};
 ghost use Rattle.lab_io.specs.Sink.{Puts};
 ghost use Rattle.lab_model.specs.Film.{IsWithin};
@@ -15,7 +15,9 @@ ghost use Rattle.session_report.specs.Regret.{IsTotalOf};
 ghost use Rattle.abrlab_top.specs.Ending.{ended};
 ghost use Rattle.abrlab_top.specs.Outcome.{about};
 ghost use Rattle.abrlab_top.specs.Plan.{task_on};
-ghost use Rattle.abrlab_top.specs.Regret.{AreRanked, AreScored, CanRank, Unspent, best_on, first_spent, network_regrets, regret, regret_text, rows_of, score_on, scored_on, scores_at, seen_scored, spent_there, total_row};
+ghost use Rattle.abrlab_top.specs.Regret.{AreCompared, AreRanked, AreScored, CanRank, IsTop, Unspent, best_on, first_spent, network_rows, networks_rows, ranked_text, regret, rows_of, score_on, scored_on, scores_at, seen_scored, spent_there, sums_row, tops_of};
+ghost use Rattle.abrlab_top.specs.Choice.{IsBound};
+ghost use Rattle.abrlab_top.specs.Chosen.{EndsWithBounds, WritesBounds};
 ghost use Rattle.abrlab_top.specs.Runs.{Ends};
 ghost use Rattle.abrlab_top.specs.Stages.{Writes, at_the_end};
 
@@ -30,31 +32,34 @@ use lab_io::Piece::Word;
 use lab_io::{PutErr, Shelf, Sink, put_fields};
 use lab_model::NoMemory;
 use lab_words::NamedRule;
+use near_best::near_best;
 use network_clock::Clock;
-use player_core::play_from;
+use player_core::{Scene, play_from};
 use quality_score::score;
-use session_report::{Total, regret_row, total_row};
+use session_report::{Top, Total};
 use std::alloc::Global;
 use std::marker::Model;
 
 /// What was played and planned on one network, in thousandths of a point.
 #[derive(Drop)]
 struct Scored {
-    /// The score of the best rung list.
-    best: i128,
+    /// What no rung list has more than: the score of the best one, or a bound.
+    top: i128,
     /// The score of each rule's session, in the order of the rules.
     scores: Vec<i128>,
 }
 
-/// What rules are ranked by: inputs whose settings fit and which give no download up, and the budget of each plan.
+/// What rules are ranked by: inputs whose settings fit and which give no download up, and the budget of each plan; without one,
+/// bounds by prices.
 #[derive(Drop)]
 struct Ranking<'a> {
     inputs: &'a Inputs,
     /// The most labels, 1 to 1000000.
-    budget: u32,
+    budget: Option<u32>,
 }
 
 impl<'a> Model for Ranking<'a> {
+    ghost use Rattle.std.specs.Prelude.{IfSome};
     ghost use Rattle.lab_model.specs.Film.{IsWithin};
     ghost use Rattle.abrlab_top.specs.Regret.{CanRank, RankingValue};
 
@@ -62,14 +67,14 @@ impl<'a> Model for Ranking<'a> {
 
     ghost view = { λ r. record { inputs = r.inputs.now; budget = r.budget } };
 
-    ghost invariant = { λ r. CanRank r.inputs.now × IsWithin 1 1000000 r.budget };
+    ghost invariant = { λ r. CanRank r.inputs.now × IfSome r.budget (IsWithin 1 1000000) };
 }
 
 impl<'a> Ranking<'a> {
     /// A ranking by these.
-    fn new(inputs: &'a Inputs, budget: u32) -> Ranking<'a>
+    fn new(inputs: &'a Inputs, budget: Option<u32>) -> Ranking<'a>
         requires can { CanRank inputs.now }
-        requires budget { IsWithin 1 1000000 budget }
+        requires budget { IfSome budget (IsWithin 1 1000000) }
         ensures { result ≡ record { inputs = inputs.entry.now; budget = budget } }
     {
         Ranking { inputs, budget }
@@ -83,15 +88,12 @@ impl<'a> Ranking<'a> {
         self.inputs
     }
 
-    /// What is asked of the plan of each network.
-    fn options(&self) -> PlanOptions
-        ensures { result ≡ record {
-          grid = None;
-          budget = self.now.budget;
-          as_certificate = false;
-        } }
+    /// The most labels of the plan of each network, if rules are ranked by plans.
+    fn budget(&self) -> Option<u32>
+        ensures value { result ≡ self.now.budget }
+        ensures within { IfSome result (IsWithin 1 1000000) }
     {
-        PlanOptions::exact(self.budget)
+        self.budget
     }
 
     /// The score of a rule's session with an empty history.
@@ -127,10 +129,17 @@ impl<'a> Ranking<'a> {
         Ok(scores)
     }
 
-    /// The score of the best rung list on the network of a place, counted from 1.
-    fn best_score(&self, alloc: Global, clock: &Clock, place: usize) -> Result<i128, Ending>
+    /// The score of the best rung list on the network of a place, counted from 1, by a plan of so many labels at most.
+    fn best_score(
+        &self,
+        alloc: Global,
+        clock: &Clock,
+        budget: u32,
+        place: usize,
+    ) -> Result<i128, Ending>
+        requires budget { IsWithin 1 1000000 budget }
         ensures best { Unspent
-            (spent_there self.now.inputs self.now.budget place clock.now)
+            (spent_there self.now.inputs (Some budget) place clock.now)
             (λ best. best ≡ best_on self.now.inputs clock.now) result }
         ensures task { IsTask (task_on self.now.inputs clock.now) }
         ensures can { CanRank self.now.inputs }
@@ -138,7 +147,7 @@ impl<'a> Ranking<'a> {
         let inputs = self.inputs();
         let (film, setup) = (inputs.manifest(), inputs.setup());
         let ahead = media_ahead(inputs);
-        match plan_on(alloc, film, clock, setup, ahead, self.options()) {
+        match plan_on(alloc, film, clock, setup, ahead, PlanOptions::exact(budget)) {
             Ok(planned) => Ok(planned.plan.score),
             Err(PlanErr::BudgetSpent { segment }) => Err(Ending::Spent {
                 trace: Some(place),
@@ -148,7 +157,33 @@ impl<'a> Ranking<'a> {
         }
     }
 
-    /// Plans the network of a place, counted from 1, and plays each rule on it: one clock and one plan for all.
+    /// A bound by prices on a network, which no rung list passes.
+    fn bound(&self, alloc: Global, clock: &Clock) -> Result<i128, NoMemory>
+        ensures bound { IfOk result (IsBound (task_on self.now.inputs clock.now)) }
+        ensures task { IsTask (task_on self.now.inputs clock.now) }
+        ensures can { CanRank self.now.inputs }
+    {
+        let inputs = self.inputs();
+        let (film, setup) = (inputs.manifest(), inputs.setup());
+        let scene = Scene::new(film, clock, setup, media_ahead(inputs));
+        Ok(near_best(alloc, &scene)?.bound)
+    }
+
+    /// What scores on the network of a place, counted from 1, are compared with.
+    fn top(&self, alloc: Global, clock: &Clock, place: usize) -> Result<i128, Ending>
+        ensures top { Unspent
+            (spent_there self.now.inputs self.now.budget place clock.now)
+            (IsTop self.now.inputs self.now.budget clock.now) result }
+        ensures task { IsTask (task_on self.now.inputs clock.now) }
+        ensures can { CanRank self.now.inputs }
+    {
+        match self.budget() {
+            Some(budget) => self.best_score(alloc, clock, budget, place),
+            None => Ok(self.bound(alloc, clock)?),
+        }
+    }
+
+    /// Finds the top of the network of a place, counted from 1, and plays each rule on it: one clock and one top for all.
     fn score_network(
         &self,
         alloc: Global,
@@ -158,19 +193,20 @@ impl<'a> Ranking<'a> {
         ensures { Unspent
             (spent_there self.now.inputs self.now.budget place network.now.trace)
             (λ s. (seen_scored s ≡ scored_on self.now.inputs (network_of network.now))
+            × IsTop self.now.inputs self.now.budget network.now.trace s.top
             × AreRanked s) result }
     {
         let clock = Clock::new(alloc, &network.trace)?;
-        let best = self.best_score(alloc, &clock, place)?;
+        let top = self.top(alloc, &clock, place)?;
         let scores = self.score_rules(alloc, &clock)?;
-        Ok(Scored { best, scores })
+        Ok(Scored { top, scores })
     }
 
-    /// Plans and plays on each network, in order.
+    /// Finds the top of each network and plays on it, in order.
     fn score_networks(&self, alloc: Global) -> Result<Vec<Scored>, Ending>
         ensures { Unspent
             (first_spent self.now.inputs self.now.budget 1 self.now.inputs.networks)
-            (λ table. AreScored self.now.inputs table.items) result }
+            (λ table. AreCompared self.now.inputs self.now.budget table.items) result }
     {
         let networks = self.inputs().networks();
         let mut table = Vec::new(alloc);
@@ -183,15 +219,20 @@ impl<'a> Ranking<'a> {
 }
 
 /// Writes the row of each rule on one network.
-fn put_rows<O: Sink>(out: &mut O, rules: &[NamedRule], scored: &Scored) -> Result<(), PutErr>
+fn put_rows<O: Sink>(
+    out: &mut O,
+    by: Top,
+    rules: &[NamedRule],
+    scored: &Scored,
+) -> Result<(), PutErr>
     requires count { length scored.now.scores.items ≡ length rules.now }
     requires ranked { AreRanked scored.now }
     ensures { Puts (O.seen out.old)
-        (rows_of (map named rules.now) scored.now.scores.items scored.now.best)
+        (rows_of by (map named rules.now) scored.now.scores.items scored.now.top)
         (O.seen out.new) result }
 {
     for (index, rule) in rules.iter().enumerate() {
-        regret_row(&rule.name, scored.scores[index], scored.best, out)?;
+        by.put_row(&rule.name, scored.scores[index], scored.top, out)?;
     }
     Ok(())
 }
@@ -199,28 +240,36 @@ fn put_rows<O: Sink>(out: &mut O, rules: &[NamedRule], scored: &Scored) -> Resul
 /// Writes the line of a network, and a row for each rule on it.
 fn put_network<O: Sink>(
     out: &mut O,
+    by: Top,
     inputs: &Inputs,
     network: &Network,
     scored: &Scored,
 ) -> Result<(), PutErr>
     requires scored { seen_scored scored.now ≡ scored_on inputs.now (network_of network.now) }
     requires ranked { AreRanked scored.now }
-    ensures { Puts (O.seen out.old) (network_regrets inputs.now (network_of network.now))
+    ensures { Puts (O.seen out.old)
+        (network_rows by inputs.now (network_of network.now) scored.now.top)
         (O.seen out.new) result }
 {
     put_fields(out, &[Word("trace"), Word(&network.name)])?;
-    put_rows(out, inputs.rules(), scored)
+    put_rows(out, by, inputs.rules(), scored)
 }
 
 /// Writes each network with its rows, in order.
-fn put_networks<O: Sink>(out: &mut O, inputs: &Inputs, table: &[Scored]) -> Result<(), PutErr>
+fn put_networks<O: Sink>(
+    out: &mut O,
+    by: Top,
+    inputs: &Inputs,
+    table: &[Scored],
+) -> Result<(), PutErr>
     requires table { AreScored inputs.now table.now }
-    ensures { Puts (O.seen out.old) (flat_map (network_regrets inputs.now) inputs.now.networks)
+    ensures { Puts (O.seen out.old)
+        (networks_rows by inputs.now inputs.now.networks (tops_of table.now))
         (O.seen out.new) result }
 {
     let networks = inputs.networks();
     for (index, network) in networks.iter().enumerate() {
-        put_network(out, inputs, network, &table[index])?;
+        put_network(out, by, inputs, network, &table[index])?;
     }
     Ok(())
 }
@@ -234,31 +283,53 @@ fn total_at(table: &[Scored], rule: usize) -> Total
 {
     let mut total = Total::start();
     for scored in table {
-        total.add(scored.scores[rule], scored.best);
+        total.add(scored.scores[rule], scored.top);
     }
     total
 }
 
 /// Writes the total of each rule, in order.
-fn put_totals<O: Sink>(out: &mut O, inputs: &Inputs, table: &[Scored]) -> Result<(), PutErr>
+fn put_totals<O: Sink>(
+    out: &mut O,
+    by: Top,
+    inputs: &Inputs,
+    table: &[Scored],
+) -> Result<(), PutErr>
     requires table { AreScored inputs.now table.now }
-    ensures { Puts (O.seen out.old) (flat_map (total_row inputs.now) inputs.now.rules)
+    ensures { Puts (O.seen out.old)
+        (flat_map (sums_row by inputs.now (tops_of table.now)) inputs.now.rules)
         (O.seen out.new) result }
 {
     let rules = inputs.rules();
     for (index, rule) in rules.iter().enumerate() {
-        total_row(&rule.name, &total_at(table, index), out)?;
+        by.put_total(&rule.name, &total_at(table, index), out)?;
     }
     Ok(())
 }
 
 /// Writes the networks, and then the totals.
-fn put_regrets<O: Sink>(out: &mut O, inputs: &Inputs, table: &[Scored]) -> Result<(), PutErr>
+fn put_regrets<O: Sink>(
+    out: &mut O,
+    by: Top,
+    inputs: &Inputs,
+    table: &[Scored],
+) -> Result<(), PutErr>
     requires table { AreScored inputs.now table.now }
-    ensures { Puts (O.seen out.old) (regret_text inputs.now) (O.seen out.new) result }
+    ensures { Puts (O.seen out.old) (ranked_text by inputs.now (tops_of table.now))
+        (O.seen out.new) result }
 {
-    put_networks(out, inputs, table)?;
-    put_totals(out, inputs, table)
+    put_networks(out, by, inputs, table)?;
+    put_totals(out, by, inputs, table)
+}
+
+/// Plays and plans everything, where the settings fit.
+fn score_all(alloc: Global, inputs: &Inputs, budget: Option<u32>) -> Result<Vec<Scored>, Ending>
+    requires can { CanRank inputs.now }
+    requires budget { IfSome budget (IsWithin 1 1000000) }
+    ensures { Unspent (first_spent inputs.now budget 1 inputs.now.networks)
+        (λ table. AreCompared inputs.now budget table.items) result }
+{
+    Ranking::new(inputs, budget).score_networks(alloc)
 }
 
 /// Plays and plans everything, and then writes.
@@ -274,9 +345,18 @@ fn write_regrets<O: Sink>(
         (O.seen out.old) (ended result) (O.seen out.new) }
 {
     inputs.fit()?;
-    let ranking = Ranking::new(inputs, budget);
-    let table = ranking.score_networks(alloc)?;
-    Ok(put_regrets(out, inputs, &table)?)
+    let table = score_all(alloc, inputs, Some(budget))?;
+    Ok(put_regrets(out, Top::Best, inputs, &table)?)
+}
+
+/// Plays and bounds everything, and then writes.
+fn write_near_regrets<O: Sink>(alloc: Global, inputs: &Inputs, out: &mut O) -> Result<(), Ending>
+    requires calm { inputs.now.setup.abandon ≡ false }
+    ensures { WritesBounds inputs.now (O.seen out.old) (ended result) (O.seen out.new) }
+{
+    inputs.fit()?;
+    let table = score_all(alloc, inputs, None)?;
+    Ok(put_regrets(out, Top::Bound, inputs, &table)?)
 }
 
 /// Reads the files, plays and plans everything, and then writes.
@@ -293,4 +373,19 @@ pub(crate) fn regret<F: Shelf, O: Sink>(
     let budget = words.budget();
     let inputs = read_inputs(alloc, shelf, words.into_film_words())?;
     write_regrets(alloc, &inputs, budget, out)
+}
+
+/// Reads the files, plays and bounds everything, and then writes.
+pub(crate) fn near_regret<F: Shelf, O: Sink>(
+    alloc: Global,
+    words: RegretWords,
+    shelf: &mut F,
+    out: &mut O,
+) -> Result<(), Ending>
+    ensures { EndsWithBounds words
+        (F.shelved shelf.old) (O.seen out.old) (ended result)
+        (F.shelved shelf.new) (O.seen out.new) }
+{
+    let inputs = read_inputs(alloc, shelf, words.into_film_words())?;
+    write_near_regrets(alloc, &inputs, out)
 }

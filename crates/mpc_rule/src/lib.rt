@@ -8,8 +8,8 @@ ghost use Rattle.lab_model.specs.Rules.{mpc};
 ghost use Rattle.mpc_rule.specs.Recall.{Recall, IsRecallOf, rate_ahead};
 
 mod forecast;
-mod relaxation;
 mod outlook;
+mod relaxation;
 mod ring;
 mod search;
 

@@ -6,8 +6,8 @@ ghost use Rattle.mpc_rule.specs.Search.{IsDraft, IsForecast, IsOutlook, IsWhole,
 ghost use Rattle.mpc_rule.specs.Relaxations.{IsHopeless, IsSearch, IsUnder};
 
 use crate::forecast::{Draft, Forecast};
-use crate::relaxation::Relaxation;
 use crate::outlook::Outlook;
+use crate::relaxation::Relaxation;
 
 /// A search for the best list.
 #[derive(Drop)]

@@ -108,12 +108,7 @@ impl Top {
 
     /// Puts the row of a rule over all traces: `total NAME` and its sums, and the greatest difference.
     /// After an `Err` a prefix of the row went out. It takes no memory of its own.
-    pub fn put_total<O: Sink>(
-        self,
-        name: &str,
-        total: &Total,
-        out: &mut O,
-    ) -> Result<(), PutErr>
+    pub fn put_total<O: Sink>(self, name: &str, total: &Total, out: &mut O) -> Result<(), PutErr>
         ensures { Puts (O.seen out.old) (sums_line self name.now total.now) (O.seen out.new) result }
     {
         put_fields(
