@@ -31,8 +31,9 @@ use Rattle.labels.proofs.Sound.{plan_settles}
 use Rattle.session_report.specs.Regret.{AreScores}
 use Rattle.session_report.specs.Session.{session_score}
 use Rattle.abrlab_top.specs.Ahead.{ahead_of}
+use Rattle.abrlab_top.specs.Choice.{IsBound}
 use Rattle.abrlab_top.specs.Plan.{certificate_on, task_on}
-use Rattle.abrlab_top.specs.Regret.{best_on, regret_case, score_on, scores_on}
+use Rattle.abrlab_top.specs.Regret.{best_on, regret_case, score_on}
 use Rattle.abrlab_top.proofs.Certified.{own_score}
 
 -- ---- the score of a session
@@ -99,18 +100,22 @@ as_list i periods rule is fits off =
     in
     (rungs, law.fits, ap (λ (s : Shown). session_score s i.setup.weights) (ap session_of calm ∙ law.same))
 
--- no session scores more than the best rung list
-pub behind_best : (i : InputValues) (periods : List Period) (rule : RuleKind) → IsTask (task_on i periods) → KindFits rule i.film → i.setup.abandon ≡ false → score_on i periods rule ≤ℤ best_on i periods
-behind_best i periods rule is fits off =
+-- no session scores more than a bound
+pub behind_bound : (i : InputValues) (periods : List Period) (rule : RuleKind) (top : ℤ) → IsTask (task_on i periods) → IsBound (task_on i periods) top → KindFits rule i.film → i.setup.abandon ≡ false → score_on i periods rule ≤ℤ top
+behind_bound i periods rule top is bound fits off =
     let list = as_list i periods rule is fits off in
-    subst (λ v. v ≤ℤ best_on i periods) list.2 ((best_settles (task_on i periods) is).most list.0 list.1)
+    subst (λ v. v ≤ℤ top) list.2 (bound.bounds list.0 list.1)
 
--- the scores of a rule can be summed
-pub are_scores : (i : InputValues) (periods : List Period) (rule : RuleKind) → IsTask (task_on i periods) → KindFits rule i.film → i.setup.abandon ≡ false → AreScores (scores_on i periods rule)
-are_scores i periods rule is fits off = record {
+-- the best score is a bound
+pub best_bounds : (i : InputValues) (periods : List Period) → IsTask (task_on i periods) → IsBound (task_on i periods) (best_on i periods)
+best_bounds i periods is = record { bounds = (best_settles (task_on i periods) is).most; near = best_near i periods is }
+
+-- the scores of a rule can be summed beside a bound
+pub are_scores : (i : InputValues) (periods : List Period) (rule : RuleKind) (top : ℤ) → IsTask (task_on i periods) → IsBound (task_on i periods) top → KindFits rule i.film → i.setup.abandon ≡ false → AreScores (score_on i periods rule, top)
+are_scores i periods rule top is bound fits off = record {
   score = score_near (regret_case i periods rule) (task_case (task_on i periods) [] rule is (no_seeks (segments_of i.film)) fits) is.weights;
-  best = best_near i periods is;
-  order = behind_best i periods rule is fits off;
+  best = bound.near;
+  order = behind_bound i periods rule top is bound fits off;
 }
 
 -- the score of what was played is that of the rule

@@ -13,7 +13,7 @@ index-requires c =
 pub add-requires-clause-pair : goal.add-requires-clause-pair
 add-requires-clause-pair c =
     let score = to_z-of_z w128 c.index.result.now (search rules) in
-    let best = to_z-of_z w128 c.scored-item.result.best (search rules) in
+    let best = to_z-of_z w128 c.scored-item.result.top (search rules) in
     scores_as _ _ _ _ score best (score_ranked c.scored-item.result c.args.rule c.index.result.now (ranked_at c.args.table.now c.loop-scored.scored-index c.scored-item.result c.loop-scored-test.true c.scored-item.is c.requires.ranked)
     (wide_at c.args.table.now c.args.rule c.loop-scored.scored-index c.scored-item.result c.loop-scored-test.true c.scored-item.is c.requires.wide) c.index.ensures)
 
@@ -26,7 +26,7 @@ add-requires-clause-list c = (_, c.loop-scored.invariant)
 pub loop-scored-preserved : goal.loop-scored-preserved
 loop-scored-preserved c =
     let score = to_z-of_z w128 c.index.result.now (search rules) in
-    let best = to_z-of_z w128 c.scored-item.result.best (search rules) in
+    let best = to_z-of_z w128 c.scored-item.result.top (search rules) in
     let more = total_as (map (scores_at c.args.rule) (take c.loop-scored.scored-index c.args.table.now)) c.add.new.self _ _ _ _ score best (c.add.ensures _ c.loop-scored.invariant) in
     total_more c.args.rule c.loop-scored.scored-index c.args.table.now c.scored-item.result c.index.result.now _ c.loop-scored-test.true c.scored-item.is
     (wide_at c.args.table.now c.args.rule c.loop-scored.scored-index c.scored-item.result c.loop-scored-test.true c.scored-item.is c.requires.wide) c.index.ensures more

@@ -15,7 +15,7 @@ returns-in-Ok-clause-best c =
     let i = c.args.self.now.inputs in
     let small : SFits w128 c.in-Ok.planned.plan.score = search rules in
     let task = task_seen i c.inputs-inputs.result.now c.args.clock.now c.manifest-film.result.now c.setup-setup.result.now c.media_ahead-ahead.result c.inputs-inputs.ensures.value c.manifest-film.ensures c.setup-setup.ensures c.media_ahead-ahead.ensures.value in
-    let given = best_planned i c.args.clock.now c.args.self.now.budget c.args.place c.options.result.budget c.options.result.grid _ c.in-Ok.planned (ap (λ (o : PlanAsked). o.grid) c.options.ensures) (ap (λ (o : PlanAsked). o.budget) c.options.ensures) task c.in-Ok.ensures.answer in
+    let given = best_planned i c.args.clock.now c.args.budget c.args.place c.exact.result.budget c.exact.result.grid _ c.in-Ok.planned (ap (λ (o : PlanAsked). o.grid) c.exact.ensures) (ap (λ (o : PlanAsked). o.budget) c.exact.ensures) task c.in-Ok.ensures.answer in
     (given.0, to_z-of_z w128 c.in-Ok.planned.plan.score small ∙ given.1)
 
 pub returns-in-Ok-clause-task : goal.returns-in-Ok-clause-task
@@ -28,7 +28,7 @@ pub returns-in-Err-BudgetSpent-clause-best : goal.returns-in-Err-BudgetSpent-cla
 returns-in-Err-BudgetSpent-clause-best c =
     let i = c.args.self.now.inputs in
     let task = task_seen i c.inputs-inputs.result.now c.args.clock.now c.manifest-film.result.now c.setup-setup.result.now c.media_ahead-ahead.result c.inputs-inputs.ensures.value c.manifest-film.ensures c.setup-setup.ensures c.media_ahead-ahead.ensures.value in
-    best_spent i c.args.clock.now c.args.self.now.budget c.args.place c.options.result.budget c.in-Err-BudgetSpent.segment c.options.result.grid _ (ap (λ (o : PlanAsked). o.grid) c.options.ensures) (ap (λ (o : PlanAsked). o.budget) c.options.ensures) task
+    best_spent i c.args.clock.now c.args.budget c.args.place c.exact.result.budget c.in-Err-BudgetSpent.segment c.exact.result.grid _ (ap (λ (o : PlanAsked). o.grid) c.exact.ensures) (ap (λ (o : PlanAsked). o.budget) c.exact.ensures) task
     (rw c.in-Err-BudgetSpent.field-0-is at c.in-Err-BudgetSpent.ensures.answer)
 
 pub returns-in-Err-BudgetSpent-clause-task : goal.returns-in-Err-BudgetSpent-clause-task

@@ -1,0 +1,20 @@
+use Rattle.std.proofs.Common.{subst}
+use Rattle.player_core.specs.Scene.{IsTask}
+use Rattle.abrlab_top.proofs.Near.{certificate_bounds}
+use Rattle.abrlab_top.proofs.Regrets.{task_seen}
+use Rattle.abrlab_top.proofs.regret.Ranking.bound.Goals as goal
+
+pub new-scene-requires-clause-setup : goal.new-scene-requires-clause-setup
+new-scene-requires-clause-setup c = rw (c.setup-setup.ensures, c.manifest-film.ensures, c.inputs-inputs.ensures.value) c.inputs-inputs.ensures.can.fits.setup
+
+pub returns-clause-bound : goal.returns-clause-bound
+returns-clause-bound c =
+    let i = c.args.self.now.inputs in
+    let task = task_seen i c.inputs-inputs.result.now c.args.clock.now c.manifest-film.result.now c.setup-setup.result.now c.media_ahead.result c.inputs-inputs.ensures.value c.manifest-film.ensures c.setup-setup.ensures c.media_ahead.ensures.value in
+    certificate_bounds _ _ _ c.new-scene.ensures.value task c.new-scene.ensures.task c.in_ok-near_best.ensures.valid c.in_ok-near_best.ensures.bound
+
+pub returns-clause-task : goal.returns-clause-task
+returns-clause-task c =
+    let i = c.args.self.now.inputs in
+    let task = task_seen i c.inputs-inputs.result.now c.args.clock.now c.manifest-film.result.now c.setup-setup.result.now c.media_ahead.result c.inputs-inputs.ensures.value c.manifest-film.ensures c.setup-setup.ensures c.media_ahead.ensures.value in
+    subst IsTask task (subst IsTask c.new-scene.ensures.value c.new-scene.ensures.task)

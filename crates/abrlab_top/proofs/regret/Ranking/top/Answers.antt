@@ -1,0 +1,1 @@
+use Rattle.abrlab_top.proofs.regret.Ranking.top.Goals as goal
