@@ -1,5 +1,5 @@
 -- The three kinds of certificates have different first lines.
-use Rattle.std.proofs.Common.{◌≡◌, ◌∙◌, ◌++◌, ℕ, List, [], ◌∷◌, true, false, Err, codes, ap, refl}
+use Rattle.std.proofs.Common.{◌≡◌, ◌∙◌, ◌++◌, ℕ, [], ◌∷◌, true, false, Err, codes, ap, refl}
 use Rattle.std.specs.Fmt.{decimal}
 use Rattle.std.specs.Str.{bytes_eq}
 use Rattle.lab_io.specs.Sink.{Text}
@@ -7,13 +7,12 @@ use Rattle.lab_io.specs.Piece.{fields_line}
 use Rattle.labels.specs.Parts.{CertificateParts}
 use Rattle.certificate_text.specs.Fields.{bad_line, word_at}
 use Rattle.certificate_text.specs.Line.{Line, ends, fields_of, known, stop_of, values_at, within, word}
-use Rattle.certificate_text.specs.Grammar.{bound_line, end_line, gap_line, plan_line, rungs_line, score_line, segments_line, start_line, version_line}
+use Rattle.certificate_text.specs.Grammar.{bound_line, end_line, plan_line, rungs_line, score_line, segments_line, start_line}
 use Rattle.certificate_text.specs.Form.{GapParts}
 use Rattle.certificate_text.specs.Reading.{bound_at, certificate_behind, certificate_of, counts_at, gap_of, head_at, version_at}
 use Rattle.certificate_text.specs.Spelling.{chains_lines, gap_spelling, lines_text, spelling, table_lines, version_number}
 use Rattle.certificate_text.proofs.FieldLaws.{field_again, is_free, word_again}
 use Rattle.price_bounds.specs.Verdict.{PriceParts}
-use Rattle.price_text.specs.Grammar.{prices_line}
 use Rattle.price_text.specs.Reading.{counts_at as price_counts_at, head_at as price_head_at, prices_of}
 use Rattle.price_text.specs.Spelling.{prices_text, value_lines, window_lines}
 

@@ -1,5 +1,5 @@
 -- Certificates by prices: what is read is of the form and spelled so, and what is of the form is read from its spelling.
-use Rattle.std.proofs.Common.{◌≡◌, ◌∙◌, ◌+◌, ◌<◌, ◌≤◌, ◌^◌, ◌++◌, ℕ, ℤ, zero, suc, List, [], ◌∷◌, Result, Ok, Err, length, map, refl, sym, ap, subst, append_assoc, arith, lit<, lit≤}
+use Rattle.std.proofs.Common.{◌≡◌, ◌∙◌, ◌+◌, ◌<◌, ◌^◌, ◌++◌, ℕ, ℤ, zero, suc, List, [], ◌∷◌, Result, Ok, Err, length, map, refl, sym, ap, subst, append_assoc, arith, lit<, lit≤}
 use Rattle.std.specs.Prelude.{IfOk}
 use Rattle.std.specs.List.{All}
 use Rattle.std.proofs.lemmas.List.Elements.{All-cons, All-head, All-nil, All-tail}
@@ -7,11 +7,10 @@ use Rattle.lab_model.proofs.Steps.{then_ok}
 use Rattle.lab_model.specs.Steps.{◌>>=◌}
 use Rattle.lab_model.specs.declared.fault.InputFault.{InputFault}
 use Rattle.lab_model.specs.Reading.{Gives}
-use Rattle.lab_model.specs.Film.{IsWithin}
 use Rattle.lab_io.specs.Sink.{Text}
 use Rattle.lab_io.specs.Piece.{fields_line}
 use Rattle.certificate_text.specs.Line.{Holds, Values, fields_of, values_at}
-use Rattle.certificate_text.specs.Grammar.{bound_line, end_line, plan_line, rungs_line, score_line, segments_line}
+use Rattle.certificate_text.specs.Grammar.{bound_line, plan_line, rungs_line, score_line, segments_line}
 use Rattle.certificate_text.specs.Reading.{last_at}
 use Rattle.certificate_text.specs.Spelling.{lines_text}
 use Rattle.certificate_text.proofs.Loops.{ok_is}
@@ -21,7 +20,6 @@ use Rattle.certificate_text.proofs.GapLaws.{can_bound}
 use Rattle.price_bounds.specs.declared.certificate.PriceCertificate.{PriceCertificate}
 use Rattle.price_bounds.specs.declared.window.Window.{Window}
 use Rattle.price_bounds.specs.Verdict.{PriceParts, price_parts}
-use Rattle.price_bounds.specs.Windows.{most_windows}
 use Rattle.price_text.specs.Form.{IsPriceHead, IsPrices, IsSpelledWindow}
 use Rattle.price_text.specs.Grammar.{prices_line, window_line, windows_line}
 use Rattle.price_text.specs.Reading.{Counts, counts_at, head_at, prices_of, window_at, windows_at, windows_row}

@@ -1,15 +1,14 @@
 -- The text of a certificate by prices, part by part, and how the writer's loop goes through it.
-use Rattle.std.proofs.Common.{◌≡◌, ◌∙◌, ◌+◌, ◌<◌, ◌≤◌, ℕ, suc, List, [], ◌∷◌, ◌++◌, drop, get_or, length, map, refl, sym, ap, add-one, append_assoc, append-nil, drop-cons, arith}
+use Rattle.std.proofs.Common.{◌≡◌, ◌∙◌, ◌+◌, ◌<◌, ◌≤◌, ℕ, List, [], ◌∷◌, ◌++◌, drop, get_or, length, map, refl, ap, add-one, append-nil, drop-cons}
 use Rattle.std.proofs.lemmas.List.{drop_all}
 use Rattle.std.proofs.lemmas.List.Concat.{flat_map-append}
 use Rattle.lab_io.specs.Sink.{Text}
 use Rattle.lab_io.specs.Piece.{fields_line}
 use Rattle.certificate_text.specs.Line.{fields_of}
-use Rattle.certificate_text.specs.Grammar.{bound_line, end_line, plan_line, rungs_line, score_line, segments_line}
+use Rattle.certificate_text.specs.Grammar.{end_line}
 use Rattle.certificate_text.specs.Spelling.{lines_text}
 use Rattle.price_bounds.specs.declared.window.Window.{Window}
 use Rattle.price_bounds.specs.Verdict.{PriceParts}
-use Rattle.price_text.specs.Grammar.{prices_line, windows_line}
 use Rattle.price_text.specs.Spelling.{count_lines, prices_text, value_lines, window_fields, window_lines}
 
 -- ---- the parts
