@@ -1,0 +1,25 @@
+//! Laws of the text, each a contract that is proved.
+ghost use Rattle.std.specs.Prelude.{◌≡◌, Err};
+ghost use Rattle.labels.specs.Parts.{CertificateParts};
+ghost use Rattle.price_bounds.specs.Verdict.{PriceParts};
+ghost use Rattle.certificate_text.specs.Fields.{bad_line};
+ghost use Rattle.certificate_text.specs.Form.{GapParts};
+ghost use Rattle.certificate_text.specs.Reading.{certificate_of, gap_of};
+ghost use Rattle.certificate_text.specs.Spelling.{gap_spelling, spelling};
+ghost use Rattle.price_text.specs.Form.{IsPrices};
+ghost use Rattle.price_text.specs.Reading.{prices_of};
+ghost use Rattle.price_text.specs.Spelling.{prices_text};
+
+/// No certificate of the form has a spelling that another one has.
+pub fn one_prices_spelling()
+    ensures { (c d : PriceParts) → IsPrices c → IsPrices d
+        → prices_text c ≡ prices_text d → c ≡ d }
+{}
+
+/// The three kinds of certificates are told apart by the first line: it is the bad line for each reader of another kind.
+pub fn told_apart()
+    ensures plain { (c : PriceParts) → certificate_of (prices_text c) ≡ Err (bad_line 1) }
+    ensures gap { (c : PriceParts) → gap_of (prices_text c) ≡ Err (bad_line 1) }
+    ensures of_plain { (c : CertificateParts) → prices_of (spelling c) ≡ Err (bad_line 1) }
+    ensures of_gap { (c : GapParts) → prices_of (gap_spelling c) ≡ Err (bad_line 1) }
+{}
