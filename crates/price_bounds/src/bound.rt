@@ -1,0 +1,89 @@
+//! The bound of windows.
+
+ghost use Rattle.std.specs.Prelude.{◌≡◌, ℕ, ◌<◌, ◌^◌, List, [], IfOk, pos, ◌-ℤ◌, ◌<ℤ◌, ◌≤ℤ◌};
+ghost use Rattle.lab_model.specs.Film.{rungs_of, segments_of};
+ghost use Rattle.labels.specs.Best.{task_value};
+ghost use Rattle.labels.specs.Form.{score_digits};
+ghost use Rattle.labels.specs.Labels.{AreRungs};
+ghost use Rattle.lab_model.specs.Number.{IsNear};
+ghost use Rattle.player_core.specs.Scene.{IsTask};
+ghost use Rattle.price_bounds.specs.Bound.{bound_of, bound_on, rounded_up};
+ghost use Rattle.price_bounds.specs.ListPart.{list_part};
+ghost use Rattle.price_bounds.specs.Tables.{most_list_worth, most_bound};
+ghost use Rattle.price_bounds.specs.Windows.{CanBound};
+
+use crate::counts::{rungs, segments};
+use crate::link_part::link_part;
+use crate::list_part::list_parts;
+use crate::numbers::difference;
+use crate::window::Window;
+use lab_model::NoMemory;
+use labels::start_on;
+use player_core::Scene;
+use std::alloc::{AllocError, Global};
+
+/// The thousandths of a bit that cost a window's price.
+pub(crate) const PRICE_UNIT: u128 = 1_000_000_000;
+
+/// The bound on the lists that begin with a rung, whose list part is given.
+fn bound_on(
+    alloc: Global,
+    scene: &Scene<'_>,
+    windows: &[Window],
+    rung: u8,
+    gain: i128,
+) -> Result<i128, AllocError>
+    requires windows { CanBound (segments_of scene.now.film) windows.now }
+    requires rung { rung < rungs_of scene.now.film }
+    requires gain { gain ≡ list_part scene.now windows.now rung }
+    requires near { IsNear most_list_worth gain }
+    ensures value { IfOk result (λ v. v ≡ bound_on scene.now windows.now rung) }
+    ensures near { IfOk result (IsNear most_bound) }
+{
+    prove!(segments(scene) > 0);
+    let weights = &scene.setup().weights;
+    let first = start_on(scene, rung).p;
+    let utility = PRICE_UNIT * (1000 * weights.utility(0, rung) as u128);
+    let startup = PRICE_UNIT * (weights.startup() as u128 * first as u128);
+    let worth = link_part(alloc, scene, windows, first)?;
+    Ok(difference(utility, startup) + gain + worth)
+}
+
+/// The least whole number that isn't below so many parts.
+fn rounded_up(parts: i128) -> i128
+    requires { IsNear most_bound parts }
+    ensures { result ≡ rounded_up parts }
+{
+    let size = parts.unsigned_abs();
+    if parts >= 0 {
+        size.div_ceil(PRICE_UNIT) as i128
+    } else {
+        -((size / PRICE_UNIT) as i128)
+    }
+}
+
+/// The bound of windows, in thousandths of a point: no rung list has a greater value.
+pub fn bound_of_windows(
+    alloc: Global,
+    scene: &Scene<'_>,
+    windows: &[Window],
+) -> Result<i128, NoMemory>
+    requires { CanBound (segments_of scene.now.film) windows.now }
+    ensures value { IfOk result (λ b. b ≡ bound_of scene.now windows.now) }
+    ensures bounds { IfOk result (λ b. (rungs : List ℕ)
+        → AreRungs scene.now (segments_of scene.now.film) rungs
+        → task_value scene.now rungs ≤ℤ b) }
+    // It isn't too low to be spelled in a certificate, and without windows not too high.
+    ensures low { IfOk result (λ b. (pos 0 -ℤ pos (10 ^ score_digits)) <ℤ b) }
+    ensures none { windows.now ≡ [] → IfOk result (λ b. b <ℤ pos (10 ^ score_digits)) }
+    ensures task { IsTask scene.now }
+{
+    let count = rungs(scene);
+    let parts = list_parts(alloc, scene, windows)?;
+    let mut best = bound_on(alloc, scene, windows, 0, parts[0])?;
+    for rung in 1..count {
+        let next = bound_on(alloc, scene, windows, rung, parts[rung as usize])?;
+        best = best.max(next);
+    }
+    Ok(rounded_up(best))
+}
