@@ -19,11 +19,6 @@ pub record IsKept (g : Task) (segment : ℕ) (k : Kept) : Type 0 where
   pub rung : k.rung < rungs_of g.film
   pub reach : IsInReach segment k.label
 
--- labels that are kept of a segment
-pub record AreKept (g : Task) (segment : ℕ) (kept : List Kept) : Type 0 where
-  pub few : length kept ≤ 512
-  pub each : All (IsKept g segment) kept
-
 -- labels of segments, on rungs of the film
 abbrev pub AreOnRungs : Task → List Layer → Type 0
 AreOnRungs g layers = All (λ (l : Layer). All (λ (k : Kept). k.rung < rungs_of g.film) l.kept.items) layers

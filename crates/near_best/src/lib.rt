@@ -13,7 +13,4 @@ mod stalls;
 mod windows;
 mod worth;
 
-pub use near::{NearBest, near_best};
-
-#[cfg(test)]
-mod tests;
+pub use near::near_best;

@@ -1,10 +1,10 @@
 //! A good rung list: of the labels on a rung that come about as long before they are played, the best is kept.
 
-ghost use Rattle.std.specs.Prelude.{◌≡◌, ℕ, ◌-◌, ◌<◌, ◌≤◌, IfOk, IfSome, List, length};
+ghost use Rattle.std.specs.Prelude.{◌≡◌, ◌-◌, ◌<◌, ◌≤◌, IfOk, OnOk, length};
 ghost use Rattle.std.specs.List.{All};
 ghost use Rattle.lab_model.specs.Film.{rungs_of, segments_of};
-ghost use Rattle.labels.specs.Labels.{AreRungs, start_label, next_label};
-ghost use Rattle.near_best.specs.Kept.{AreKept, AreOnRungs, IsInReach, IsKept};
+ghost use Rattle.labels.specs.Labels.{AreRungs};
+ghost use Rattle.near_best.specs.Kept.{AreOnRungs, IsInReach, IsKept};
 ghost use Rattle.near_best.specs.Prices.{IsForEach, IsForEachEdge};
 
 use crate::demand::PRICE_UNIT;
@@ -111,7 +111,7 @@ fn kept_of(
 
 /// The labels of segment 0.
 fn first_labels(alloc: Global, scene: &Scene<'_>, guide: &Guide) -> Result<Vec<Kept>, AllocError>
-    ensures { IfOk result (λ v. AreKept scene.now 0 v.items) }
+    ensures { IfOk result (λ v. All (IsKept scene.now 0) v.items) }
 {
     prove!(scene.film().segments() > 0);
     let count = scene.film().rungs();
@@ -123,61 +123,101 @@ fn first_labels(alloc: Global, scene: &Scene<'_>, guide: &Guide) -> Result<Vec<K
     Ok(labels)
 }
 
-/// Whether a label comes to more than what is in its place.
-fn is_better(old: &Option<Kept>, kept: Kept) -> bool {
-    match old {
-        None => true,
-        Some(other) => kept.worth > other.worth,
-    }
+/// The successor of a label that is kept, on a rung.
+fn kept_behind(
+    scene: &Scene<'_>,
+    guide: &Guide,
+    segment: u16,
+    old: Kept,
+    number: usize,
+    rung: u8,
+) -> Kept
+    requires segment { (1 ≤ segment) × (segment < segments_of scene.now.film) }
+    requires old { IsKept scene.now (segment - 1) old }
+    requires rung { rung < rungs_of scene.now.film }
+    ensures { IsKept scene.now segment result }
+{
+    let label = next_on(scene, segment, old.rung, old.label, rung);
+    kept_of(scene, guide, segment, label, rung, number)
 }
 
-/// The best labels of a segment on a rung, in their places, by those of the segment before.
-fn labels_on(
+/// Keeps the successor of a label on a rung, unless the one that is kept in its place comes to no less.
+fn keep_behind(
     scene: &Scene<'_>,
+    guide: &Guide,
+    segment: u16,
+    before: &[Kept],
+    number: usize,
+    rung: u8,
+    labels: &mut Vec<Kept>,
+    numbers: &mut [usize; 32],
+) -> Result<(), AllocError>
+    requires segment { (1 ≤ segment) × (segment < segments_of scene.now.film) }
+    requires before { All (IsKept scene.now (segment - 1)) before.now }
+    requires number { number < length before.now }
+    requires rung { rung < rungs_of scene.now.film }
+    requires labels { All (IsKept scene.now segment) labels.old.items }
+    ensures { OnOk result (All (IsKept scene.now segment) labels.new.items) }
+{
+    let kept = kept_behind(scene, guide, segment, before[number], number, rung);
+    let place = place_of(scene, segment, kept.label);
+    let old = numbers[place];
+    if old >= labels.len() {
+        numbers[place] = labels.len();
+        labels.push(kept)?;
+    } else if kept.worth > labels[old].worth {
+        labels[old] = kept;
+    }
+    Ok(())
+}
+
+/// Adds the best labels of a segment on a rung, by those of the segment before.
+fn add_labels(
+    scene: &Scene<'_>,
+    guide: &Guide,
     segment: u16,
     before: &[Kept],
     rung: u8,
-    guide: &Guide,
-) -> [Option<Kept>; 32]
+    labels: &mut Vec<Kept>,
+) -> Result<(), AllocError>
     requires segment { (1 ≤ segment) × (segment < segments_of scene.now.film) }
-    requires before { AreKept scene.now (segment - 1) before.now }
+    requires before { All (IsKept scene.now (segment - 1)) before.now }
     requires rung { rung < rungs_of scene.now.film }
-    ensures { All (λ o. IfSome o (IsKept scene.now segment)) result }
+    requires labels { All (IsKept scene.now segment) labels.old.items }
+    ensures { OnOk result (All (IsKept scene.now segment) labels.new.items) }
 {
-    let mut places: [Option<Kept>; 32] = [None; 32];
+    let mut numbers = [usize::MAX; 32];
     for number in 0..before.len() {
-        let old = before[number];
-        let label = next_on(scene, segment, old.rung, old.label, rung);
-        let kept = kept_of(scene, guide, segment, label, rung, number);
-        let place = place_of(scene, segment, label);
-        if is_better(&places[place], kept) {
-            places[place] = Some(kept);
-        }
+        keep_behind(
+            scene,
+            guide,
+            segment,
+            before,
+            number,
+            rung,
+            labels,
+            &mut numbers,
+        )?;
     }
-    places
+    Ok(())
 }
 
 /// The labels of a segment, by those of the segment before.
 fn next_labels(
     alloc: Global,
     scene: &Scene<'_>,
+    guide: &Guide,
     segment: u16,
     before: &[Kept],
-    guide: &Guide,
 ) -> Result<Vec<Kept>, AllocError>
     requires segment { (1 ≤ segment) × (segment < segments_of scene.now.film) }
-    requires before { AreKept scene.now (segment - 1) before.now }
-    ensures { IfOk result (λ v. AreKept scene.now segment v.items) }
+    requires before { All (IsKept scene.now (segment - 1)) before.now }
+    ensures { IfOk result (λ v. All (IsKept scene.now segment) v.items) }
 {
     let count = scene.film().rungs();
     let mut labels = Vec::new(alloc);
     for rung in 0..count {
-        let places = labels_on(scene, segment, before, rung, guide);
-        for place in 0..PLACES {
-            if let Some(kept) = places[place] {
-                labels.push(kept)?;
-            }
-        }
+        add_labels(scene, guide, segment, before, rung, &mut labels)?;
     }
     Ok(labels)
 }
@@ -191,7 +231,7 @@ fn all_labels(alloc: Global, scene: &Scene<'_>, guide: &Guide) -> Result<Vec<Lay
     let mut layers = Vec::new(alloc);
     let mut last = first_labels(alloc, scene, guide)?;
     for segment in 1..count {
-        let next = next_labels(alloc, scene, segment, &last, guide)?;
+        let next = next_labels(alloc, scene, guide, segment, &last)?;
         layers.push(Layer { kept: last })?;
         last = next;
     }

@@ -1,9 +1,8 @@
 //! From prices of segments to windows.
 
-ghost use Rattle.std.specs.Prelude.{◌≡◌, ℕ, ◌+◌, ◌<◌, ◌≤◌, IfOk, OnOk, length};
+ghost use Rattle.std.specs.Prelude.{◌≡◌, ◌+◌, ◌<◌, ◌≤◌, IfOk, length};
 ghost use Rattle.lab_model.specs.Film.{segments_of};
-ghost use Rattle.price_bounds.specs.Windows.{most_price};
-ghost use Rattle.near_best.specs.Prices.{AreBehind, AreInOrder, IsForEach, IsForEachEdge};
+ghost use Rattle.near_best.specs.Prices.{IsForEach, IsForEachEdge};
 
 use crate::demand::MOST_PRICE;
 use crate::link::{begin_of, end_of};
@@ -39,35 +38,24 @@ pub fn shared_prices(
     Ok(shared)
 }
 
-/// Adds a window in range that comes behind all others, where it has a price and there is room for it.
-#[tactic(auto, using(crate::proofs::Ordered::behind_later, crate::proofs::Ordered::behind_push))]
-fn add_window(windows: &mut Vec<Window>, window: Window) -> Result<(), AllocError>
-    requires segments { (1 ≤ window.first) × (window.first ≤ window.last) }
-    requires price { window.price ≤ most_price }
-    ensures { OnOk result ((segments : ℕ) → window.last < segments
-        → AreBehind segments window.first window.last windows.old.items
-        → AreBehind segments window.first (window.last + 1) windows.new.items) }
-{
-    if window.price == 0 || windows.len() >= MOST_WINDOWS {
-        return Ok(());
+/// Adds a window, where it has a price and there is room for it.
+fn add_window(windows: &mut Vec<Window>, window: Window) -> Result<(), AllocError> {
+    if window.price > 0 && windows.len() < MOST_WINDOWS {
+        windows.push(window)?;
     }
-    windows.push(window)?;
     Ok(())
 }
 
 /// Adds the windows that begin with a segment.
-#[tactic(auto, using(crate::proofs::Ordered::behind_next))]
 fn add_windows(
     windows: &mut Vec<Window>,
     prices: &[u64],
     shared: &[u64],
     first: usize,
 ) -> Result<(), AllocError>
-    requires first { (1 ≤ first) × (first < length prices.now) }
     requires few { length prices.now ≤ 2000 }
+    requires first { first < length prices.now }
     requires shared { length shared.now ≡ length prices.now + 1 }
-    requires windows { AreBehind (length prices.now) first first windows.old.items }
-    ensures { OnOk result (AreBehind (length prices.now) (first + 1) (first + 1) windows.new.items) }
 {
     let floor = shared[first];
     let mut level = prices[first].min(MOST_PRICE);
@@ -88,7 +76,6 @@ fn add_windows(
 pub fn windows_of(alloc: Global, prices: &[u64], shared: &[u64]) -> Result<Vec<Window>, AllocError>
     requires few { length prices.now ≤ 2000 }
     requires shared { length shared.now ≡ length prices.now + 1 }
-    ensures { IfOk result (λ v. AreInOrder (length prices.now) v.items) }
 {
     let mut windows = Vec::new(alloc);
     for first in 1..prices.len() {
