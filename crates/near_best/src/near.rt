@@ -76,6 +76,8 @@ pub fn near_best(alloc: Global, scene: &Scene<'_>) -> Result<PriceCertificate, N
     ensures valid { IfOk result (λ c. IsValid scene.now (price_parts c)) }
     ensures score { IfOk result (λ c. HasSignedDigits score_digits c.score) }
     ensures bound { IfOk result (λ c. HasSignedDigits score_digits c.bound) }
+    // The bound is that of its own windows.
+    ensures exact { IfOk result (λ c. c.bound ≡ bound_of scene.now c.windows.items) }
 {
     let film = scene.film();
     let found = found_near(alloc, scene)?;
