@@ -135,7 +135,7 @@ was_planned line files grid i n old new e p one t h s =
     let c = p.command in
     let d = done_by line old new e h s c files p.asked t in
     let o = options_of c in
-    let x = about_ok (plan o) c files d.answer (by_planning d.choice false c files d.answer p.verb p.by_labels d.gives) in
+    let x = about_ok (plan o) c files d.answer (by_planning h.ends.choice false c files d.answer p.verb p.by_labels d.gives) in
     let same : x.0 ≡ i = ok_same (inputs_of c files) x.0 i x.1 p.read in
     let answered : plan o i ≡ Ok d.answer = subst (λ j. plan o j ≡ Ok d.answer) same x.2 in
     let y = planned_ok o i n d.answer one answered in
@@ -153,7 +153,7 @@ was_planned line files grid i n old new e p one t h s =
       fits = subst (λ d. IfSome d IsGrid) p.on_grid own;
       task = is;
       form = subst (λ d. IsGapCertificate (claim_on d g)) p.on_grid (has_text o.grid g own is few);
-      text = ap text_in (outcome_asked no_choice line c files p.asked ∙ plan_answered c files d.answer p.verb p.by_labels d.choice d.gives) ∙ sym said ∙ ap (λ d. claim_text (is_some d) (claim_on d g)) p.on_grid;
+      text = ap text_in (outcome_asked no_choice line c files p.asked ∙ plan_answered c files d.answer p.verb p.by_labels h.ends.choice d.gives) ∙ sym said ∙ ap (λ d. claim_text (is_some d) (claim_on d g)) p.on_grid;
     }
 
 -- `check` says yes to what a run of `plan --as-certificate` printed

@@ -42,26 +42,26 @@ use Rattle.abrlab_top.specs.declared.ending.Ending.TheVariants as ending
 use Rattle.abrlab_top.specs.Ahead.{ahead_of}
 use Rattle.abrlab_top.specs.Answer.{Answer, Outcome, printed, unless_stopped}
 use Rattle.abrlab_top.specs.Check.{check, check_on, claim_in, told_verdict, verdict_ending, verdict_text}
-use Rattle.abrlab_top.specs.Choice.{Choice, ChosenOver}
+use Rattle.abrlab_top.specs.Choice.{Choice, ChosenOver, HasText}
+use Rattle.abrlab_top.specs.Ending.{Told}
 use Rattle.abrlab_top.specs.Claim.{claim_of}
 use Rattle.abrlab_top.specs.Ending.{status_of}
-use Rattle.abrlab_top.specs.Outcome.{about, answer_by, answer_of, checking, comparison, named_files, outcome, outcome_by, planning}
+use Rattle.abrlab_top.specs.Outcome.{about, answer_by, answer_of, checking, comparison, manner_in, named_files, outcome, outcome_by, planning}
 use Rattle.abrlab_top.specs.Plan.{PlanAsked, bound_on, certificate_on, chains_on, grid_in, labels_on, options_of, plan, plan_on, plan_text, planned_on, spent_on, task_on, unless_spent}
 use Rattle.abrlab_top.specs.Players.{simulate_by}
 use Rattle.abrlab_top.specs.Proves.{Headline, IsBest, IsPlain, IsSession, IsYes, PlansTheBest, Proves, SaysYesSoundly, Simulates}
-use Rattle.abrlab_top.specs.Runs.{Runs, World}
+use Rattle.abrlab_top.specs.Runs.{Ends, Runs, World}
 use Rattle.abrlab_top.specs.Simulate.{case_on, session_on, simulate, simulate_on}
 use Rattle.abrlab_top.proofs.Certified.{bound_holds, has_text, own_score, within_budget}
 use Rattle.abrlab_top.proofs.Claims.{claim_fits, claim_form, own_claim}
 use Rattle.abrlab_top.proofs.Options.{grid_fits, no_grid}
-use Rattle.abrlab_top.proofs.Statuses.{statuses, tells_named}
+use Rattle.abrlab_top.proofs.Statuses.{stop_range, tells_named}
 
 -- ---- a run that answered 0
 
--- a command that answered, whose text went out whole
-pub record DoneBy (c : CommandWords) (files : Files) (old new : World) : Type 0 where
+-- a command that answered by this choice, whose text went out whole
+pub record DoneBy (c : CommandWords) (files : Files) (old new : World) (choice : Choice) : Type 0 where
   pub limits : IsWithinLimits c
-  pub choice : Choice
   pub chosen : ChosenOver (Some c) choice files
   pub answer : Answer
   pub gives : answer_of choice c files ≡ Ok answer
@@ -73,21 +73,30 @@ pub record DoneBy (c : CommandWords) (files : Files) (old new : World) : Type 0 
 pub outcome_asked : (choice : Choice) (line : List Text) (c : CommandWords) (files : Files) → command_of line ≡ Some c → outcome choice line files ≡ answer_of choice c files
 outcome_asked choice line c files e = ap (λ o. outcome_by choice o files) e
 
+-- a run that answered 0 was done
+done_ending : (e : Ending) → status_of e ≡ 0 → e ≡ ending.Done
+done_ending ending.Done s = refl
+done_ending (ending.Stopped why) s = let k = (stop_range why).0 in absurd (omega arith)
+done_ending e s = absurd (omega arith)
+
 -- a run of such words that answered 0
-pub done_by : (line : List Text) (old new : World) (e : Ending) → Runs line old e new → status_of e ≡ 0 → (c : CommandWords) (files : Files) → command_of line ≡ Some c → Tells old.shelf files → DoneBy c files old new
+pub done_by : (line : List Text) (old new : World) (e : Ending) (h : Runs line old e new) → status_of e ≡ 0 → (c : CommandWords) (files : Files) → command_of line ≡ Some c → Tells old.shelf files → DoneBy c files old new h.ends.choice
 done_by line old new e h s c files asked t =
-    let d = (statuses line old e new h).done s in
-    let choice = d.ends.choice in
-    let a = d.ends.came.comes files (tells_named (named_files line) old.shelf files t) in
+    let choice = h.ends.choice in
+    let is = done_ending e s in
+    let came : Ends (named_files line) (manner_in (command_of line)) (outcome choice line) old.shelf old.out ending.Done new.shelf new.out =
+    subst (λ x. Ends (named_files line) (manner_in (command_of line)) (outcome choice line) old.shelf old.out x new.shelf new.out) is h.ends.came
+    in
+    let told : new.err ≡ old.err = subst (λ x. Told old.err x new.err) is h.err in
+    let a = came.comes files (tells_named (named_files line) old.shelf files t) in
     record {
       limits = command_within line c asked;
-      choice = choice;
-      chosen = subst (λ o. ChosenOver o choice files) asked (d.ends.chosen files t tt);
+      chosen = subst (λ o. ChosenOver o choice files) asked (h.ends.chosen files t (subst HasText (sym is) tt));
       answer = a.0;
       gives = sym (outcome_asked choice line c files asked) ∙ a.1;
       ending = a.2.0;
       out = a.2.1;
-      err = d.err;
+      err = told;
     }
 
 -- what a command answered, by its verb
@@ -163,7 +172,7 @@ simulating choice several c files a v players h = subst (λ b. about (simulate_b
 pub simulates : (line : List Text) (old new : World) (e : Ending) (r : ℕ) → Runs line old e new → r ≡ status_of e → Simulates line old r new
 simulates line old new e r h k c files asked v one t s =
     let d = done_by line old new e h (sym k ∙ s) c files asked t in
-    let x = about_ok simulate c files d.answer (simulating d.choice false c files d.answer v one d.gives) in
+    let x = about_ok simulate c files d.answer (simulating h.ends.choice false c files d.answer v one d.gives) in
     let counts = counts_of c verb.Simulate d.limits v in
     let held = inputs_counted c files x.0 x.1 in
     let network = one_of x.0.networks (held.0 ∙ counts.0) in
@@ -256,7 +265,7 @@ pub plans_the_best : (line : List Text) (old new : World) (e : Ending) (r : ℕ)
 plans_the_best line old new e r h k c files asked v labels t s =
     let d = done_by line old new e h (sym k ∙ s) c files asked t in
     let o = options_of c in
-    let x = about_ok (plan o) c files d.answer (by_planning d.choice false c files d.answer v labels d.gives) in
+    let x = about_ok (plan o) c files d.answer (by_planning h.ends.choice false c files d.answer v labels d.gives) in
     let counts = counts_of c verb.Plan d.limits v in
     let network = one_of x.0.networks ((inputs_counted c files x.0 x.1).0 ∙ counts.0) in
     let y = planned_ok o x.0 network.0 d.answer network.1 x.2 in
@@ -297,7 +306,7 @@ is_yes (No clause segment rung label) e = cc
 pub says_yes_soundly : (line : List Text) (old new : World) (e : Ending) (r : ℕ) → Runs line old e new → r ≡ status_of e → SaysYesSoundly line old r new
 says_yes_soundly line old new e r h k c files asked v labels t s =
     let d = done_by line old new e h (sym k ∙ s) c files asked t in
-    let x = about_ok (check c.gap) c files d.answer (by_checking d.choice false c files d.answer v labels d.gives) in
+    let x = about_ok (check c.gap) c files d.answer (by_checking h.ends.choice false c files d.answer v labels d.gives) in
     let counts = counts_of c verb.Check d.limits v in
     let network = one_of x.0.networks ((inputs_counted c files x.0 x.1).0 ∙ counts.0) in
     let y = checked_ok c.gap x.0 network.0 d.answer network.1 x.2 in

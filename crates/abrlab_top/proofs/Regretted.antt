@@ -102,7 +102,7 @@ ranked_by c files i limits v regrets read fits =
 pub tells_regrets : (line : List Text) (old new : World) (e : Ending) (r : ℕ) → Runs line old e new → r ≡ status_of e → TellsRegrets line old r new
 tells_regrets line old new e r h k c files asked v regrets near t s =
     let d = done_by line old new e h (sym k ∙ s) c files asked t in
-    let x = about_ok (regret c.budget) c files d.answer (by_regrets d.choice false c files d.answer v regrets near d.gives) in
+    let x = about_ok (regret c.budget) c files d.answer (by_regrets h.ends.choice false c files d.answer v regrets near d.gives) in
     let i = x.0 in
     let y = regretted_ok c.budget i d.answer x.2 in
     let by = ranked_by c files i d.limits v regrets x.1 y.0 in
@@ -119,18 +119,18 @@ tells_regrets line old new e r h k c files asked v regrets near t s =
 pub bounds_regrets : (line : List Text) (old new : World) (e : Ending) (r : ℕ) → Runs line old e new → r ≡ status_of e → BoundsRegrets line old r new
 bounds_regrets line old new e r h k c files asked v regrets near t s =
     let d = done_by line old new e h (sym k ∙ s) c files asked t in
-    let x = about_ok (near_regret d.choice.bounds) c files d.answer (by_regrets d.choice true c files d.answer v regrets near d.gives) in
+    let x = about_ok (near_regret h.ends.choice.bounds) c files d.answer (by_regrets h.ends.choice true c files d.answer v regrets near d.gives) in
     let i = x.0 in
-    let y = bounded_ok d.choice.bounds i d.answer x.2 in
+    let y = bounded_ok h.ends.choice.bounds i d.answer x.2 in
     let by = ranked_by c files i d.limits v regrets x.1 y.0 in
-    let chosen : ChosenBy verb.Compare c d.choice i = subst (λ w. ChosenBy w c d.choice i) v (d.chosen i x.1) in
+    let chosen : ChosenBy verb.Compare c h.ends.choice i = subst (λ w. ChosenBy w c h.ends.choice i) v (d.chosen i x.1) in
     let bounds = chosen regrets near in
     record {
       inputs = i;
       read = ready_by c files i x.1 y.0;
-      bounds = d.choice.bounds;
+      bounds = h.ends.choice.bounds;
       are = bounds;
-      behind = λ k rule low. rule_behind i d.choice.bounds _ by.tasks bounds (by.rules k rule low) by.off;
+      behind = λ k rule low. rule_behind i h.ends.choice.bounds _ by.tasks bounds (by.rules k rule low) by.off;
       out = subst (λ (a : Answer). Grew old.out.written a.text new.out.written) (sym y.1) d.out;
       err = d.err;
     }

@@ -75,7 +75,7 @@ one_alone j rule is one =
 pub plays_jointly : (line : List Text) (old new : World) (e : Ending) (r : ℕ) → Runs line old e new → r ≡ status_of e → PlaysJointly line old r new
 plays_jointly line old new e r h k c files asked v several t s =
     let d = done_by line old new e h (sym k ∙ s) c files asked t in
-    let x = about_ok play_jointly c files d.answer (simulating d.choice true c files d.answer v several d.gives) in
+    let x = about_ok play_jointly c files d.answer (simulating h.ends.choice true c files d.answer v several d.gives) in
     let counts = counts_of c verb.Simulate d.limits v in
     let held = inputs_counted c files x.0 x.1 in
     let network = one_of x.0.networks (held.0 ∙ counts.0) in

@@ -25,22 +25,26 @@ most_bytes = 536870912
 
 -- ---- numbers
 
-digits_short : (k n : ℕ) → 1 ≤ k → k ≤ 24 → HasDigits k n → length (decimal n) ≤ k
+-- a number of so many digits is no longer
+pub digits_short : (k n : ℕ) → 1 ≤ k → k ≤ 24 → HasDigits k n → length (decimal n) ≤ k
 digits_short k n some few low = length-decimal-le_wide k n some low (wide k few low)
   where
     wide : (k : ℕ) → k ≤ 24 → n < 10 ^ k → n < 10 ^ 64
     wide k few low = let more : 10 ^ k ≤ 10 ^ 64 = pow-le-pow_right (omega arith) {i = k} {j = 64} (omega (arith, few)) in omega (arith, low, more)
 
-signed_short : (k : ℕ) (z : ℤ) → 1 ≤ k → k ≤ 24 → HasSignedDigits k z → length (signed_decimal z) ≤ k + 1
+-- the same behind a sign
+pub signed_short : (k : ℕ) (z : ℤ) → 1 ≤ k → k ≤ 24 → HasSignedDigits k z → length (signed_decimal z) ≤ k + 1
 signed_short k (pos n) some few h = let low : n < 10 ^ k = grind (arith, ints, h.1) in let l = digits_short k n some few low in omega (arith, l)
 signed_short k (negsuc n) some few h = let low : suc n < 10 ^ k = grind (arith, ints, h.0) in let l = digits_short k (suc n) some few low in omega (arith, l)
 
 -- ---- lines
 
-one_field : (f : Text) (fs : List Text) → length (later_fields (f ∷ fs)) ≡ 1 + length f + length (later_fields fs)
+-- a field that follows takes a space and its bytes
+pub one_field : (f : Text) (fs : List Text) → length (later_fields (f ∷ fs)) ≡ 1 + length f + length (later_fields fs)
 one_field f fs = let e = length-append f (later_fields fs) in omega (arith, e)
 
-first_field : (f : Text) (fs : List Text) → length (fields_line (f ∷ fs)) ≡ length f + length (later_fields fs)
+-- the first field takes its bytes
+pub first_field : (f : Text) (fs : List Text) → length (fields_line (f ∷ fs)) ≡ length f + length (later_fields fs)
 first_field f fs = length-append f (later_fields fs)
 
 numbers_short : (k : ℕ) (ns : List ℕ) → 1 ≤ k → k ≤ 24 → All (HasDigits k) ns → length (later_fields (map decimal ns)) ≤ 1 + length ns * (k + 1)
@@ -51,10 +55,12 @@ numbers_short k (n ∷ ns) some few h =
     let e = one_field (decimal n) (map decimal ns) in
     omega (arith, own, rest, e)
 
-lines_more : (l : List Text) (ls : List (List Text)) → length (lines_text (l ∷ ls)) ≡ length (fields_line l) + length (lines_text ls)
+-- a line more
+pub lines_more : (l : List Text) (ls : List (List Text)) → length (lines_text (l ∷ ls)) ≡ length (fields_line l) + length (lines_text ls)
 lines_more l ls = length-append (fields_line l) (lines_text ls)
 
-lines_both : (ls ms : List (List Text)) → length (lines_text (ls ++ ms)) ≡ length (lines_text ls) + length (lines_text ms)
+-- lines and those behind them
+pub lines_both : (ls ms : List (List Text)) → length (lines_text (ls ++ ms)) ≡ length (lines_text ls) + length (lines_text ms)
 lines_both [] ms = omega arith
 lines_both (l ∷ ls) ms =
     let one = lines_more l (ls ++ ms) in
@@ -138,21 +144,24 @@ table_short : (table : Bool) → length (lines_text (table_lines table)) ≤ 16
 table_short true = omega arith
 table_short false = omega arith
 
-count_short : (word : Text) (n : ℕ) → HasDigits 7 n → length (fields_line (word ∷ decimal n ∷ [])) ≤ length word + 9
+-- the line of a count
+pub count_short : (word : Text) (n : ℕ) → HasDigits 7 n → length (fields_line (word ∷ decimal n ∷ [])) ≤ length word + 9
 count_short word n h =
     let d = digits_short 7 n (omega arith) (omega arith) h in
     let a = first_field word (decimal n ∷ []) in
     let b = one_field (decimal n) [] in
     omega (arith, d, a, b)
 
-score_short : (z : ℤ) → HasSignedDigits 24 z → length (fields_line (codes "score" ∷ signed_decimal z ∷ [])) ≤ 32
+-- the line of a score
+pub score_short : (z : ℤ) → HasSignedDigits 24 z → length (fields_line (codes "score" ∷ signed_decimal z ∷ [])) ≤ 32
 score_short z h =
     let d = signed_short 24 z (omega arith) (omega arith) h in
     let a = first_field (codes "score") (signed_decimal z ∷ []) in
     let b = one_field (signed_decimal z) [] in
     omega (arith, d, a, b)
 
-list_short : (word : Text) (k : ℕ) (ns : List ℕ) → 1 ≤ k → k ≤ 24 → All (HasDigits k) ns → length (fields_line (word ∷ map decimal ns)) ≤ length word + 1 + length ns * (k + 1)
+-- the line of a list of numbers
+pub list_short : (word : Text) (k : ℕ) (ns : List ℕ) → 1 ≤ k → k ≤ 24 → All (HasDigits k) ns → length (fields_line (word ∷ map decimal ns)) ≤ length word + 1 + length ns * (k + 1)
 list_short word k ns some few h =
     let d = numbers_short k ns some few h in
     let a = first_field word (map decimal ns) in
@@ -209,7 +218,8 @@ spelling_short c form =
 pub spelling_fits : (c : CertificateParts) → IsCertificate c → length (spelling c) ≤ most_bytes
 spelling_fits c form = let l = spelling_short c form in omega (arith, l)
 
-bound_short : (z : ℤ) → HasSignedDigits 24 z → length (fields_line (fields_of bound_line (z, tt))) ≤ 32
+-- the line of a bound
+pub bound_short : (z : ℤ) → HasSignedDigits 24 z → length (fields_line (fields_of bound_line (z, tt))) ≤ 32
 bound_short z h =
     let d = signed_short 24 z (omega arith) (omega arith) h in
     let a = first_field (codes "bound") (signed_decimal z ∷ []) in

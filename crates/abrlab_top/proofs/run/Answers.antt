@@ -2,7 +2,8 @@ use Rattle.std.proofs.Common.{map, string_bytes}
 use Rattle.abrlab_top.specs.Runs.{Runs, world}
 use Rattle.abrlab_top.proofs.Proved.{headline, plans_the_best, says_yes_soundly, simulates}
 use Rattle.abrlab_top.proofs.Together.{plays_jointly}
-use Rattle.abrlab_top.proofs.Regretted.{tells_regrets}
+use Rattle.abrlab_top.proofs.NearProved.{bounds_the_best, says_yes_by_prices}
+use Rattle.abrlab_top.proofs.Regretted.{bounds_regrets, tells_regrets}
 use Rattle.abrlab_top.proofs.run.Goals as goal
 
 pub returns-clause-runs : goal.returns-clause-runs
@@ -46,5 +47,23 @@ returns-clause-headline g c =
 pub returns-clause-regrets : goal.returns-clause-regrets
 returns-clause-regrets g c =
     tells_regrets (map string_bytes c.args.words.now) (world (g.F.Shelf.shelved c.args.shelf.now) (g.O.Sink.seen c.args.out.now) (g.E.Sink.seen c.args.err.now))
+    (world (g.F.Shelf.shelved c.run_command-ending.new.shelf) (g.O.Sink.seen c.run_command-ending.new.out) (g.E.Sink.seen c.tell.new.err)) c.run_command-ending.result c.status.result
+    (record { words = c.run_command-ending.ensures.words; ends = c.run_command-ending.ensures.ends; err = c.tell.ensures }) c.status.ensures
+
+pub returns-clause-bounds : goal.returns-clause-bounds
+returns-clause-bounds g c =
+    bounds_the_best (map string_bytes c.args.words.now) (world (g.F.Shelf.shelved c.args.shelf.now) (g.O.Sink.seen c.args.out.now) (g.E.Sink.seen c.args.err.now))
+    (world (g.F.Shelf.shelved c.run_command-ending.new.shelf) (g.O.Sink.seen c.run_command-ending.new.out) (g.E.Sink.seen c.tell.new.err)) c.run_command-ending.result c.status.result
+    (record { words = c.run_command-ending.ensures.words; ends = c.run_command-ending.ensures.ends; err = c.tell.ensures }) c.status.ensures
+
+pub returns-clause-price_checks : goal.returns-clause-price_checks
+returns-clause-price_checks g c =
+    says_yes_by_prices (map string_bytes c.args.words.now) (world (g.F.Shelf.shelved c.args.shelf.now) (g.O.Sink.seen c.args.out.now) (g.E.Sink.seen c.args.err.now))
+    (world (g.F.Shelf.shelved c.run_command-ending.new.shelf) (g.O.Sink.seen c.run_command-ending.new.out) (g.E.Sink.seen c.tell.new.err)) c.run_command-ending.result c.status.result
+    (record { words = c.run_command-ending.ensures.words; ends = c.run_command-ending.ensures.ends; err = c.tell.ensures }) c.status.ensures
+
+pub returns-clause-near_regrets : goal.returns-clause-near_regrets
+returns-clause-near_regrets g c =
+    bounds_regrets (map string_bytes c.args.words.now) (world (g.F.Shelf.shelved c.args.shelf.now) (g.O.Sink.seen c.args.out.now) (g.E.Sink.seen c.args.err.now))
     (world (g.F.Shelf.shelved c.run_command-ending.new.shelf) (g.O.Sink.seen c.run_command-ending.new.out) (g.E.Sink.seen c.tell.new.err)) c.run_command-ending.result c.status.result
     (record { words = c.run_command-ending.ensures.words; ends = c.run_command-ending.ensures.ends; err = c.tell.ensures }) c.status.ensures

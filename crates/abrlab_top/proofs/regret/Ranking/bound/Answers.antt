@@ -11,7 +11,7 @@ pub returns-clause-bound : goal.returns-clause-bound
 returns-clause-bound c =
     let i = c.args.self.now.inputs in
     let task = task_seen i c.inputs-inputs.result.now c.args.clock.now c.manifest-film.result.now c.setup-setup.result.now c.media_ahead.result c.inputs-inputs.ensures.value c.manifest-film.ensures c.setup-setup.ensures c.media_ahead.ensures.value in
-    certificate_bounds _ _ _ c.new-scene.ensures.value task c.new-scene.ensures.task c.in_ok-near_best.ensures.valid c.in_ok-near_best.ensures.bound
+    certificate_bounds _ _ _ _ c.new-scene.ensures.value task c.new-scene.ensures.task c.in_ok-near_best.ensures.valid c.in_ok-near_best.ensures.bound
 
 pub returns-clause-task : goal.returns-clause-task
 returns-clause-task c =
