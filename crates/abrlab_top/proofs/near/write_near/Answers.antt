@@ -9,7 +9,7 @@ use Rattle.abrlab_top.specs.Near.{near_plan, near_text}
 use Rattle.abrlab_top.specs.Plan.{task_on}
 use Rattle.abrlab_top.specs.Stages.{at_the_end}
 use Rattle.abrlab_top.proofs.Chosen.{near_of_none, near_on, near_unwritten}
-use Rattle.abrlab_top.proofs.Near.{found_near, near_stopped, near_told, no_near_network}
+use Rattle.abrlab_top.proofs.PriceAnswers.{found_near, near_stopped, near_told, no_near_network}
 use Rattle.abrlab_top.proofs.Plans.{task_is}
 use Rattle.abrlab_top.proofs.Whole.{all_settled, exit, none_there, nothing_printed, put_done, put_failed, settings_stop, some_there, unsettled, wanting}
 use Rattle.abrlab_top.proofs.near.write_near.Goals as goal

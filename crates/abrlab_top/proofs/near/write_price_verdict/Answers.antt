@@ -7,7 +7,7 @@ use Rattle.price_text.specs.Reading.{prices_of}
 use Rattle.abrlab_top.specs.declared.ending.Ending.TheVariants as ending
 use Rattle.abrlab_top.specs.Near.{near_check}
 use Rattle.abrlab_top.specs.Stages.{Writes, of_a_price_check}
-use Rattle.abrlab_top.proofs.Near.{bad_prices, misfit_prices, no_check_network, price_done, price_failed, prices_told}
+use Rattle.abrlab_top.proofs.PriceAnswers.{bad_prices, misfit_prices, no_check_network, price_done, price_failed, prices_told}
 use Rattle.abrlab_top.proofs.Plans.{task_is}
 use Rattle.abrlab_top.proofs.Whole.{all_settled, exit, none_there, nothing_printed, some_there, unsettled, wanting}
 use Rattle.abrlab_top.proofs.near.write_price_verdict.Goals as goal

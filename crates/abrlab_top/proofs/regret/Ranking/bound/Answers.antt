@@ -1,6 +1,6 @@
 use Rattle.std.proofs.Common.{subst}
 use Rattle.player_core.specs.Scene.{IsTask}
-use Rattle.abrlab_top.proofs.Near.{certificate_bounds}
+use Rattle.abrlab_top.proofs.PriceAnswers.{certificate_bounds}
 use Rattle.abrlab_top.proofs.Regrets.{task_seen}
 use Rattle.abrlab_top.proofs.regret.Ranking.bound.Goals as goal
 
