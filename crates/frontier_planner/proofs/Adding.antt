@@ -1,9 +1,9 @@
 -- Nodes that are added at the end of a chain of the arena.
-use Rattle.std.proofs.Common.{◌≡◌, ◌∙◌, ℕ, zero, suc, ◌+◌, ◌-◌, ◌<◌, ◌≤◌, ◌⊎◌, inl, inr, ⊎_elim, cond, true, false, List, [], ◌∷◌, ◌++◌, Option, None, Some, length, get_or, set, map, take, refl, sym, ap, subst, arith, length-set, get_or-set_other, get_or-set_same, set-set, set-get_or}
+use Rattle.std.proofs.Common.{◌≡◌, ◌∙◌, ℕ, zero, suc, ◌+◌, ◌-◌, ◌<◌, ◌≤◌, ◌⊎◌, inl, inr, ⊎_elim, cond, true, false, List, [], ◌∷◌, ◌++◌, Option, None, Some, length, get_or, set, map, take, refl, sym, ap, subst, arith, length-set, get_or-set_other, get_or-set_same, set-set}
 use Rattle.std.specs.Prelude.{IfSome}
 use Rattle.std.specs.List.{Contains, sum_by}
 use Rattle.std.proofs.lemmas.Bool.{eq-eqb, ne_eqb, cases_eq, cond-true, cond-false}
-use Rattle.std.proofs.lemmas.List.{length-map, map-append, take_all, take_more}
+use Rattle.std.proofs.lemmas.List.{length-map, map-append, set-get_or, take_all, take_more}
 use Rattle.std.proofs.lemmas.List.Elements.{Contains-push}
 use Rattle.std.proofs.lemmas.List.Sums.{sum_by-set}
 use Rattle.lab_model.specs.declared.label.Label.{Label}
@@ -14,7 +14,7 @@ use Rattle.label_arena.proofs.Parents.{in_ids, parent_stays}
 use Rattle.labels.proofs.Walks.{at_head, at_tail, none_at}
 use Rattle.frontier_planner.specs.declared.chains.Reached.{Reached}
 use Rattle.frontier_planner.specs.declared.grow.Candidate.{Candidate}
-use Rattle.frontier_planner.specs.Linked.{AddsFrontier, Appends, HaveNodes, node_of, part_for, part_of}
+use Rattle.frontier_planner.specs.Linked.{AddsFrontier, Appends, HaveNodes, no_reached, node_of, part_for, part_of}
 
 -- ---- behind the last node
 
@@ -50,7 +50,7 @@ at_end ns last s h once =
 pub record Appending (a b : Holdings) (c : ℕ) (last : Option NodeId) (frontier : List Candidate) (before : List Reached) (i : ℕ) : Type 0 where
   pub chains : b.chains ≡ set a.chains c (linked_chain (chain_at b c).nodes false)
   pub parts : map part_of (chain_at b c).nodes ≡ map (part_for before) (take i frontier)
-  last : IsLast (chain_at b c).nodes last
+  ends : IsLast (chain_at b c).nodes last
   pub spare : b.spare + i ≡ a.spare
 
 -- the node of a label of the segment before stands in a sealed chain
@@ -58,6 +58,18 @@ pub node_sealed : (a : Holdings) (before : List Reached) (k : ℕ) → HaveNodes
 node_sealed a [] k h = tt
 node_sealed a (x ∷ xs) zero h = h x (at_head x xs)
 node_sealed a (x ∷ xs) (suc k) h = node_sealed a xs k (λ y there. h y (at_tail x xs y there))
+
+-- the node of the label at a place
+pub node_there : (before : List Reached) (k : ℕ) → k < length before → node_of before k ≡ Some (get_or before k no_reached).node
+node_there [] k low = absurd (omega (arith, low))
+node_there (x ∷ xs) zero low = refl
+node_there (x ∷ xs) (suc k) low = node_there xs k (omega (arith, low))
+
+-- and none past the last
+pub node_past : (before : List Reached) (k : ℕ) → length before ≤ k → node_of before k ≡ None
+node_past [] k late = refl
+node_past (x ∷ xs) zero late = absurd (omega (arith, late))
+node_past (x ∷ xs) (suc k) late = node_past xs k (omega (arith, late))
 
 module _ (a : Holdings) (c : ℕ) (opened : IsOpen a c) (frontier : List Candidate) (before : List Reached) where
   -- nothing was added yet
@@ -67,7 +79,7 @@ module _ (a : Holdings) (c : ℕ) (opened : IsOpen a c) (frontier : List Candida
       record {
         chains = sym (ap (set a.chains c) same ∙ set-get_or a.chains c (linked_chain [] false));
         parts = ap (map part_of) none;
-        last = inl (none, refl);
+        ends = inl (none, refl);
         spare = omega arith;
       }
 
@@ -92,7 +104,7 @@ module _ (a : Holdings) (c : ℕ) (opened : IsOpen a c) (frontier : List Candida
         let ns = (chain_at b c).nodes in
         ⊎_elim (λ (e : (ns ≡ []) × (last ≡ None)). subst (λ o. IfSome o (StandsIn b c)) (sym e.1) tt)
         (λ (e : (ms : List Standing) × (s : Standing) × (ns ≡ ms ++ s ∷ []) × (last ≡ Some s.node)).
-        subst (λ o. IfSome o (StandsIn b c)) (sym e.3) (in_ids ns e.1 (subst (λ ks. Contains ks e.1) (sym e.2) (Contains-push e.0 e.1)))) so.last
+        subst (λ o. IfSome o (StandsIn b c)) (sym e.3) (in_ids ns e.1 (subst (λ ks. Contains ks e.1) (sym e.2) (Contains-push e.0 e.1)))) so.ends
 
     -- what stood in a sealed chain stands there
     pub append_parent : (parent : Option NodeId) → HasParent a parent → HasParent b parent
@@ -106,7 +118,7 @@ module _ (a : Holdings) (c : ℕ) (opened : IsOpen a c) (frontier : List Candida
     append_more d e node label parent low sound some same from added =
         let s = standing node label parent in
         let ns = (chain_at b c).nodes in
-        let more : nodes_with last s ns ≡ ns ++ s ∷ [] = at_end ns last s so.last (sound.once c) in
+        let more : nodes_with last s ns ≡ ns ++ s ∷ [] = at_end ns last s so.ends (sound.once c) in
         let whole : e ≡ with_added c last s b = added in
         let chains : e.chains ≡ set b.chains c (linked_chain (ns ++ s ∷ []) false) = ap (λ (x : Holdings). x.chains) whole ∙ ap (λ ks. set b.chains c (linked_chain ks false)) more in
         let here : chain_at e c ≡ linked_chain (ns ++ s ∷ []) false =
@@ -120,7 +132,7 @@ module _ (a : Holdings) (c : ℕ) (opened : IsOpen a c) (frontier : List Candida
           parts = ap (map part_of) nodes ∙ map-append part_of ns (s ∷ []) ∙ ap (λ ps. ps ++ (label, parent) ∷ []) so.parts
               ∙ ap (λ p. map (part_for before) (take i frontier) ++ p ∷ []) (ap (λ l. (l, parent)) same ∙ ap (λ o. ((get_or frontier i d).label, o)) from)
               ∙ sym (map-append (part_for before) (take i frontier) (get_or frontier i d ∷ [])) ∙ ap (map (part_for before)) (sym (take_more frontier i d low));
-          last = inr (ns, s, nodes, refl);
+          ends = inr (ns, s, nodes, refl);
           spare = omega (arith, spare, old, some);
         }
 

@@ -7,7 +7,8 @@ use Rattle.std.proofs.lemmas.Simd.{map-map}
 use Rattle.std.proofs.lemmas.List.Elements.{Contains-append_cases, Contains-get_or}
 use Rattle.lab_model.specs.declared.label.Label.{Label}
 use Rattle.lab_model.specs.Film.{rungs_of, segments_of}
-use Rattle.label_arena.specs.Chains.{Holdings, LinkedChain, Standing, StandsSealed, chain_at, empty_holdings, ids_of, linked_chain}
+use Rattle.label_arena.specs.Chains.{Holdings, LinkedChain, Standing, StandsSealed, chain_at, empty_holdings, ids_of, linked_chain, steps_of}
+use Rattle.label_arena.specs.declared.walk.Step.{Step}
 use Rattle.label_arena.specs.declared.node.NodeId.{NodeId}
 use Rattle.label_arena.proofs.Parents.{in_ids}
 use Rattle.labels.specs.declared.label.Grid.{Grid}
@@ -19,9 +20,9 @@ use Rattle.labels.proofs.Counted.{by_rung_more}
 use Rattle.labels.proofs.Walks.{from_map, in_map, none_at}
 use Rattle.frontier_planner.specs.declared.chains.Reached.{Reached}
 use Rattle.frontier_planner.specs.declared.grow.Candidate.{Candidate}
-use Rattle.frontier_planner.specs.Linked.{AddsFrontier, AreBefore, AreReached, HaveNodes, HoldsAll, HoldsBelow, HoldsFrontier, HoldsSegment, IsLinked, StandsAt, labels_held, no_reached, node_of, pair_of, part_for, part_of, reached_in}
+use Rattle.frontier_planner.specs.Linked.{AddsFrontier, AreBefore, AreReached, HaveNodes, HoldsAll, HoldsBelow, HoldsFrontier, HoldsSegment, IsLinked, StandsAt, labels_held, no_reached, node_of, pair_of, part_for, part_of, reached_in, step_reached}
 use Rattle.frontier_planner.specs.Parents.{HaveParents, labels_in}
-use Rattle.frontier_planner.proofs.Adding.{added_count, added_sealed, others_stay}
+use Rattle.frontier_planner.proofs.Adding.{added_count, added_sealed, node_there, others_stay}
 
 -- ---- numbers of chains
 
@@ -116,6 +117,9 @@ pub pairs_in : (q : ℕ) (ns : List Standing) → map pair_of (reached_in q ns) 
 pairs_in q [] = refl
 pairs_in q (s ∷ ns) = ap (λ ps. (q, s.label) ∷ ps) (pairs_in q ns)
 
+abbrev own : ℕ → Standing → Reached
+own q s = record { rung = q; label = s.label; node = s.node }
+
 module _ (d : Grid) (g : Task) (a : Holdings) (segment : ℕ) where
   -- no rungs have no labels
   pub reached_none : (reached : List Reached) → reached ≡ [] → (map pair_of reached ≡ by_rung 0 (grown d g segment)) × ((x : Reached) → Contains reached x → StandsAt g a segment x)
@@ -138,9 +142,14 @@ module _ (d : Grid) (g : Task) (a : Holdings) (segment : ℕ) where
             let s = from_map (λ (n : Standing). own q n) ns x here in
             subst (StandsAt g a segment) s.2 (rung, s.0, subst (λ n. Contains (chain_at a n).nodes s.0) at s.1, refl, refl)) (Contains-append_cases old (reached_in q ns) x (subst (λ xs. Contains xs x) added there)),
       )
-    where
-      abbrev own : ℕ → Standing → Reached
-      own q s = record { rung = q; label = s.label; node = s.node }
+
+-- what a walk gives with a rung is what stands there
+pub steps_reached : (q : ℕ) (steps : List Step) (ns : List Standing) → steps ≡ steps_of ns → map (step_reached q) steps ≡ reached_in q ns
+steps_reached q steps ns is = ap (map (step_reached q)) is ∙ map-map (step_reached q) (λ (s : Standing). let t : Step = record { node = s.node; label = s.label } in t) ns
+
+-- and its labels are those
+pub steps_labels : (steps : List Step) (ns : List Standing) → steps ≡ steps_of ns → map (λ (s : Step). s.label) steps ≡ labels_held ns
+steps_labels steps ns is = ap (map (λ (s : Step). s.label)) is ∙ map-map (λ (s : Step). s.label) (λ (s : Standing). let t : Step = record { node = s.node; label = s.label } in t) ns
 
 -- their nodes stand in sealed chains
 pub before_sealed : (d : Grid) (g : Task) (a : Holdings) (segment number : ℕ) (before : List Reached) → HoldsBelow d g a number → segment * rungs_of g.film ≤ number → AreBefore d g a segment before → HaveNodes a before
@@ -153,12 +162,6 @@ before_sealed d g a (suc i) number before h low b x there =
     (chain, (h.holds (suc i - 1) x.rung stands.0 (omega (arith, inside, low))).sealed, subst (Contains (ids_of (chain_at a chain).nodes)) stands.4 (in_ids (chain_at a chain).nodes stands.1 stands.2))
 
 -- ---- one frontier more
-
--- the node of the label at a place
-node_there : (before : List Reached) (k : ℕ) → k < length before → node_of before k ≡ Some (get_or before k no_reached).node
-node_there [] k low = absurd (omega (arith, low))
-node_there (x ∷ xs) zero low = refl
-node_there (x ∷ xs) (suc k) low = node_there xs k (omega (arith, low))
 
 module _ (d : Grid) (g : Task) (a b : Holdings) (i r : ℕ) (frontier : List Candidate) (before : List Reached) (h : HoldsBelow d g a (i * rungs_of g.film + r)) (low : i < segments_of g.film) (rung : r < rungs_of g.film)
     (added : AddsFrontier a b (i * rungs_of g.film + r) frontier before) (with_parents : HaveParents d g i r frontier) (b4 : AreBefore d g a i before) where

@@ -1,9 +1,12 @@
 -- Reading a plan off the arena: the best end, the parent that a link leads to, and the labels along a list.
-use Rattle.std.proofs.Common.{◌≡◌, ◌∙◌, ℕ, zero, suc, ◌+◌, ◌-◌, ◌*◌, ◌<◌, ◌≤◌, List, [], ◌∷◌, ◌++◌, length, get_or, map, cond, Bool, true, false, Option, Some, None, refl, sym, ap, subst, arith}
-use Rattle.std.specs.Prelude.{slice_index, unwrap_or}
-use Rattle.std.specs.List.{Contains, best_of}
-use Rattle.std.proofs.lemmas.List.{length-map}
-use Rattle.label_arena.specs.Chains.{HasLabel, HasLink, Holdings, IsSound, Standing, Stands, StandsIn, chain_at}
+use Rattle.std.proofs.Common.{◌≡◌, ◌∙◌, ℕ, zero, suc, ◌+◌, ◌-◌, ◌*◌, ◌<◌, ◌≤◌, ⊎_elim, List, [], ◌∷◌, ◌++◌, length, get_or, map, cond, Bool, true, false, Option, Some, None, refl, sym, ap, subst, arith}
+use Rattle.std.specs.Prelude.{◌↔◌, IsTrue, slice_index, unwrap_or}
+use Rattle.std.specs.Bool.{MatchBool}
+use Rattle.std.specs.List.{AllWithin, Contains, HoldsAt, best_of}
+use Rattle.std.proofs.lemmas.Bool.{cases_lt, false≢true}
+use Rattle.std.proofs.lemmas.List.{get_or-map, length-map}
+use Rattle.label_arena.specs.Chains.{HasLabel, HasLink, Holdings, IsSound, Standing, Stands, StandsIn, chain_at, ids_of, standing, steps_of}
+use Rattle.label_arena.specs.declared.walk.Step.{Step}
 use Rattle.label_arena.specs.declared.node.NodeId.{NodeId}
 use Rattle.label_arena.proofs.Parents.{in_ids}
 use Rattle.frontier_planner.specs.declared.chains.Reached.{Reached}
@@ -60,6 +63,54 @@ end_fits d g case last is x there =
     let some = case.task.film.segments.0 in
     let delay = (label_follows d g case (segments_of g.film - 1) (pair_of x) (omega (arith, some)) (subst (λ cs. Contains cs (pair_of x)) is (in_map pair_of last x there))).delay in
     omega (arith, delay)
+
+-- ---- nodes
+
+abbrev step_of : Standing → Step
+step_of s = record { node = s.node; label = s.label }
+
+-- whether a node stands in a chain, by what a walk along it gives
+pub stands_in : (ns : List Standing) (k : NodeId) (b : Bool) → MatchBool b ((x : ℕ) × (x < length (steps_of ns)) × HoldsAt (λ (s : Step). s.node ≡ k) (steps_of ns) x) (AllWithin (λ (s : Step). s.node ≡ k → ⊥) (steps_of ns) 0 (length (steps_of ns)))
+    → IsTrue b ↔ Contains (ids_of ns) k
+stands_in ns k true h =
+    let none = standing k no_label None in
+    let steps = length-map ns step_of in
+    let ids = length-map ns (λ (s : Standing). s.node) in
+    let inside = h.1 in
+    let low : h.0 < length ns = omega (arith, steps, inside) in (
+      λ yes. (
+          h.0,
+          omega (arith, ids, low),
+          get_or-map (λ (s : Standing). s.node) ns h.0 none k low ∙ sym (ap (λ (s : Step). s.node) (get_or-map step_of ns h.0 none (step_of none) low)) ∙ h.2 (step_of none),
+      ),
+      λ there. refl,
+    )
+stands_in ns k false h =
+    let none = standing k no_label None in
+    let steps = length-map ns step_of in
+    let ids = length-map ns (λ (s : Standing). s.node) in (
+      λ yes. absurd (false≢true yes),
+      λ there.
+          let inside = there.1 in
+          let low : there.0 < length ns = omega (arith, ids, inside) in
+          absurd (h there.0 (step_of none) (omega arith) (omega (arith, steps, low))
+          (ap (λ (s : Step). s.node) (get_or-map step_of ns there.0 none (step_of none) low) ∙ sym (get_or-map (λ (s : Standing). s.node) ns there.0 none k low) ∙ there.2)),
+    )
+
+-- a node whose label stands in a segment stands in a chain
+pub stands_own : (g : Task) (a : Holdings) (i : ℕ) (x : Reached) → StandsAt g a i x → Stands a x.node
+stands_own g a i x h =
+    let number = i * rungs_of g.film + x.rung in
+    (number, subst (StandsIn a number) h.4 (in_ids (chain_at a number).nodes h.1 h.2))
+
+-- one rung more in whose chain a node doesn't stand
+pub none_more : (a : Holdings) (base r c : ℕ) (k : NodeId) (b : Bool) → ((q : ℕ) → q < r → StandsIn a (base + q) k → ⊥) → c ≡ base + r → (IsTrue b ↔ StandsIn a c k) → b ≡ false
+    → (q : ℕ) → q < r + 1 → StandsIn a (base + q) k → ⊥
+none_more a base r c k b none at tells fails q low there =
+    ⊎_elim (λ (before : q < r). none q before there)
+    (λ (late : r ≤ q).
+    let e : base + q ≡ base + r = omega (arith, low, late) in
+    false≢true (sym fails ∙ tells.1 (subst (λ n. StandsIn a n k) (e ∙ sym at) there))) (cases_lt q r)
 
 -- ---- parents
 

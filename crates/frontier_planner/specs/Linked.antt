@@ -38,7 +38,7 @@ labels_held ns = map (λ s. s.label) ns
 -- the label stands in the chain of a segment and its rung
 abbrev pub StandsAt : Task → Holdings → ℕ → Reached → Type 0
 StandsAt g a segment x =
-    (x.rung < rungs_of g.film) × ((s : Standing) × Contains (chain_at a (segment * rungs_of g.film + x.rung)).nodes s × (s.label ≡ x.label) × (s.node ≡ x.node))
+    (x.rung < rungs_of g.film) × (s : Standing) × Contains (chain_at a (segment * rungs_of g.film + x.rung)).nodes s × (s.label ≡ x.label) × (s.node ≡ x.node)
 
 -- a node stands in a chain of a segment
 abbrev pub StandsOn : Task → Holdings → ℕ → NodeId → Type 0

@@ -52,10 +52,10 @@ pub fn steps_in(alloc: Global, arena: &Arena, chain: u32) -> Result<Vec<Step>, A
 fn node_of(labels: &[Reached], place: usize) -> Option<NodeId>
     ensures { result ≡ node_of labels.now place }
 {
-    match labels.get(place) {
-        Some(reached) => Some(reached.node),
-        None => None,
+    if place < labels.len() {
+        return Some(labels[place].node);
     }
+    None
 }
 
 /// Adds a frontier to an open chain that is empty. Each label is linked to the one at its parent's place.

@@ -1,8 +1,9 @@
-use Rattle.std.proofs.Common.{◌≡◌, ◌∙◌, get_or, subst, sym, arith}
+use Rattle.std.proofs.Common.{sym}
+use Rattle.frontier_planner.proofs.Adding.{node_past, node_there}
 use Rattle.frontier_planner.proofs.chains.node_of.Goals as goal
 
-pub returns-in-Some : goal.returns-in-Some
-returns-in-Some c = ?
+pub returns-then-place-len : goal.returns-then-place-len
+returns-then-place-len c = sym (node_there c.args.labels.now c.args.place c.if-place-len.true)
 
-pub returns-in-None : goal.returns-in-None
-returns-in-None c = ?
+pub returns : goal.returns
+returns c = sym (node_past c.args.labels.now c.args.place c.if-place-len.false)

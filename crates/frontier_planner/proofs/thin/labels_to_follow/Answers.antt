@@ -27,7 +27,7 @@ pub returns : goal.returns
 returns c =
     let d = c.args.brief.now.grid in
     let g = c.args.brief.now.scene in
-    let slack = ap (λ n. c.dearest_change-slack.result + n) c.value_step-slack.ensures.value in
-    IfOk-weaker c.leaders.result (λ v. AreLeaders (c.dearest_change-slack.result + c.value_step-slack.result) c.deref.result.now v.items) (λ v. AreFollowed c.args.brief.now c.args.segment v.items)
-    (λ v lead. sorted_enough d g c.segments.ensures.can c.args.segment (map pair_of c.args.before.now) _ _ v.items c.dearest_change-slack.result c.requires.segment.0 c.requires.segment.1 c.requires.before c.in_ok-waits.ensures c.put_in_order.ensures.same c.dearest_change-slack.ensures.most
-    (subst (λ n. AreLeaders n c.put_in_order.new.labels.items v.items) slack (subst (λ ls. AreLeaders (c.dearest_change-slack.result + c.value_step-slack.result) ls v.items) c.deref.ensures.value lead))) c.leaders.ensures
+    let slack = ap (λ n. c.dearest_change.result + n) c.value_step.ensures.value in
+    IfOk-weaker c.leaders.result (λ v. AreLeaders (c.dearest_change.result + c.value_step.result) c.deref.result.now v.items) (λ v. AreFollowed c.args.brief.now c.args.segment v.items)
+    (λ v lead. sorted_enough d g c.segments.ensures.can c.args.segment (map pair_of c.args.before.now) _ _ v.items c.dearest_change.result c.requires.segment.0 c.requires.segment.1 c.requires.before c.in_ok-waits.ensures c.put_in_order.ensures.same c.dearest_change.ensures.most
+    (subst (λ n. AreLeaders n c.put_in_order.new.labels.items v.items) slack (subst (λ ls. AreLeaders (c.dearest_change.result + c.value_step.result) ls v.items) c.deref.ensures.value lead))) c.leaders.ensures
