@@ -22,8 +22,9 @@ add-requires-clause-after c = append_after _ _ c.requires.open _ _ _ _ _ c.loop-
 
 pub add-requires-clause-parent : goal.add-requires-clause-parent
 add-requires-clause-parent c =
-    append_parent _ _ c.requires.open _ _ _ _ _ c.loop-candidate.invariant _
-    (subst (HasParent _) (sym c.node_of-parent.ensures) (node_sealed _ _ _ c.requires.before))
+    let a = c.args.arena.now in
+    append_parent a c.args.chain c.requires.open c.args.frontier.now c.args.before.now c.loop-candidate.arena c.loop-candidate.last c.loop-candidate.candidate-index c.loop-candidate.invariant c.node_of-parent.result
+    (subst (HasParent a) (sym c.node_of-parent.ensures) (node_sealed a c.args.before.now _ c.requires.before))
 
 pub loop-candidate-preserved : goal.loop-candidate-preserved
 loop-candidate-preserved c =
