@@ -7,9 +7,10 @@ use Rattle.std.proofs.lemmas.Simd.{map-map}
 use Rattle.std.proofs.lemmas.List.Elements.{Contains-append_cases, Contains-get_or}
 use Rattle.lab_model.specs.declared.label.Label.{Label}
 use Rattle.lab_model.specs.Film.{rungs_of, segments_of}
-use Rattle.label_arena.specs.Chains.{Holdings, LinkedChain, Standing, StandsSealed, chain_at, empty_holdings, ids_of, linked_chain, steps_of}
+use Rattle.label_arena.specs.Chains.{Holdings, LinkedChain, Standing, StandsSealed, chain_at, empty_holdings, ids_of, linked_chain, node_count, steps_of}
 use Rattle.label_arena.specs.declared.walk.Step.{Step}
 use Rattle.label_arena.specs.declared.node.NodeId.{NodeId}
+use Rattle.label_arena.proofs.Counts.{all_zero}
 use Rattle.label_arena.proofs.Parents.{in_ids}
 use Rattle.labels.specs.declared.label.Grid.{Grid}
 use Rattle.player_core.specs.Scene.{Task}
@@ -109,6 +110,10 @@ holds_none d g a chains room all is = record {
     get_or-replicate_same zero c = refl
     get_or-replicate_same (suc n) zero = refl
     get_or-replicate_same (suc n) (suc c) = get_or-replicate_same n c
+
+-- it has no nodes in chains
+pub count_none : (d : Grid) (g : Task) (a : Holdings) → HoldsBelow d g a 0 → node_count a ≡ 0
+count_none d g a h = all_zero (λ (x : LinkedChain). length x.nodes) (linked_chain [] false) a.chains (λ c low. ap (λ (x : LinkedChain). length x.nodes) (h.empty c (omega arith)))
 
 -- ---- the labels of a segment
 
