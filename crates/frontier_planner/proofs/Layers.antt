@@ -1,4 +1,4 @@
--- Layers: how the coarse frontiers of a segment are held, chain by chain, and counted.
+-- How the coarse frontiers are held in layers, chain by chain, and counted.
 use Rattle.std.proofs.Common.{◌≡◌, ◌∙◌, ℕ, ◌+◌, ◌-◌, ◌<◌, ◌≤◌, ⊎_elim, List, [], ◌∷◌, ◌++◌, length, get_or, map, sym, ap, subst, arith, length-append}
 use Rattle.std.specs.Prelude.{Vec, Result, Ok, Err}
 use Rattle.std.specs.Result.{IsErrAnd}
@@ -12,17 +12,17 @@ use Rattle.lab_model.specs.declared.label.Label.{Label}
 use Rattle.lab_model.specs.Ladder.{rungs_below}
 use Rattle.lab_model.proofs.Rungs.{rungs_more}
 use Rattle.lab_model.specs.Film.{segments_of}
+use Rattle.label_arena.specs.Chains.{Holdings}
 use Rattle.labels.specs.declared.label.Grid.{Grid}
-use Rattle.frontier_planner.specs.declared.grow.Frontiers.{Frontiers}
-use Rattle.frontier_planner.specs.declared.grow.Layer.{Layer}
+use Rattle.frontier_planner.specs.declared.frontiers.Frontiers.{Frontiers}
+use Rattle.frontier_planner.specs.declared.frontiers.Layer.{Layer}
 use Rattle.frontier_planner.specs.declared.plans.PlanErr.{PlanErr}
 use Rattle.frontier_planner.specs.declared.plans.PlanErr.TheVariants as fault
-use Rattle.labels.specs.Frontier.{by_rung}
 use Rattle.labels.specs.Grown.{grown, grown_labels}
 use Rattle.player_core.specs.Scene.{Task}
-use Rattle.frontier_planner.specs.Layers.{HoldAll, HoldsFrontiers, LayerAnswer, FrontiersAnswer, held}
+use Rattle.frontier_planner.specs.Layers.{FrontiersAnswer, HoldAll, HoldsFrontiers, SegmentAnswer, held}
 use Rattle.labels.specs.Read.{SpentAt, labels_before}
-use Rattle.labels.proofs.Counted.{before_next, by_rung_more}
+use Rattle.labels.proofs.Counted.{before_next}
 
 -- the chains of one rung more
 pub held_more : (chains more : List (Vec Label Global)) (v : Vec Label Global) (chain : ℕ → List Label) (r : ℕ) → held chains ≡ map chain (rungs_below r) → v.items ≡ chain r → more ≡ chains ++ v ∷ []
@@ -30,11 +30,6 @@ pub held_more : (chains more : List (Vec Label Global)) (v : Vec Label Global) (
 held_more chains more v chain r h e pushed =
     ap held pushed ∙ map-append (λ (w : Vec Label Global). w.items) chains (v ∷ []) ∙ ap (λ ls. ls ++ v.items ∷ []) h ∙ ap (λ l. map chain (rungs_below r) ++ l ∷ []) e
     ∙ sym (map-append chain (rungs_below r) (r ∷ [])) ∙ ap (map chain) (sym (rungs_more r))
-
--- what is added for a rung
-pub by_rung_added : (chain : ℕ → List Label) (r : ℕ) (labels more : List (ℕ × Label)) (c : List Label) → labels ≡ by_rung r chain → c ≡ chain r → more ≡ labels ++ map (λ l. (r, l)) c → more ≡ by_rung (r + 1) chain
-by_rung_added chain r labels more c old one added =
-    added ∙ ap (λ ls. ls ++ map (λ l. (r, l)) c) old ∙ ap (λ ls. by_rung r chain ++ map (λ l. (r, l)) ls) one ∙ sym (by_rung_more chain r)
 
 -- the chain of a rung among the first rungs
 pub held_at : (chains : List (Vec Label Global)) (chain : ℕ → List Label) (n r : ℕ) (v : Vec Label Global) → held chains ≡ map chain (rungs_below n) → r < n → (get_or chains r v).items ≡ chain r
@@ -65,21 +60,12 @@ spent_here d g budget left i s low sum h =
     let above = h.1 in
     subst (SpentAt g (grown d g) budget) (sym h.0) (record { inside = low; before = omega (arith, sum); above = omega (arith, sum, more, above) })
 
--- a layer that there isn't is the answer for all
-pub layers_stop : (d : Grid) (g : Task) (budget left i : ℕ) (r : Result Layer PlanErr) (s : Result Frontiers PlanErr) (e : PlanErr) → i < segments_of g.film → left + labels_before g (grown d g) i ≡ budget
-    → r ≡ Err e → IsErrAnd s (λ x. x ≡ e) → LayerAnswer d g i left r → FrontiersAnswer d g budget s
-layers_stop d g budget left i r (Ok v) e low sum is same h = absurd same
-layers_stop d g budget left i r (Err x) e low sum is same h = stopped x (subst (LayerAnswer d g i left) (is ∙ ap Err (sym same)) h)
+-- where a segment has no answer there is none for all
+pub frontiers_stop : (d : Grid) (g : Task) (budget left i : ℕ) (a b : Holdings) (r : Result ℕ PlanErr) (s : Result Frontiers PlanErr) (e : PlanErr) → i < segments_of g.film → left + labels_before g (grown d g) i ≡ budget
+    → r ≡ Err e → IsErrAnd s (λ x. x ≡ e) → SegmentAnswer d g i left a b r → FrontiersAnswer d g budget s
+frontiers_stop d g budget left i a b r (Ok v) e low sum is same h = absurd same
+frontiers_stop d g budget left i a b r (Err x) e low sum is same h = stopped x (subst (SegmentAnswer d g i left a b) (is ∙ ap Err (sym same)) h)
   where
-    stopped : (x : PlanErr) → LayerAnswer d g i left (Err x) → FrontiersAnswer d g budget (Err x)
+    stopped : (x : PlanErr) → SegmentAnswer d g i left a b (Err x) → FrontiersAnswer d g budget (Err x)
     stopped (fault.BudgetSpent segment) k = spent_here d g budget left i segment low sum k
     stopped fault.Memory k = tt
-
--- the labels of the last layer are those of the segment before
-pub last_held : (d : Grid) (g : Task) (i : ℕ) (layers same : List Layer) (labels : List (ℕ × Label)) → 0 < i → same ≡ layers → length layers ≡ i → HoldAll d g layers
-    → ((x : Layer) → 0 < length same → labels ≡ (get_or same (length same - 1) x).labels.items) → labels ≡ grown_labels d g (i - 1)
-last_held d g i [] same labels some is count h last = absurd (omega (arith, some, count))
-last_held d g i (x ∷ rest) same labels some is count h last =
-    let long = ap length is in
-    let e : length same - 1 ≡ i - 1 = omega (arith, long, count) in
-    last x (omega (arith, long)) ∙ ap (λ n. (get_or same n x).labels.items) e ∙ ap (λ ls. (get_or ls (i - 1) x).labels.items) is ∙ (h (i - 1) x (omega (arith, some, count))).labels

@@ -7,3 +7,6 @@ pub mod Planned
 pub mod Passed
 pub mod Thinned
 pub mod Climbing
+pub mod FirstParents
+pub mod Adding
+pub mod Linking

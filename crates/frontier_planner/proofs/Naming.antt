@@ -11,7 +11,7 @@ use Rattle.std.proofs.lemmas.List.FromFn.{length-map-range_with_len}
 use Rattle.lab_model.specs.declared.label.Label.{Label}
 use Rattle.lab_model.specs.Film.{rungs_of, segments_of}
 use Rattle.labels.specs.declared.label.Grid.{Grid}
-use Rattle.frontier_planner.specs.declared.grow.Layer.{Layer}
+use Rattle.frontier_planner.specs.declared.frontiers.Layer.{Layer}
 use Rattle.labels.specs.Grown.{grown, grown_labels}
 use Rattle.player_core.specs.Scene.{Task}
 use Rattle.labels.specs.Labels.{next_label, start_label}

@@ -6,8 +6,8 @@ use Rattle.std.specs.List.{Contains}
 use Rattle.lab_model.specs.declared.label.Label.{Label}
 use Rattle.lab_model.specs.Film.{rungs_of, segments_of}
 use Rattle.labels.specs.declared.label.Grid.{Grid}
-use Rattle.frontier_planner.specs.declared.grow.Frontiers.{Frontiers}
-use Rattle.frontier_planner.specs.declared.grow.Layer.{Layer}
+use Rattle.frontier_planner.specs.declared.frontiers.Frontiers.{Frontiers}
+use Rattle.frontier_planner.specs.declared.frontiers.Layer.{Layer}
 use Rattle.frontier_planner.specs.declared.plans.CoarsePlan.{CoarsePlan}
 use Rattle.labels.specs.declared.plans.Plan.{Plan}
 use Rattle.frontier_planner.specs.declared.plans.PlanErr.{PlanErr}

@@ -1,30 +1,32 @@
--- Reading a plan off layers: the best end, the parent that a search finds, and the labels along a list.
-use Rattle.std.proofs.Common.{◌≡◌, ◌∙◌, ℕ, zero, suc, ◌+◌, ◌-◌, ◌<◌, ◌≤◌, List, [], ◌∷◌, ◌++◌, length, get_or, drop, drop-cons, cond, Bool, true, false, Some, None, ◌&&◌, eqb, refl, sym, ap, subst, arith, add-one}
-use Rattle.std.specs.Prelude.{slice_index, unwrap_or}
-use Rattle.std.specs.Ordering.{int_eq}
-use Rattle.std.specs.List.{Contains, best_of, find}
-use Rattle.std.proofs.lemmas.Bool.Decides.{nat_tests}
-use Rattle.std.proofs.lemmas.Bool.{cond-true, cond-false}
-use Rattle.std.proofs.lemmas.Cmp.{eq_by_cmp_equiv}
-use Rattle.std.proofs.lemmas.Int.{ints}
+-- Reading a plan off the arena: the best end, the parent that a link leads to, and the labels along a list.
+use Rattle.std.proofs.Common.{◌≡◌, ◌∙◌, ℕ, zero, suc, ◌+◌, ◌-◌, ◌*◌, ◌<◌, ◌≤◌, ⊎_elim, List, [], ◌∷◌, ◌++◌, length, get_or, map, cond, Bool, true, false, Option, Some, None, refl, sym, ap, subst, arith}
+use Rattle.std.specs.Prelude.{◌↔◌, IsTrue, slice_index, unwrap_or}
+use Rattle.std.specs.Bool.{MatchBool}
+use Rattle.std.specs.List.{AllWithin, Contains, HoldsAt, best_of}
+use Rattle.std.proofs.lemmas.Bool.{cases_lt, false≢true}
+use Rattle.std.proofs.lemmas.List.{get_or-map, length-map}
+use Rattle.label_arena.specs.Chains.{HasLabel, HasLink, Holdings, IsSound, Standing, Stands, StandsIn, chain_at, ids_of, standing, steps_of}
+use Rattle.label_arena.specs.declared.walk.Step.{Step}
+use Rattle.label_arena.specs.declared.node.NodeId.{NodeId}
+use Rattle.label_arena.proofs.Parents.{in_ids}
+use Rattle.frontier_planner.specs.declared.chains.Reached.{Reached}
+use Rattle.frontier_planner.specs.Linked.{HoldsAll, HoldsFrontier, StandsAt, StandsOn, pair_of}
+use Rattle.frontier_planner.proofs.Linking.{number_inside}
 use Rattle.lab_model.specs.declared.label.Label.{Label}
 use Rattle.lab_model.specs.Film.{rungs_of, segments_of}
 use Rattle.labels.specs.declared.label.Grid.{Grid}
 use Rattle.labels.specs.Labels.{AreRungs, label_at, next_label}
 use Rattle.player_core.specs.Scene.{IsTask, Task}
 use Rattle.labels.specs.Near.{CanFollow}
-use Rattle.labels.specs.Frontier.{is_same}
-use Rattle.labels.specs.Grid.{rounded}
 use Rattle.labels.specs.Grown.{grown, CanPlan, grown_labels}
 use Rattle.frontier_planner.specs.Layers.{rungs_read}
-use Rattle.labels.specs.Read.{best_in, ends_higher, labels_of, leads_to, no_label, parent_of}
+use Rattle.labels.specs.Read.{best_in, ends_higher, no_label, parent_of}
 use Rattle.labels.proofs.Follows.{label_follows}
-use Rattle.labels.proofs.Grown.{from_next, grown_covers}
-use Rattle.labels.proofs.Order.{label_total}
+use Rattle.labels.proofs.Grown.{grown_covers}
 use Rattle.labels.proofs.Path.{label_next}
-use Rattle.labels.proofs.ReadBack.{back_next, parent_found, some_label}
+use Rattle.labels.proofs.ReadBack.{back_next, some_label}
 use Rattle.labels.proofs.Reached.{label_reach, reach_follows}
-use Rattle.labels.proofs.Walks.{find_found, from_by_rung, in_by_rung}
+use Rattle.labels.proofs.Walks.{in_by_rung, in_map}
 
 -- ---- the end
 
@@ -48,63 +50,123 @@ labels_some d g case i low =
     omega (arith, inside)
 
 -- and so has the last segment
-pub last_some : (d : Grid) (g : Task) → CanPlan d g → (last : List (ℕ × Label)) → last ≡ grown_labels d g (segments_of g.film - 1) → 0 < length last
+pub last_some : (d : Grid) (g : Task) → CanPlan d g → (last : List Reached) → map pair_of last ≡ grown_labels d g (segments_of g.film - 1) → 0 < length last
 last_some d g case last is =
     let some = case.task.film.segments.0 in
     let many = labels_some d g case (segments_of g.film - 1) (omega (arith, some)) in
-    let same = ap length is in
+    let same = sym (length-map last pair_of) ∙ ap length is in
     omega (arith, many, same)
 
 -- a label of the last segment weighs no more than this
-pub end_fits : (d : Grid) (g : Task) → CanPlan d g → (last : List (ℕ × Label)) → last ≡ grown_labels d g (segments_of g.film - 1) → (c : ℕ × Label) → Contains last c → c.1.p ≤ 2000000000000000
-end_fits d g case last is c there =
+pub end_fits : (d : Grid) (g : Task) → CanPlan d g → (last : List Reached) → map pair_of last ≡ grown_labels d g (segments_of g.film - 1) → (x : Reached) → Contains last x → x.label.p ≤ 2000000000000000
+end_fits d g case last is x there =
     let some = case.task.film.segments.0 in
-    let delay = (label_follows d g case (segments_of g.film - 1) c (omega (arith, some)) (subst (λ cs. Contains cs c) is there)).delay in
+    let delay = (label_follows d g case (segments_of g.film - 1) (pair_of x) (omega (arith, some)) (subst (λ cs. Contains cs (pair_of x)) is (in_map pair_of last x there))).delay in
     omega (arith, delay)
+
+-- ---- nodes
+
+abbrev step_of : Standing → Step
+step_of s = record { node = s.node; label = s.label }
+
+-- whether a node stands in a chain, by what a walk along it gives
+pub stands_in : (ns : List Standing) (k : NodeId) (b : Bool) → MatchBool b ((x : ℕ) × (x < length (steps_of ns)) × HoldsAt (λ (s : Step). s.node ≡ k) (steps_of ns) x) (AllWithin (λ (s : Step). s.node ≡ k → ⊥) (steps_of ns) 0 (length (steps_of ns)))
+    → IsTrue b ↔ Contains (ids_of ns) k
+stands_in ns k true h =
+    let none = standing k no_label None in
+    let steps = length-map ns step_of in
+    let ids = length-map ns (λ (s : Standing). s.node) in
+    let inside = h.1 in
+    let low : h.0 < length ns = omega (arith, steps, inside) in (
+      λ yes. (
+          h.0,
+          omega (arith, ids, low),
+          get_or-map (λ (s : Standing). s.node) ns h.0 none k low ∙ sym (ap (λ (s : Step). s.node) (get_or-map step_of ns h.0 none (step_of none) low)) ∙ h.2 (step_of none),
+      ),
+      λ there. refl,
+    )
+stands_in ns k false h =
+    let none = standing k no_label None in
+    let steps = length-map ns step_of in
+    let ids = length-map ns (λ (s : Standing). s.node) in (
+      λ yes. absurd (false≢true yes),
+      λ there.
+          let inside = there.1 in
+          let low : there.0 < length ns = omega (arith, ids, inside) in
+          absurd (h there.0 (step_of none) (omega arith) (omega (arith, steps, low))
+          (ap (λ (s : Step). s.node) (get_or-map step_of ns there.0 none (step_of none) low) ∙ sym (get_or-map (λ (s : Standing). s.node) ns there.0 none k low) ∙ there.2)),
+    )
+
+-- a node whose label stands in a segment stands in a chain
+pub stands_own : (g : Task) (a : Holdings) (i : ℕ) (x : Reached) → StandsAt g a i x → Stands a x.node
+stands_own g a i x h =
+    let number = i * rungs_of g.film + x.rung in
+    (number, subst (StandsIn a number) h.4 (in_ids (chain_at a number).nodes h.1 h.2))
+
+-- one rung more in whose chain a node doesn't stand
+pub none_more : (a : Holdings) (base r c : ℕ) (k : NodeId) (b : Bool) → ((q : ℕ) → q < r → StandsIn a (base + q) k → ⊥) → c ≡ base + r → (IsTrue b ↔ StandsIn a c k) → b ≡ false
+    → (q : ℕ) → q < r + 1 → StandsIn a (base + q) k → ⊥
+none_more a base r c k b none at tells fails q low there =
+    ⊎_elim (λ (before : q < r). none q before there)
+    (λ (late : r ≤ q).
+    let e : base + q ≡ base + r = omega (arith, low, late) in
+    false≢true (sym fails ∙ tells.1 (subst (λ n. StandsIn a n k) (e ∙ sym at) there))) (cases_lt q r)
 
 -- ---- parents
 
--- labels whose fields are equal are the same
-pub same_is : (a b : Label) → (eqb a.t b.t && (eqb a.p b.p && int_eq a.v b.v)) ≡ is_same a b
-same_is a b = grind (arith, nat_tests, ints)
+module _ (d : Grid) (g : Task) (a : Holdings) (h : HoldsAll d g a) (i : ℕ) (some : 1 ≤ i) (low : i < segments_of g.film) (x : Reached) (stands : StandsAt g a i x) where
+  -- the frontier in which the label stands
+  own_frontier : HoldsFrontier d g a i x.rung
+  own_frontier = h.holds i x.rung stands.0 (number_inside (segments_of g.film) (rungs_of g.film) i x.rung low stands.0)
 
--- a search goes on behind what doesn't pass, and ends at what does
-pub find_on : {X : Type 0} (p : X → Bool) (xs : List X) (i : ℕ) (d : X) → i < length xs → p (get_or xs i d) ≡ false → find p (drop i xs) ≡ find p (drop (i + 1) xs)
-find_on p xs i d low fails = rw (drop-cons xs i d, add-one) (cond-false (p (get_or xs i d)) _ _ fails)
+  -- its link leads to its parent
+  linked : (y : Reached) × (stands.1.parent ≡ Some y.node) × (pair_of y ≡ parent_of d g (grown d g) (i - 1) (pair_of x)) × StandsAt g a (i - 1) y
+  linked =
+      let l = own_frontier.linked stands.1 stands.2 some in
+      (l.0, l.1, l.2 ∙ ap (λ (m : Label). parent_of d g (grown d g) (i - 1) (x.rung, m)) stands.3, l.3)
 
--- a member that passes a test is the first that does from its place on
-pub find_here : {X : Type 0} (p : X → Bool) (xs : List X) (i : ℕ) (d : X) → i < length xs → p (get_or xs i d) ≡ true → find p (drop i xs) ≡ Some (get_or xs i d)
-find_here p xs i d low passes = rw (drop-cons xs i d) (cond-true (p (get_or xs i d)) _ _ passes)
+  -- so does what the arena says of it
+  link_is : (parent : Option NodeId) → HasLink a x.node parent → parent ≡ Some linked.0.node
+  link_is parent has = has (i * rungs_of g.film + x.rung) stands.1 stands.2 stands.4 ∙ linked.1
 
-module _ (d : Grid) (g : Task) where
-  -- the search for the parent finds it
-  pub parent_some : (i : ℕ) (c : ℕ × Label) → Contains (grown_labels d g (suc i)) c → find (λ b. leads_to d g (suc i) b c) (grown_labels d g i) ≡ Some (parent_of d g (grown d g) i c)
-  parent_some i c h =
-      let from = from_next d g i c.0 c.1 (from_by_rung (rungs_of g.film) (grown d g (suc i)) c h).1 in
-      let passes : leads_to d g (suc i) from.0 c ≡ true = subst (λ l. is_same (rounded d (next_label g (suc i) from.0.0 from.0.1 c.0)) l ≡ true) from.2 ((eq_by_cmp_equiv label_total).refl (rounded d (next_label g (suc i) from.0.0 from.0.1 c.0))) in
-      let found = find_found (λ b. leads_to d g (suc i) b c) (labels_of g (grown d g) i) from.0 from.1 passes in
-      found.1 ∙ ap Some (sym (ap (λ o. unwrap_or o (0, no_label)) found.1))
+  -- the node that it leads to stands in the segment before
+  pub link_stands : (k : NodeId) → HasLink a x.node (Some k) → StandsOn g a (i - 1) k × Stands a k
+  link_stands k has =
+      let y = linked.0 in
+      let at = linked.3 in
+      let same : y.node ≡ k = sym (ap (λ o. unwrap_or o y.node) (link_is (Some k) has)) in
+      let number = (i - 1) * rungs_of g.film + y.rung in
+      let inside = subst (StandsIn a number) (at.4 ∙ same) (in_ids (chain_at a number).nodes at.1 at.2) in
+      ((y.rung, at.0, inside), (number, inside))
 
-  -- what a search for the parent found is the parent, and stands in the segment before
-  pub parent_is : (i : ℕ) (c b : ℕ × Label) (before : List (ℕ × Label)) → 1 ≤ i → before ≡ grown_labels d g (i - 1) → Contains (grown_labels d g i) c → Some b ≡ find (λ b. leads_to d g i b c) before
-      → Contains (grown_labels d g (i - 1)) b × (rungs_read d g i c ≡ rungs_read d g (i - 1) b ++ c.0 ∷ [])
-  parent_is zero c b before some is h found = absurd (omega (arith, some))
-  parent_is (suc i) c b before some is h found =
-      let e : suc i - 1 ≡ i = omega arith in
-      let same : b ≡ parent_of d g (grown d g) i c = some_same (found ∙ ap (find (λ x. leads_to d g (suc i) x c)) (is ∙ ap (grown_labels d g) e) ∙ parent_some i c h) in
-      subst (λ n. Contains (grown_labels d g n) b × (rungs_read d g (suc i) c ≡ rungs_read d g n b ++ c.0 ∷ [])) (sym e)
-      (subst (λ x. Contains (grown_labels d g i) x × (rungs_read d g (suc i) c ≡ rungs_read d g i x ++ c.0 ∷ [])) (sym same) ((parent_found d g i c h).0, back_next d g (grown d g) i c))
-    where
-      some_same : {x y : ℕ × Label} → Some x ≡ Some y → x ≡ y
-      some_same e = ap (λ o. unwrap_or o (0, no_label)) e
+  -- a label has a link
+  pub link_some : HasLink a x.node None → ⊥
+  link_some has = let clash = link_is None has in cc
 
-  -- a search for the parent finds something
-  pub parent_none : (i : ℕ) (c : ℕ × Label) (before : List (ℕ × Label)) → 1 ≤ i → before ≡ grown_labels d g (i - 1) → Contains (grown_labels d g i) c → None ≡ find (λ b. leads_to d g i b c) before → ⊥
-  parent_none zero c before some is h none = absurd (omega (arith, some))
-  parent_none (suc i) c before some is h none =
-      let e : suc i - 1 ≡ i = omega arith in
-      let clash = none ∙ ap (find (λ x. leads_to d g (suc i) x c)) (is ∙ ap (grown_labels d g) e) ∙ parent_some i c h in
-      cc
+  -- the label with its rung is the parent
+  pub link_parent : (k : NodeId) (q : ℕ) (label : Label) → HasLink a x.node (Some k) → IsSound a → q < rungs_of g.film → StandsIn a ((i - 1) * rungs_of g.film + q) k → HasLabel a k label
+      → ((q, label) ≡ parent_of d g (grown d g) (i - 1) (pair_of x)) × (let z : Reached = record { rung = q; label = label; node = k } in StandsAt g a (i - 1) z)
+  link_parent k q label has sound rung inside held =
+      let y = linked.0 in
+      let at = linked.3 in
+      let same : y.node ≡ k = sym (ap (λ o. unwrap_or o y.node) (link_is (Some k) has)) in
+      let number = (i - 1) * rungs_of g.film + y.rung in
+      let own = subst (StandsIn a number) (at.4 ∙ same) (in_ids (chain_at a number).nodes at.1 at.2) in
+      let one = sound.apart ((i - 1) * rungs_of g.film + q) number k inside own in
+      let rungs : q ≡ y.rung = omega (arith, one) in
+      let labels : label ≡ y.label = held number at.1 at.2 (at.4 ∙ same) ∙ at.3 in
+      let z : Reached = record { rung = q; label = label; node = k } in
+      let all : y ≡ z = ap (λ (n : ℕ). let w : Reached = record { rung = n; label = y.label; node = y.node } in w) (sym rungs)
+      ∙ ap (λ (l : Label). let w : Reached = record { rung = q; label = l; node = y.node } in w) (sym labels) ∙ ap (λ (n : NodeId). let w : Reached = record { rung = q; label = label; node = n } in w) same in
+      (sym (ap pair_of all) ∙ linked.2, subst (StandsAt g a (i - 1)) all at)
+
+-- the rungs up to a label are those up to its parent, and its own
+pub rungs_next : (d : Grid) (g : Task) (i : ℕ) (c b : ℕ × Label) → 1 ≤ i → b ≡ parent_of d g (grown d g) (i - 1) c → rungs_read d g i c ≡ rungs_read d g (i - 1) b ++ c.0 ∷ []
+rungs_next d g zero c b some is = absurd (omega (arith, some))
+rungs_next d g (suc i) c b some is =
+    let e : suc i - 1 ≡ i = omega arith in
+    subst (λ n. b ≡ parent_of d g (grown d g) n c → rungs_read d g (suc i) c ≡ rungs_read d g n b ++ c.0 ∷ []) (sym e)
+    (λ same. back_next d g (grown d g) i c ∙ ap (λ x. rungs_read d g i x ++ c.0 ∷ []) (sym same)) is
 
 -- ---- the labels along a list
 

@@ -140,6 +140,10 @@ swept_kept xs kept steps more l s order free rises adds =
       rising = rises;
     }
 
+-- the staircase covers each label so far
+pub swept_covers : (xs kept steps : List Label) (l : Label) → Swept xs kept steps → Contains xs l → HasUnder steps l.p l.v
+swept_covers xs kept steps l s there = let up = s.above l there in s.over l.p l.v (up.0, up.1, up.2.1, up.2.2)
+
 -- what is kept at the end is what no different label dominates
 pub swept_all : (xs kept steps : List Label) → Swept xs kept steps → kept ≡ undominated xs
 swept_all xs kept steps s =

@@ -5,7 +5,7 @@ use Rattle.std.specs.List.{All}
 use Rattle.lab_model.specs.declared.label.Label.{Label}
 use Rattle.frontier_planner.specs.declared.blocks.Finder.{Finder}
 use Rattle.frontier_planner.specs.declared.blocks.Level.{Level}
-use Rattle.frontier_planner.specs.declared.grow.Layer.{Layer}
+use Rattle.frontier_planner.specs.declared.frontiers.Layer.{Layer}
 use Rattle.frontier_planner.specs.declared.staircase.Staircase.{Staircase}
 use Rattle.frontier_planner.specs.Climbing.{IsClimbing}
 use Rattle.labels.specs.Labels.{dominates}

@@ -1,16 +1,18 @@
 -- What the planner holds while it grows frontiers: those of each segment, as vectors.
-use Rattle.std.specs.Prelude.{◌≡◌, ℕ, ◌≤◌, ◌<◌, List, length, map, Result, Ok, Err, Vec, slice_index_or}
+use Rattle.std.specs.Prelude.{◌≡◌, ℕ, ◌+◌, ◌*◌, ◌≤◌, ◌<◌, List, length, map, Result, Ok, Err, Vec, slice_index_or}
 use Rattle.std.specs.Global.{Global}
 use Rattle.lab_model.specs.declared.label.Label.{Label}
+use Rattle.label_arena.specs.Chains.{Holdings, node_count}
 use Rattle.lab_model.specs.Ladder.{rungs_below}
 use Rattle.lab_model.specs.Film.{rungs_of, segments_of}
 use Rattle.labels.specs.declared.label.Grid.{Grid}
-use Rattle.frontier_planner.specs.declared.grow.Frontiers.{Frontiers}
-use Rattle.frontier_planner.specs.declared.grow.Layer.{Layer}
+use Rattle.frontier_planner.specs.declared.frontiers.Frontiers.{Frontiers}
+use Rattle.frontier_planner.specs.declared.frontiers.Layer.{Layer}
 use Rattle.frontier_planner.specs.declared.plans.PlanErr.{PlanErr}
 use Rattle.frontier_planner.specs.declared.plans.PlanErr.TheVariants as fault
 use Rattle.player_core.specs.Scene.{Task}
 use Rattle.labels.specs.Grown.{CanPlan, grown, grown_labels}
+use Rattle.frontier_planner.specs.Linked.{HoldsAll, HoldsBelow}
 use Rattle.labels.specs.Parts.{ChainParts}
 use Rattle.labels.specs.Read.{SpentAt, chain_with_names, labels_in, names_of_label, rungs_back}
 
@@ -22,9 +24,8 @@ rungs_read d g segment c = rungs_back d g (grown d g) segment c
 abbrev pub held : List (Vec Label Global) → List (List Label)
 held chains = map (λ (v : Vec Label Global). v.items) chains
 
--- the layer holds the coarse frontiers of a segment
+-- the layer holds the coarse frontiers of a segment, chain by chain
 pub record HoldsFrontiers (d : Grid) (g : Task) (segment : ℕ) (l : Layer) : Type 0 where
-  pub labels : l.labels.items ≡ grown_labels d g segment
   pub chains : held l.chains.items ≡ map (grown d g segment) (rungs_below (rungs_of g.film))
 
 -- the layers hold those of the segments from 0 on
@@ -50,15 +51,15 @@ chain_read d g segment rung = chain_with_names g (grown d g) segment rung
 abbrev pub chains_read : Grid → Task → ℕ → List ChainParts
 chains_read d g segment = map (λ q. chain_read d g segment q) (rungs_below (rungs_of g.film))
 
--- the layer of a segment, or that its labels are more than those left
-abbrev pub LayerAnswer : Grid → Task → ℕ → ℕ → Result Layer PlanErr → Type 0
-LayerAnswer d g segment left (Ok l) = HoldsFrontiers d g segment l × (length l.labels.items ≤ left)
-LayerAnswer d g segment left (Err (fault.BudgetSpent s)) = (s ≡ segment) × (left < length (grown_labels d g segment))
-LayerAnswer d g segment left (Err fault.Memory) = Unit {0}
+-- what a segment's frontiers leave of the budget, with their chains in the arena, or that its labels are more than those left
+abbrev pub SegmentAnswer : Grid → Task → ℕ → ℕ → Holdings → Holdings → Result ℕ PlanErr → Type 0
+SegmentAnswer d g segment left a b (Ok rest) =
+    HoldsBelow d g b ((segment + 1) * rungs_of g.film) × (rest + length (grown_labels d g segment) ≡ left) × (node_count b + rest ≡ node_count a + left)
+SegmentAnswer d g segment left a b (Err (fault.BudgetSpent s)) = (s ≡ segment) × (left < length (grown_labels d g segment))
+SegmentAnswer d g segment left a b (Err fault.Memory) = Unit {0}
 
--- all layers with the number of their labels, or the segment at which the budget is spent
+-- all frontiers with the number of their labels, or the segment at which the budget is spent
 abbrev pub FrontiersAnswer : Grid → Task → ℕ → Result Frontiers PlanErr → Type 0
-FrontiersAnswer d g budget (Ok f) =
-    HoldAll d g f.layers.items × (length f.layers.items ≡ segments_of g.film) × (f.labels ≡ labels_in g (grown d g)) × (f.labels ≤ budget)
+FrontiersAnswer d g budget (Ok f) = HoldsAll d g f.arena × (f.labels ≡ labels_in g (grown d g)) × (f.labels ≤ budget)
 FrontiersAnswer d g budget (Err (fault.BudgetSpent s)) = SpentAt g (grown d g) budget s
 FrontiersAnswer d g budget (Err fault.Memory) = Unit {0}

@@ -7,3 +7,5 @@ pub mod Blocks
 pub mod Thinned
 pub mod Planning
 pub mod Brief
+pub mod Parents
+pub mod Linked

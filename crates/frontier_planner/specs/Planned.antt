@@ -1,5 +1,6 @@
 -- What the planner answers: a plan with all that makes it the best, or the segment at which the budget is spent.
-use Rattle.std.specs.Prelude.{◌≡◌, ℕ, ◌≤◌, ℤ, Result, Ok, Err}
+use Rattle.std.specs.Prelude.{◌≡◌, ℕ, ◌≤◌, ℤ, Result, Ok, Err, length}
+use Rattle.lab_model.specs.Film.{segments_of}
 use Rattle.labels.specs.declared.label.Grid.{Grid}
 use Rattle.frontier_planner.specs.declared.plans.CoarsePlan.{CoarsePlan}
 use Rattle.labels.specs.declared.plans.Plan.{Plan}
@@ -11,7 +12,9 @@ use Rattle.labels.specs.Grid.{exact}
 use Rattle.labels.specs.Grown.{grown}
 use Rattle.labels.specs.Parts.{plan_parts}
 use Rattle.labels.specs.Form.{HasSignedDigits, IsCertificate, score_digits}
-use Rattle.labels.specs.Read.{Chains, SpentAt, bound_of, certificate_from, labels_in}
+use Rattle.labels.specs.Read.{Chains, SpentAt, bound_of, certificate_from, end_of_plan, labels_in, list_of_plan}
+use Rattle.frontier_planner.specs.Layers.{HoldAll}
+use Rattle.frontier_planner.specs.declared.planner.Reading.{Reading}
 use Rattle.labels.specs.Valid.{IsValid}
 use Rattle.labels.specs.Best.{Settles}
 
@@ -52,3 +55,10 @@ CoarseAnswer d g budget (Err fault.Memory) = Unit {0}
 -- on the grid 1, 1 the coarse plan is the plan
 abbrev pub ExactAnswer : Grid → Task → ℕ → Result CoarsePlan PlanErr → Type 0
 ExactAnswer d g budget r = d ≡ exact → PlanAnswer g budget (without_bound r)
+
+-- what is read off the frontiers: the end, the list and the chains
+pub record IsReading (d : Grid) (g : Task) (r : Reading) : Type 0 where
+  pub end : r.end ≡ (end_of_plan g (grown d g)).1
+  pub rungs : r.rungs.items ≡ list_of_plan d g (grown d g)
+  pub holds : HoldAll d g r.layers.items
+  pub count : length r.layers.items ≡ segments_of g.film

@@ -7,7 +7,7 @@ ghost use Rattle.labels.specs.Read.{place_above};
 ghost use Rattle.frontier_planner.specs.Staircase.{IsRising};
 
 use crate::climb::climbs;
-use crate::grow::Layer;
+use crate::frontiers::Layer;
 use crate::staircase::Staircase;
 use lab_model::Label;
 use labels::dominates;

@@ -74,6 +74,14 @@ impl<'a> Brief<'a> {
         &self.scene.setup().weights
     }
 
+    /// The step of values on the grid, 1 to 1000000 thousandths of a point.
+    pub(crate) fn value_step(&self) -> u64
+        ensures value { result ≡ self.now.grid.value }
+        ensures can { IsPlanning self.now }
+    {
+        self.grid.value as u64
+    }
+
     /// The label on the grid. Its value lies within 9 * 10^17 of 0.
     pub(crate) fn round(&self, label: Label) -> Label
         requires { IsNear 900000000000000000 label.v }

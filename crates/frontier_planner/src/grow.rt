@@ -1,21 +1,16 @@
-//! Growing the frontiers of a segment from those of the segment before.
+//! Growing the frontier of a segment and a rung from the labels of the segment before.
 
-ghost use Rattle.std.specs.Prelude.{◌≡◌, ℕ, ◌+◌, ◌-◌, ◌*◌, ◌<◌, ◌≤◌, ◌++◌, IfOk, List, map, length, slice_index_or};
-ghost use Rattle.std.specs.List.Sorted.{IsSortedBy};
+ghost use Rattle.std.specs.Prelude.{◌≡◌, ℕ, ◌+◌, ◌-◌, ◌*◌, ◌<◌, ◌≤◌, IfOk, List, map, length};
+ghost use Rattle.std.specs.List.Sorted.{IsPermutation, IsSortedBy};
 ghost use Rattle.std.specs.Ordering.{is_lt};
 ghost use Rattle.lab_model.specs.Film.{rungs_of, segments_of};
 ghost use Rattle.frontier_planner.specs.Brief.{AreFollowed};
-ghost use Rattle.labels.specs.Frontier.{undominated};
-ghost use Rattle.labels.specs.Grid.{rounded};
-ghost use Rattle.labels.specs.Grown.{grown, grown_labels};
-ghost use Rattle.labels.specs.Labels.{next_label};
-ghost use Rattle.frontier_planner.specs.Layers.{LayerAnswer, FrontiersAnswer};
+ghost use Rattle.frontier_planner.specs.Parents.{AreFirst, HaveParents, candidate_cmp, follower};
 ghost use Rattle.frontier_planner.specs.Sweep.{sweep_cmp};
 
 use crate::brief::Brief;
-use crate::plans::PlanErr;
 use crate::staircase::Staircase;
-use crate::thin::labels_to_follow;
+use crate::thin::Followed;
 use lab_model::Label;
 use std::alloc::{AllocError, Global};
 use std::cmp::Ordering;
@@ -27,180 +22,99 @@ pub(crate) fn sweep_order(a: &Label, b: &Label) -> Ordering
     a.t.cmp(&b.t).then(a.p.cmp(&b.p)).then(b.v.cmp(&a.v))
 }
 
-/// The labels of a list in the order of the sweep that no earlier one dominates.
-fn sweep(alloc: Global, labels: &[Label]) -> Result<Vec<Label>, AllocError>
-    requires { IsSortedBy (λ a b. is_lt (sweep_cmp a b)) labels.now }
-    ensures { IfOk result (λ v. v.items ≡ undominated labels.now) }
+/// A label that may stand in a frontier.
+#[derive(Clone, Copy)]
+pub struct Candidate {
+    /// The label.
+    pub label: Label,
+    /// The place of the label that it follows among those of the segment before, by rung, then place.
+    pub parent: usize,
+}
+
+/// The order of the sweep, and of parents among equal labels.
+fn candidate_order(a: &Candidate, b: &Candidate) -> Ordering
+    ensures { result ≡ candidate_cmp a.now b.now }
+{
+    sweep_order(&a.label, &b.label).then(a.parent.cmp(&b.parent))
+}
+
+/// Of candidates in order, those that no earlier one dominates.
+fn sweep(alloc: Global, candidates: &[Candidate]) -> Result<Vec<Candidate>, AllocError>
+    requires { IsSortedBy (λ a b. is_lt (candidate_cmp a b)) candidates.now }
+    ensures { IfOk result (λ v. AreFirst candidates.now v.items) }
 {
     let mut kept = Vec::new(alloc);
     let mut staircase = Staircase::new(alloc);
-    for l in labels {
-        if !staircase.covers(*l) {
-            staircase.add(*l)?;
-            kept.push(*l)?;
+    for candidate in candidates {
+        if !staircase.covers(candidate.label) {
+            staircase.add(candidate.label)?;
+            kept.push(*candidate)?;
         }
     }
     Ok(kept)
 }
 
-/// The distinct labels of a list that no different one dominates, in order.
-fn undominated_labels(alloc: Global, labels: Vec<Label>) -> Result<Vec<Label>, AllocError>
-    ensures { IfOk result (λ v. v.items ≡ undominated labels.items) }
+/// The distinct labels of candidates that no different one dominates, in order, each with its first parent.
+fn first_undominated(
+    alloc: Global,
+    candidates: Vec<Candidate>,
+) -> Result<Vec<Candidate>, AllocError>
+    ensures { IfOk result (λ v. AreFirst candidates.items v.items) }
 {
-    let mut candidates = labels;
-    candidates.sort_unstable_by(|a, b| sweep_order(a, b));
-    sweep(alloc, &candidates)
+    let mut swept = candidates;
+    swept.sort_unstable_by(|a, b| candidate_order(a, b));
+    sweep(alloc, &swept)
 }
 
-/// The rounded successors, to a segment on a rung, of labels that are enough to follow, with their rungs.
+/// The rounded successors, to a segment on a rung, of labels that are enough to follow.
 fn successors(
     alloc: Global,
     brief: &Brief,
     segment: u16,
-    followed: &[(u8, Label)],
+    followed: &[Followed],
     rung: u8,
-) -> Result<Vec<Label>, AllocError>
+) -> Result<Vec<Candidate>, AllocError>
     requires segment { (1 ≤ segment) × (segment < segments_of brief.now.scene.film) }
     requires rung { rung < rungs_of brief.now.scene.film }
     requires followed { AreFollowed brief.now segment followed.now }
-    ensures { IfOk result (λ v. v.items ≡ map
-        (λ c. rounded brief.now.grid (next_label brief.now.scene segment c.0 c.1 rung))
-        followed.now) }
+    ensures { IfOk result (λ v. v.items
+        ≡ map (follower brief.now.grid brief.now.scene segment rung) followed.now) }
 {
     prove!(brief.segments() > 0);
     let mut made = Vec::with_capacity(alloc, followed.len())?;
     for old in followed {
-        let next = brief.next(segment, *old, rung);
-        made.push(brief.round(next))?;
+        let next = brief.next(segment, (old.rung, old.label), rung);
+        made.push(Candidate {
+            label: brief.round(next),
+            parent: old.place,
+        })?;
     }
     Ok(made)
 }
 
-/// The coarse frontier of a segment and a rung, from labels that are enough to follow; segment 0 needs none.
-fn frontier(
+/// The coarse frontier of a segment and a rung with its first parents, from labels that are enough to follow; segment 0 needs none.
+pub fn frontier(
     alloc: Global,
     brief: &Brief,
     segment: u16,
-    followed: &[(u8, Label)],
+    followed: &[Followed],
     rung: u8,
-) -> Result<Vec<Label>, AllocError>
+) -> Result<Vec<Candidate>, AllocError>
     requires segment { segment < segments_of brief.now.scene.film }
     requires rung { rung < rungs_of brief.now.scene.film }
     requires followed { 0 < segment → AreFollowed brief.now segment followed.now }
-    ensures { IfOk result (λ v. v.items
-        ≡ grown brief.now.grid brief.now.scene segment rung) }
+    ensures { IfOk result (λ v. HaveParents brief.now.grid brief.now.scene segment rung v.items) }
 {
     prove!(brief.segments() > 0);
     if segment == 0 {
         let start = brief.start(rung);
         let mut only = Vec::new(alloc);
-        only.push(brief.round(start))?;
+        only.push(Candidate {
+            label: brief.round(start),
+            parent: 0,
+        })?;
         return Ok(only);
     }
     let candidates = successors(alloc, brief, segment, followed, rung)?;
-    undominated_labels(alloc, candidates)
-}
-
-/// Labels that are enough to follow to a segment, and none for segment 0.
-fn followed_labels(
-    alloc: Global,
-    brief: &Brief,
-    segment: u16,
-    before: &[(u8, Label)],
-) -> Result<Vec<(u8, Label)>, AllocError>
-    requires segment { segment < segments_of brief.now.scene.film }
-    requires before { 0 < segment
-        → before.now ≡ grown_labels brief.now.grid brief.now.scene (segment - 1) }
-    ensures { IfOk result (λ v. 0 < segment → AreFollowed brief.now segment v.items) }
-{
-    if segment == 0 {
-        return Ok(Vec::new(alloc));
-    }
-    labels_to_follow(alloc, brief, segment, before)
-}
-
-/// The frontiers of one segment.
-#[derive(Drop)]
-pub struct Layer {
-    /// The labels with their rungs, by rung, then place.
-    pub labels: Vec<(u8, Label)>,
-    /// The chains by rung.
-    pub chains: Vec<Vec<Label>>,
-}
-
-/// Adds the labels of a chain with their rung.
-fn add_chain(labels: &mut Vec<(u8, Label)>, rung: u8, chain: &[Label]) -> Result<(), AllocError>
-    ensures { IfOk result (λ _. labels.new.items
-        ≡ labels.old.items ++ map (λ l. (rung, l)) chain.now) }
-{
-    for l in chain {
-        labels.push((rung, *l))?;
-    }
-    Ok(())
-}
-
-/// The frontiers of a segment, from the labels of the segment before. Its labels may be so many as are left of
-/// the budget.
-fn grown_layer(
-    alloc: Global,
-    brief: &Brief,
-    segment: u16,
-    before: &[(u8, Label)],
-    left: u32,
-) -> Result<Layer, PlanErr>
-    requires segment { segment < segments_of brief.now.scene.film }
-    requires before { 0 < segment
-        → before.now ≡ grown_labels brief.now.grid brief.now.scene (segment - 1) }
-    ensures { LayerAnswer brief.now.grid brief.now.scene segment left result }
-{
-    let followed = followed_labels(alloc, brief, segment, before)?;
-    let mut labels = Vec::new(alloc);
-    let mut chains = Vec::new(alloc);
-    for rung in 0..brief.rungs() {
-        let chain = frontier(alloc, brief, segment, &followed, rung)?;
-        if chain.len() > left as usize - labels.len() {
-            return Err(PlanErr::BudgetSpent { segment: segment });
-        }
-        add_chain(&mut labels, rung, &chain)?;
-        chains.push(chain)?;
-    }
-    Ok(Layer { labels, chains })
-}
-
-/// The labels of the last layer, and none where there is no layer.
-fn last_labels(layers: &[Layer]) -> &[(u8, Label)]
-    ensures { (x : Layer) → 0 < length layers.now
-        → result.now ≡ (slice_index_or layers.now (length layers.now - 1) x).labels.items }
-{
-    match layers.last() {
-        Some(layer) => &layer.labels,
-        None => &[],
-    }
-}
-
-/// The frontiers of all segments.
-#[derive(Drop)]
-pub struct Frontiers {
-    /// The layers by segment.
-    pub layers: Vec<Layer>,
-    /// The number of their labels.
-    pub labels: u32,
-}
-
-/// The frontiers of all segments, which may have as many labels as the budget.
-pub fn grown_frontiers(alloc: Global, brief: &Brief, budget: u32) -> Result<Frontiers, PlanErr>
-    ensures { FrontiersAnswer brief.now.grid brief.now.scene budget result }
-{
-    let mut layers = Vec::new(alloc);
-    let mut left = budget;
-    for segment in 0..brief.segments() {
-        let before = last_labels(&layers);
-        let next = grown_layer(alloc, brief, segment, before, left)?;
-        left -= next.labels.len() as u32;
-        layers.push(next)?;
-    }
-    Ok(Frontiers {
-        layers,
-        labels: budget - left,
-    })
+    first_undominated(alloc, candidates)
 }

@@ -3,7 +3,9 @@
 
 mod blocks;
 mod brief;
+mod chains;
 mod climb;
+mod frontiers;
 mod grow;
 mod names;
 mod planner;

@@ -15,7 +15,7 @@ ghost use Rattle.labels.specs.Read.{chain_list, place_above, starts_of};
 use crate::blocks::{Finder, first_above, next_finders, place_from};
 use crate::brief::Brief;
 use crate::climb::place_of_value;
-use crate::grow::Layer;
+use crate::frontiers::Layer;
 use lab_model::Label;
 use labels::Chain;
 use std::alloc::{AllocError, Global};

@@ -5,34 +5,62 @@ ghost use Rattle.lab_model.specs.Fit.{SetupFits};
 ghost use Rattle.player_core.specs.Available.{all_ahead};
 ghost use Rattle.labels.specs.Grid.{IsGrid, exact};
 ghost use Rattle.player_core.specs.Scene.{task_of};
-ghost use Rattle.frontier_planner.specs.Planned.{CoarseAnswer, ExactAnswer, PlanAnswer};
+ghost use Rattle.frontier_planner.specs.Linked.{HoldsAll};
+ghost use Rattle.frontier_planner.specs.Planned.{CoarseAnswer, ExactAnswer, IsReading, PlanAnswer};
 
 use crate::brief::Brief;
-use crate::grow::{Frontiers, grown_frontiers};
+use crate::chains::reached_labels;
+use crate::frontiers::{Frontiers, Layer, grown_frontiers, layers_of};
 use crate::names::{chains, starts};
 use crate::plans::{CoarsePlan, PlanErr};
 use crate::read::{best_end, rungs_to, value_of_list};
-use lab_model::{Manifest, Setup};
+use lab_model::{Label, Manifest, Setup};
+use label_arena::Arena;
 use labels::{Grid, Plan};
 use network_clock::Clock;
 use player_core::Scene;
-use std::alloc::Global;
+use std::alloc::{AllocError, Global};
+
+/// What is read off the arena.
+#[derive(Drop)]
+struct Reading {
+    /// The label that the plan ends in.
+    pub end: Label,
+    /// The plan's rungs.
+    pub rungs: Vec<u8>,
+    /// The chains.
+    pub layers: Vec<Layer>,
+}
+
+/// What is read off the arena, which is then let go.
+fn reading_of(alloc: Global, brief: &Brief, arena: Arena) -> Result<Reading, AllocError>
+    requires { HoldsAll brief.now.grid brief.now.scene arena }
+    ensures { IfOk result (λ r. IsReading brief.now.grid brief.now.scene r) }
+{
+    let last = brief.segments() - 1;
+    let end = best_end(brief, &reached_labels(alloc, brief, &arena, last)?);
+    let rungs = rungs_to(alloc, brief, &arena, last, end)?;
+    let layers = layers_of(alloc, brief, &arena)?;
+    Ok(Reading {
+        end: end.label,
+        rungs,
+        layers,
+    })
+}
 
 /// The plan of a brief, whose frontiers may have as many labels as the budget.
 fn plan_of(alloc: Global, brief: &Brief, budget: u32) -> Result<CoarsePlan, PlanErr>
     requires { (1 ≤ budget) × (budget ≤ 1000000) }
     ensures { CoarseAnswer brief.now.grid brief.now.scene budget result }
 {
-    let table = brief.has_table();
-    let last = brief.segments() - 1;
-    let Frontiers { layers, labels } = grown_frontiers(alloc, brief, budget)?;
-    let end = best_end(brief, &layers[last as usize].labels);
-    let rungs = rungs_to(alloc, brief, &layers, last, end)?;
+    prove!(brief.segments() > 0);
+    let Frontiers { arena, labels } = grown_frontiers(alloc, brief, budget)?;
+    let Reading { end, rungs, layers } = reading_of(alloc, brief, arena)?;
     let score = value_of_list(brief, &rungs);
     let starts = starts(alloc, brief, &layers)?;
     let chains = chains(alloc, brief, &layers)?;
     let plan = Plan {
-        table,
+        table: brief.has_table(),
         rungs,
         score,
         labels,
@@ -41,7 +69,7 @@ fn plan_of(alloc: Global, brief: &Brief, budget: u32) -> Result<CoarsePlan, Plan
     };
     Ok(CoarsePlan {
         plan,
-        bound: brief.end_value(end.1),
+        bound: brief.end_value(end),
     })
 }
 

@@ -3,6 +3,7 @@
 ghost use Rattle.std.specs.Prelude.{◌≡◌};
 ghost use Rattle.frontier_planner.specs.declared.plans.PlanErr.TheVariants.{Memory};
 
+use lab_model::NoMemory;
 use labels::Plan;
 use std::alloc::{AllocError, AllocFailed};
 
@@ -39,6 +40,14 @@ impl<T: Drop> From<AllocFailed<T>> for PlanErr {
     ghost from_gives = { λ _ e. e ≡ Memory };
 
     fn from(_refused: AllocFailed<T>) -> PlanErr {
+        PlanErr::Memory
+    }
+}
+
+impl From<NoMemory> for PlanErr {
+    ghost from_gives = { λ _ e. e ≡ Memory };
+
+    fn from(_refused: NoMemory) -> PlanErr {
         PlanErr::Memory
     }
 }

@@ -9,46 +9,62 @@ ghost use Rattle.lab_model.specs.Film.{rungs_of, segments_of};
 ghost use Rattle.frontier_planner.specs.Brief.{AreFollowed};
 ghost use Rattle.labels.specs.Grown.{grown_labels};
 ghost use Rattle.labels.specs.Near.{CanFollow};
+ghost use Rattle.frontier_planner.specs.Linked.{pair_of};
 ghost use Rattle.frontier_planner.specs.Sweep.{sweep_cmp};
-ghost use Rattle.frontier_planner.specs.Thinned.{AreLeaders, CoversChange, raised, waiting};
+ghost use Rattle.frontier_planner.specs.Thinned.{AreLeaders, AreWaiting, CoversChange, raised};
 
 use crate::brief::Brief;
+use crate::chains::Reached;
 use crate::grow::sweep_order;
 use crate::staircase::Staircase;
 use lab_model::Label;
 use std::alloc::{AllocError, Global};
+
+/// A label that is followed to the next segment.
+#[derive(Clone, Copy)]
+pub struct Followed {
+    /// Its rung.
+    pub rung: u8,
+    /// The label, with the instant of its request in place of its finish time.
+    pub label: Label,
+    /// Its place among the labels of its segment, by rung, then place.
+    pub place: usize,
+}
 
 /// The labels of the segment before, each with the instant of its request in place of its finish time.
 fn waiting_labels(
     alloc: Global,
     brief: &Brief,
     segment: u16,
-    before: &[(u8, Label)],
-) -> Result<Vec<(u8, Label)>, AllocError>
+    before: &[Reached],
+) -> Result<Vec<Followed>, AllocError>
     requires segment { (1 ≤ segment) × (segment < segments_of brief.now.scene.film) }
-    requires before { All (λ c. CanFollow c.1) before.now }
-    ensures { IfOk result (λ v. v.items ≡ map (waiting brief.now.scene segment) before.now) }
+    requires before { All (λ c. CanFollow c.label) before.now }
+    ensures { IfOk result (λ v. AreWaiting brief.now.scene segment
+        (map pair_of before.now) v.items) }
 {
     let mut waits = Vec::with_capacity(alloc, before.len())?;
     for old in before {
-        let request = brief.request(segment, old.1);
-        waits.push((
-            old.0,
-            Label {
+        let request = brief.request(segment, old.label);
+        let place = waits.len();
+        waits.push(Followed {
+            rung: old.rung,
+            label: Label {
                 t: request,
-                ..old.1
+                ..old.label
             },
-        ))?;
+            place,
+        })?;
     }
     Ok(waits)
 }
 
 /// Puts labels into the order of the sweep, whatever their rungs.
-fn put_in_order(labels: &mut Vec<(u8, Label)>)
-    ensures sorted { IsSortedBy (λ a b. is_lt (sweep_cmp a.1 b.1)) labels.new.items }
+fn put_in_order(labels: &mut Vec<Followed>)
+    ensures sorted { IsSortedBy (λ a b. is_lt (sweep_cmp a.label b.label)) labels.new.items }
     ensures same { IsPermutation labels.old.items labels.new.items }
 {
-    labels.sort_unstable_by(|a, b| sweep_order(&a.1, &b.1));
+    labels.sort_unstable_by(|a, b| sweep_order(&a.label, &b.label));
 }
 
 /// What a change of rung costs at a segment at most: 0 to 10^12 thousandths of a point.
@@ -68,7 +84,7 @@ fn dearest_change(brief: &Brief, segment: u16) -> u64
 /// The label with so much more value.
 fn with_slack(label: Label, slack: u64) -> Label
     requires label { CanFollow label }
-    requires slack { slack ≤ 1000000000000 }
+    requires slack { slack ≤ 1000001000000 }
     ensures { result ≡ raised slack label }
 {
     Label {
@@ -77,22 +93,18 @@ fn with_slack(label: Label, slack: u64) -> Label
     }
 }
 
-/// Of labels in the order of the sweep, those that no earlier one leads by the slack, at most 10^12 thousandths
-/// of a point.
-fn leaders(
-    alloc: Global,
-    labels: &[(u8, Label)],
-    slack: u64,
-) -> Result<Vec<(u8, Label)>, AllocError>
-    requires sorted { IsSortedBy (λ a b. is_lt (sweep_cmp a.1 b.1)) labels.now }
-    requires follow { All (λ c. CanFollow c.1) labels.now }
-    requires slack { slack ≤ 1000000000000 }
+/// Of labels in the order of the sweep, those that no earlier one leads by the slack, at most 10^12 + 10^6
+/// thousandths of a point.
+fn leaders(alloc: Global, labels: &[Followed], slack: u64) -> Result<Vec<Followed>, AllocError>
+    requires sorted { IsSortedBy (λ a b. is_lt (sweep_cmp a.label b.label)) labels.now }
+    requires follow { All (λ c. CanFollow c.label) labels.now }
+    requires slack { slack ≤ 1000001000000 }
     ensures { IfOk result (λ v. AreLeaders slack labels.now v.items) }
 {
     let mut kept = Vec::new(alloc);
     let mut staircase = Staircase::new(alloc);
     for reached in labels {
-        let label = reached.1;
+        let label = reached.label;
         if !staircase.covers(with_slack(label, slack)) {
             kept.push(*reached)?;
             if !staircase.covers(label) {
@@ -103,20 +115,22 @@ fn leaders(
     Ok(kept)
 }
 
-/// Labels that are enough to follow to a segment, in place of all labels of the segment before.
+/// Labels that are enough to follow to a segment, in place of all labels of the segment before. What is left out is
+/// led by a change of rung and a step of the grid, so that it isn't the parent of any label that stays.
 pub fn labels_to_follow(
     alloc: Global,
     brief: &Brief,
     segment: u16,
-    before: &[(u8, Label)],
-) -> Result<Vec<(u8, Label)>, AllocError>
+    before: &[Reached],
+) -> Result<Vec<Followed>, AllocError>
     requires segment { (1 ≤ segment) × (segment < segments_of brief.now.scene.film) }
-    requires before { before.now
+    requires before { map pair_of before.now
         ≡ grown_labels brief.now.grid brief.now.scene (segment - 1) }
     ensures { IfOk result (λ v. AreFollowed brief.now segment v.items) }
 {
     prove!(brief.segments() > 0);
     let mut waits = waiting_labels(alloc, brief, segment, before)?;
     put_in_order(&mut waits);
-    leaders(alloc, &waits, dearest_change(brief, segment))
+    let slack = dearest_change(brief, segment) + brief.value_step();
+    leaders(alloc, &waits, slack)
 }

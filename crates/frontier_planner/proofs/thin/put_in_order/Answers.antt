@@ -6,4 +6,4 @@ use Rattle.frontier_planner.proofs.Thinned.{rung_ranks}
 use Rattle.frontier_planner.proofs.thin.put_in_order.Goals as goal
 
 pub returns-clause-sorted : goal.returns-clause-sorted
-returns-clause-sorted c = c.sort_unstable_by.ensures.sorted (λ a b. is_lt (sweep_cmp a.1 b.1)) rung_ranks (answers_always _ _ _ (λ f a r g h. search rules))
+returns-clause-sorted c = c.sort_unstable_by.ensures.sorted (λ a b. is_lt (sweep_cmp a.label b.label)) rung_ranks (answers_always _ _ _ (λ f a r g h. search rules))

@@ -1,6 +1,10 @@
-use Rattle.std.proofs.Common.{◌≡◌, map, take}
-use Rattle.frontier_planner.specs.Thinned.{waiting}
+use Rattle.std.proofs.Common.{◌≡◌, ℕ, ◌<◌, get_or, length, map}
+use Rattle.frontier_planner.specs.Linked.{pair_of}
+use Rattle.frontier_planner.specs.Thinned.{no_followed, waiting_at}
 use Rattle.frontier_planner.proofs.thin.waiting_labels.Given as goal
 
 abbrev pub invariant-loop-old : goal.invariant-loop-old
-invariant-loop-old l = l.waits.items ≡ map (waiting l.brief.scene l.segment) (take l.old-index l.before)
+invariant-loop-old l = record {
+  count : length l.waits.items ≡ l.old-index;
+  each : (k : ℕ) → k < l.old-index → get_or l.waits.items k no_followed ≡ waiting_at l.brief.scene l.segment (map pair_of l.before) k;
+}
