@@ -19,6 +19,7 @@ use label_arena::Arena;
 use labels::{Grid, Plan};
 use network_clock::Clock;
 use player_core::Scene;
+use player_core::limits::ALL_AHEAD_MS;
 use std::alloc::{AllocError, Global};
 
 /// What is read off the arena.
@@ -97,9 +98,6 @@ pub fn plan_from(
     plan_of(alloc, &Brief::new(scene, grid), budget)
 }
 
-/// So many milliseconds of media ahead that all of a film is there at instant 0.
-const ALL_AHEAD: u32 = 120_000_000;
-
 /// The plan of a film on demand: the best rung list, with its frontiers. They may have as many labels as the
 /// budget, 1 to 1000000: `BudgetSpent` names the first segment at whose end they have more.
 pub fn plan(
@@ -114,5 +112,5 @@ pub fn plan(
     ensures { PlanAnswer (task_of film.now clock.now setup.now all_ahead) budget result }
 {
     let exact = Grid { time: 1, value: 1 };
-    Ok(plan_from(alloc, film, clock, setup, ALL_AHEAD, exact, budget)?.plan)
+    Ok(plan_from(alloc, film, clock, setup, ALL_AHEAD_MS, exact, budget)?.plan)
 }
