@@ -41,16 +41,6 @@ module _ (g : Task) (ws : List Window) (q first : ℕ) (start gain worth : ℤ) 
       ap₂ (λ a b. (a +ℤ gain) +ℤ b) s k
       ∙ ap₂ (λ n a. (start_worth g q n +ℤ a) +ℤ link_part g ws n) at l
 
--- ---- rounded up
-
-pub rounded_from_0 : (z : ℤ) (n : ℕ) → n ≡ unsigned_abs z → pos 0 ≤ℤ z → pos (div_ceil n price_unit) ≡ rounded_up z
-rounded_from_0 (pos k) n e h = ap (λ m. pos (div_ceil m price_unit)) e
-rounded_from_0 (negsuc k) n e h = absurd (omega (arith, ints, h))
-
-pub rounded_below_0 : (z : ℤ) (n : ℕ) → n ≡ unsigned_abs z → z <ℤ pos 0 → neg_ℤ (pos (n / price_unit)) ≡ rounded_up z
-rounded_below_0 (pos k) n e h = absurd (omega (arith, ints, h))
-rounded_below_0 (negsuc k) n e h = ap (λ m. neg_ℤ (pos (m / price_unit))) e
-
 -- ---- all first rungs
 
 -- what two numbers have, the greater of them has

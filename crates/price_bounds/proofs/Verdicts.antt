@@ -30,9 +30,6 @@ le_true a b h = grind (arith, ints)
 le_yes : (a b : ℤ) → a ≤ℤ b → int_le a b ≡ true
 le_yes a b h = grind (arith, ints)
 
-le_no : (a b : ℤ) → b <ℤ a → int_le a b ≡ false
-le_no a b h = grind (arith, ints)
-
 z_both : (a b : ℤ) → a ≤ℤ b → b ≤ℤ a → a ≡ b
 z_both a b h k = omega (arith, ints)
 
@@ -42,14 +39,6 @@ z_itself a b e = omega (arith, ints, e)
 -- equal numbers pass both tests
 both_ways : (a b : ℤ) → a ≡ b → (int_le a b && int_le b a) ≡ true
 both_ways a b e = and_from (int_le a b) (int_le b a) (le_yes a b (z_itself a b e)) (le_yes b a (z_itself b a (sym e)))
-
--- and others don't
-not_both : (a b : ℤ) → (a ≡ b → ⊥) → (int_le a b && int_le b a) ≡ false
-not_both a b apart = by_lt_z b a
-    (λ (low : b <ℤ a). ap (λ t. t && int_le b a) (le_no a b low))
-    (λ (up : a ≤ℤ b). by_lt_z a b
-    (λ (high : a <ℤ b). ap (λ t. int_le a b && t) (le_no b a high) ∙ and-false (int_le a b))
-    (λ (down : b ≤ℤ a). absurd (apart (z_both a b up down))))
 
 -- ---- rungs
 
@@ -97,27 +86,6 @@ window_fits segments w h =
     let d = and_parts (nat_le 1 w.price) (nat_le w.price most_price) c.1 in
     record { begins = leb-true _ _ a.0; order = leb-true _ _ b.0; inside = ltb-true _ _ c.0; price = (leb-true _ _ d.0, leb-true _ _ d.1) }
 
-module _ (segments first last number : ℕ) (w : Window) (ws : List Window) where
-  -- a window in range and in order is passed
-  pub window_passed : is_window segments w && comes_after first last w ≡ true → bad_window segments first last number (w ∷ ws) ≡ bad_window segments w.first w.last (number + 1) ws
-  window_passed h = cond-true (is_window segments w && comes_after first last w) (bad_window segments w.first w.last (number + 1) ws) (Some number) h
-
-  -- and another is found
-  pub window_bad : is_window segments w && comes_after first last w ≡ false → bad_window segments first last number (w ∷ ws) ≡ Some number
-  window_bad h = cond-false (is_window segments w && comes_after first last w) (bad_window segments w.first w.last (number + 1) ws) (Some number) h
-
-module _ (segments first last k : ℕ) (ws : List Window) (w : Window) where
-  -- the same along a list from a place on
-  pub window_more : k < length ws → w ≡ get_or ws k w → is_window segments w && comes_after first last w ≡ true
-      → bad_window segments first last k (drop k ws) ≡ bad_window segments w.first w.last (k + 1) (drop (k + 1) ws)
-  window_more inside read h =
-      ap (bad_window segments first last k) (drop-cons ws k w inside ∙ ap (λ v. v ∷ drop (suc k) ws) (sym read))
-      ∙ window_passed segments first last k w (drop (suc k) ws) h ∙ ap (λ n. bad_window segments w.first w.last (k + 1) (drop n ws)) (sym (add-one k))
-
-  pub window_stop : k < length ws → w ≡ get_or ws k w → is_window segments w && comes_after first last w ≡ false → bad_window segments first last k (drop k ws) ≡ Some k
-  window_stop inside read h =
-      ap (bad_window segments first last k) (drop-cons ws k w inside ∙ ap (λ v. v ∷ drop (suc k) ws) (sym read)) ∙ window_bad segments first last k w (drop (suc k) ws) h
-
 -- behind the last window none is found
 pub window_end : (segments first last k : ℕ) (ws : List Window) → length ws ≤ k → bad_window segments first last k (drop k ws) ≡ None
 window_end segments first last k ws past = ap (bad_window segments first last k) (drop_all k ws past)
@@ -155,23 +123,11 @@ module _ (g : Task) (c : PriceParts) where
       let own = task_value g c.plan in
       sym (cond-true (int_le own c.score && int_le c.score own) Yes (OtherScore own) (both_ways own c.score (sym is ∙ same)))
 
-  -- or it isn't
-  pub score_other : (value : ℤ) → value ≡ task_value g c.plan → (value ≡ c.score → ⊥) → OtherScore value ≡ score_verdict g c
-  score_other value is apart =
-      let own = task_value g c.plan in
-      ap OtherScore is ∙ sym (cond-false (int_le own c.score && int_le c.score own) Yes (OtherScore own) (not_both own c.score (λ e. apart (is ∙ e))))
-
   -- P3: the bound is at most the certificate's
   pub bound_passed : (bound : ℤ) (rest : PriceVerdict) → bound ≡ bound_of g c.windows → bound ≤ℤ c.bound → rest ≡ score_verdict g c → rest ≡ bound_verdict g c
   bound_passed bound rest is low e =
       let own = bound_of g c.windows in
       e ∙ sym (cond-true (int_le own c.bound) (score_verdict g c) (BoundAbove own) (le_yes own c.bound (subst (λ b. b ≤ℤ c.bound) is low)))
-
-  -- or it isn't
-  pub bound_above : (bound : ℤ) → bound ≡ bound_of g c.windows → c.bound <ℤ bound → BoundAbove bound ≡ bound_verdict g c
-  bound_above bound is high =
-      let own = bound_of g c.windows in
-      ap BoundAbove is ∙ sym (cond-false (int_le own c.bound) (score_verdict g c) (BoundAbove own) (le_no own c.bound (subst (λ b. c.bound <ℤ b) is high)))
 
   -- P1: the counts aren't the film's
   pub other_film : is_of_film g c ≡ false → OtherFilm ≡ verdict_of g c

@@ -75,7 +75,7 @@ fn bound_on(
 }
 
 /// The least whole number that isn't below so many parts.
-fn rounded_up(parts: i128) -> i128
+fn round_up(parts: i128) -> i128
     requires { IsNear most_bound parts }
     ensures { result ≡ rounded_up parts }
 {
@@ -110,5 +110,5 @@ pub fn bound_of_windows(
         let next = bound_on(alloc, scene, windows, rung, parts[rung as usize])?;
         best = best.max(next);
     }
-    Ok(rounded_up(best))
+    Ok(round_up(best))
 }

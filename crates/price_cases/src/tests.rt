@@ -1,5 +1,7 @@
 //! Bounds, with answers from outside.
 
+ghost use Rattle.std.specs.Prelude.{◌<◌, ◌≤◌};
+
 use lab_model::{Manifest, Period, Setup, Trace, Weights};
 use network_clock::Clock;
 use player_core::Scene;
@@ -11,7 +13,7 @@ use std::process::Abort;
 use std::test::Fail;
 
 /// The bounds of the small films, by number, and the greatest values of their lists.
-const BOUNDS: [(i128, i128); 30] = [
+static BOUNDS: [(i128, i128); 30] = [
     (10_000, 10_000),
     (49_307, 33_658),
     (286_430_406_111_266, 4860),
@@ -45,7 +47,9 @@ const BOUNDS: [(i128, i128); 30] = [
 ];
 
 /// The film of a number: 1 to 4 segments, 2 or 3 rungs.
-fn film(alloc: Global, k: u32) -> Result<Manifest, Fail> {
+fn film(alloc: Global, k: u32) -> Result<Manifest, Fail>
+    requires { k < 30 }
+{
     let rungs = 2 + k % 2;
     let mut bitrates = vec![in alloc; 500, 1500, 4000]?;
     bitrates.truncate(rungs as usize);
@@ -159,33 +163,24 @@ fn list(alloc: Global, number: u32, rungs: u8, segments: u16) -> Result<Vec<u8>,
     Ok(plan)
 }
 
-/// The score that a check of a list by its own bound gives, where the certificate says another.
-fn score(
-    rt: &impl Abort,
-    alloc: Global,
-    scene: &Scene<'_>,
-    k: u32,
-    plan: Vec<u8>,
-) -> Result<i128, Fail>
-    requires { k < 30 }
-{
-    let windows = windows(alloc, k)?;
+/// The value of a list, which a check without windows gives where the certificate says another.
+fn value(rt: &impl Abort, alloc: Global, scene: &Scene<'_>, plan: Vec<u8>) -> Result<i128, Fail> {
     let certificate = PriceCertificate {
         segments: scene.film().segments(),
         rungs: scene.film().rungs(),
         score: i128::MAX,
-        bound: BOUNDS[k as usize].0,
+        bound: i128::MAX,
         plan,
-        windows,
+        windows: Vec::new(alloc),
     };
     assert!(rt; certificate.plan.len() == certificate.segments as usize);
-    assert!(rt; certificate.windows.len() <= 4000);
     match check_prices(alloc, scene, &certificate)? {
         PriceVerdict::OtherScore { score } => Ok(score),
         _ => Err("another verdict")?,
     }
 }
 
+/// No list of a small film is above its bound, and one has the greatest value.
 #[test]
 fn all_lists(rt: HostRuntime) -> Result<(), Fail> {
     let alloc = rt.alloc();
@@ -194,17 +189,18 @@ fn all_lists(rt: HostRuntime) -> Result<(), Fail> {
         assert!(rt; set.fits(&m));
         let scene = Scene::new(&m, &clock, &set, ahead(k));
         let mut best = i128::MIN;
-        for number in 0..81 {
+        for number in 0..(m.rungs() as u32).pow(m.segments() as u32) {
             let plan = list(alloc, number, m.rungs(), m.segments())?;
-            best = best.max(score(&rt, alloc, &scene, k, plan)?);
+            best = best.max(value(&rt, alloc, &scene, plan)?);
         }
-        assert_eq!(rt; best, BOUNDS[k as usize].1);
+        let (bound, most) = BOUNDS[k as usize];
+        assert!(rt; best == most && best <= bound);
     }
     Ok(())
 }
 
 /// Two segments of 2000 or 4000 ms on 500 kbps; a window of the second one at a price, and the bound.
-const BY_HAND: [(u64, i128); 4] = [
+static BY_HAND: [(u64, i128); 4] = [
     (0, 16_000),
     (1, 15_999),
     (5000, 8500),
@@ -237,7 +233,8 @@ fn by_hand(rt: HostRuntime) -> Result<(), Fail> {
     };
     assert!(rt; set.fits(&m) && m.segments() == 2);
     let scene = Scene::on_demand(&m, &clock, &set);
-    for (price, bound) in BY_HAND {
+    for (price, bound) in &BY_HAND {
+        let (price, bound) = (*price, *bound);
         let mut windows = Vec::new(alloc);
         if price > 0 {
             windows.push(Window {
@@ -291,124 +288,143 @@ fn greatest_prices(rt: HostRuntime) -> Result<(), Fail> {
     Ok(())
 }
 
-/// A certificate of film 7 with two windows, and its verdict.
-#[derive(Drop)]
-struct Claim {
-    segments: u16,
-    rungs: u8,
-    score: i128,
-    bound: i128,
-    plan: [u8; 4],
-    windows: [(u16, u16, u64); 2],
-    verdict: PriceVerdict,
+/// A valid certificate of film 7, played live.
+fn valid(alloc: Global) -> Result<PriceCertificate, Fail> {
+    Ok(PriceCertificate {
+        segments: 4,
+        rungs: 3,
+        score: 43_220,
+        bound: 508_490,
+        plan: vec![in alloc; 2, 1, 0, 1]?,
+        windows: windows(alloc, 7)?,
+    })
 }
 
-const VALID: Claim = Claim {
-    segments: 4,
-    rungs: 3,
-    score: 43_220,
-    bound: 508_490,
-    plan: [2, 1, 0, 1],
-    windows: [(1, 3, 280_001), (2, 2, 180_000)],
-    verdict: PriceVerdict::Yes,
-};
-
-const CLAIMS: [Claim; 15] = [
-    VALID,
-    Claim {
-        bound: 508_491,
-        ..VALID
-    },
-    Claim {
-        rungs: 2,
-        verdict: PriceVerdict::OtherFilm,
-        ..VALID
-    },
-    Claim {
-        plan: [2, 1, 3, 4],
-        verdict: PriceVerdict::BadRung { segment: 2 },
-        ..VALID
-    },
-    Claim {
-        windows: [(0, 3, 5), (2, 2, 180_000)],
-        verdict: PriceVerdict::BadWindow { window: 0 },
-        ..VALID
-    },
-    Claim {
-        windows: [(1, 3, 280_001), (3, 2, 5)],
-        verdict: PriceVerdict::BadWindow { window: 1 },
-        ..VALID
-    },
-    Claim {
-        windows: [(1, 3, 280_001), (2, 4, 5)],
-        verdict: PriceVerdict::BadWindow { window: 1 },
-        ..VALID
-    },
-    Claim {
-        windows: [(1, 3, 280_001), (2, 2, 0)],
-        verdict: PriceVerdict::BadWindow { window: 1 },
-        ..VALID
-    },
-    Claim {
-        windows: [(1, 3, 280_001), (2, 2, 1_000_000_000_001)],
-        verdict: PriceVerdict::BadWindow { window: 1 },
-        ..VALID
-    },
-    Claim {
-        windows: [(1, 3, 280_001), (1, 3, 280_001)],
-        verdict: PriceVerdict::BadWindow { window: 1 },
-        ..VALID
-    },
-    Claim {
-        windows: [(2, 2, 180_000), (1, 3, 280_001)],
-        verdict: PriceVerdict::BadWindow { window: 1 },
-        ..VALID
-    },
-    Claim {
-        bound: 508_489,
-        verdict: PriceVerdict::BoundAbove { bound: 508_490 },
-        ..VALID
-    },
-    Claim {
-        windows: [(1, 1, 1_000_000_000_000), (3, 3, 1_000_000_000_000)],
-        verdict: PriceVerdict::BoundAbove {
-            bound: 748_418_895_306_386_291_570,
-        },
-        ..VALID
-    },
-    Claim {
-        score: 43_221,
-        verdict: PriceVerdict::OtherScore { score: 43_220 },
-        ..VALID
-    },
-    Claim {
-        plan: [0, 0, 0, 0],
-        verdict: PriceVerdict::OtherScore { score: -150 },
-        ..VALID
-    },
-];
-
-#[test]
-fn verdicts(rt: HostRuntime) -> Result<(), Fail> {
-    let alloc = rt.alloc();
+/// Its verdict, on film 7 with 2100 ms of media ahead.
+fn verdict(
+    rt: &impl Abort,
+    alloc: Global,
+    certificate: &PriceCertificate,
+) -> Result<PriceVerdict, Fail> {
     let (m, clock, set) = (film(alloc, 7)?, clock(alloc, 7)?, setup(alloc, 7)?);
     assert!(rt; set.fits(&m));
     let scene = Scene::new(&m, &clock, &set, 2100);
-    for claim in &CLAIMS {
-        let mut windows = Vec::new(alloc);
-        for (first, last, price) in claim.windows {
-            windows.push(Window { first, last, price })?;
+    assert!(rt; certificate.plan.len() == certificate.segments as usize);
+    assert!(rt; certificate.windows.len() <= 4000);
+    Ok(check_prices(alloc, &scene, certificate)?)
+}
+
+/// Rungs, score and bound, and the verdict.
+static NUMBERS: [(u8, i128, i128, PriceVerdict); 6] = [
+    (3, 43_220, 508_490, PriceVerdict::Yes),
+    (3, 43_220, 508_491, PriceVerdict::Yes),
+    (2, 43_220, 508_490, PriceVerdict::OtherFilm),
+    (
+        3,
+        43_220,
+        508_489,
+        PriceVerdict::BoundAbove { bound: 508_490 },
+    ),
+    (
+        3,
+        43_221,
+        508_489,
+        PriceVerdict::BoundAbove { bound: 508_490 },
+    ),
+    (
+        3,
+        43_221,
+        508_490,
+        PriceVerdict::OtherScore { score: 43_220 },
+    ),
+];
+
+#[test]
+fn verdicts_on_numbers(rt: HostRuntime) -> Result<(), Fail> {
+    let alloc = rt.alloc();
+    for (rungs, score, bound, said) in &NUMBERS {
+        let mut certificate = valid(alloc)?;
+        certificate.rungs = *rungs;
+        certificate.score = *score;
+        certificate.bound = *bound;
+        assert_eq!(rt; verdict(&rt, alloc, &certificate)?, *said);
+    }
+    Ok(())
+}
+
+/// Rung lists, and the verdict.
+static PLANS: [(&[u8], PriceVerdict); 4] = [
+    (&[2, 1, 0], PriceVerdict::OtherFilm),
+    (&[2, 1, 3, 4], PriceVerdict::BadRung { segment: 2 }),
+    (&[3, 1, 0, 1], PriceVerdict::BadRung { segment: 0 }),
+    (&[0, 0, 0, 0], PriceVerdict::OtherScore { score: -150 }),
+];
+
+#[test]
+fn verdicts_on_lists(rt: HostRuntime) -> Result<(), Fail> {
+    let alloc = rt.alloc();
+    for (plan, said) in &PLANS {
+        let mut certificate = valid(alloc)?;
+        certificate.segments = plan.len() as u16;
+        certificate.plan = plan.to_vec(alloc)?;
+        assert_eq!(rt; verdict(&rt, alloc, &certificate)?, *said);
+    }
+    Ok(())
+}
+
+/// First and last segments and prices of windows, and the verdict.
+static WINDOWS: [(&[(u16, u16, u64)], PriceVerdict); 9] = [
+    (&[(0, 3, 5)], PriceVerdict::BadWindow { window: 0 }),
+    (
+        &[(1, 3, 280_001), (3, 2, 5)],
+        PriceVerdict::BadWindow { window: 1 },
+    ),
+    (
+        &[(1, 3, 280_001), (2, 4, 5)],
+        PriceVerdict::BadWindow { window: 1 },
+    ),
+    (
+        &[(1, 3, 280_001), (2, 2, 0)],
+        PriceVerdict::BadWindow { window: 1 },
+    ),
+    (
+        &[(1, 3, 280_001), (2, 2, 1_000_000_000_001)],
+        PriceVerdict::BadWindow { window: 1 },
+    ),
+    (
+        &[(1, 3, 280_001), (1, 3, 280_001)],
+        PriceVerdict::BadWindow { window: 1 },
+    ),
+    (
+        &[(1, 3, 280_001), (1, 2, 5)],
+        PriceVerdict::BadWindow { window: 1 },
+    ),
+    (
+        &[(2, 2, 180_000), (1, 3, 280_001)],
+        PriceVerdict::BadWindow { window: 1 },
+    ),
+    (
+        &[(1, 1, 1_000_000_000_000), (3, 3, 1_000_000_000_000)],
+        PriceVerdict::BoundAbove {
+            bound: 748_418_895_306_386_291_570,
+        },
+    ),
+];
+
+#[test]
+fn verdicts_on_windows(rt: HostRuntime) -> Result<(), Fail> {
+    let alloc = rt.alloc();
+    for (windows, said) in &WINDOWS {
+        let mut certificate = valid(alloc)?;
+        certificate.windows = Vec::new(alloc);
+        for (first, last, price) in *windows {
+            certificate.windows.push(Window {
+                first: *first,
+                last: *last,
+                price: *price,
+            })?;
         }
-        let certificate = PriceCertificate {
-            segments: claim.segments,
-            rungs: claim.rungs,
-            score: claim.score,
-            bound: claim.bound,
-            plan: claim.plan.to_vec(alloc)?,
-            windows,
-        };
-        assert!(rt; claim.segments == 4 && certificate.windows.len() == 2);
-        assert_eq!(rt; check_prices(alloc, &scene, &certificate)?, claim.verdict);
+        assert_eq!(rt; verdict(&rt, alloc, &certificate)?, *said);
     }
     Ok(())
 }
@@ -470,7 +486,7 @@ fn long_films(rt: HostRuntime) -> Result<(), Fail> {
     assert!(rt; set.fits(&m) && m.segments() == 2000);
     let scene = Scene::on_demand(&m, &clock, &set);
     let windows = long_windows(alloc)?;
-    assert!(rt; are_in_order(&windows, 2000));
+    assert!(rt; are_in_order(&windows, m.segments()));
     assert_eq!(rt; bound_of_windows(alloc, &scene, &windows)?, 328_525_056);
     Ok(())
 }

@@ -46,12 +46,12 @@ returns-clause-value c =
     let some = c.rungs-count.ensures.task.film.rungs.0 in
     let end = c.loop-rung.auto.rung-end (omega (arith, count, some)) in
     let all : c.loop-rung.rung ≡ rungs_of g.film = omega (arith, count, end) in
-    to_z-of_z w128 c.rounded_up.result (search rules)
-    ∙ bound_of_is g c.args.windows.now c.loop-rung.rung (to_z w128 c.loop-rung.best-bits) c.rounded_up.result all c.loop-rung.invariant.best c.rounded_up.ensures
+    to_z-of_z w128 c.round_up.result (search rules)
+    ∙ bound_of_is g c.args.windows.now c.loop-rung.rung (to_z w128 c.loop-rung.best-bits) c.round_up.result all c.loop-rung.invariant.best c.round_up.ensures
 
 pub returns-clause-bounds : goal.returns-clause-bounds
 returns-clause-bounds c =
-    let bound = to_z w128 (of_z w128 c.rounded_up.result) in
+    let bound = to_z w128 (of_z w128 c.round_up.result) in
     λ rungs fits. bound_holds c.args.scene.now c.args.windows.now c.rungs-count.ensures.task c.requires bound (returns-clause-value c) rungs fits
 
 pub returns-clause-low : goal.returns-clause-low
@@ -61,5 +61,5 @@ returns-clause-low c =
 pub returns-clause-plain : goal.returns-clause-plain
 returns-clause-plain c =
     let best = to_z w128 c.loop-rung.best-bits in
-    let own : to_z w128 (of_z w128 c.rounded_up.result) ≡ rounded_up best = to_z-of_z w128 c.rounded_up.result (search rules) ∙ c.rounded_up.ensures in
+    let own : to_z w128 (of_z w128 c.round_up.result) ≡ rounded_up best = to_z-of_z w128 c.round_up.result (search rules) ∙ c.round_up.ensures in
     λ none. subst (λ (b : ℤ). b <ℤ pos (10 ^ score_digits)) (sym own) (plain_short best (c.loop-rung.invariant.plain none))
