@@ -14,7 +14,7 @@ use Rattle.lab_model.specs.Mpc.{lists_of}
 use Rattle.price_bounds.specs.Cells.{cells_of, farthest_delay, least_delay}
 use Rattle.price_bounds.specs.LinkPart.{cell_in, is_rising, rising_cells}
 use Rattle.price_bounds.proofs.Along.{delay_from, delay_near, delay_rises}
-use Rattle.price_bounds.proofs.Cells.{IsCellOf, cell_below, cell_first, cell_found, cells_end, cells_rise}
+use Rattle.price_bounds.proofs.CellLaws.{IsCellOf, cell_below, cell_first, cell_found, cells_end, cells_rise}
 
 -- ---- lists of what a function gives to places in turn
 

@@ -7,6 +7,7 @@ use Rattle.std.proofs.lemmas.Int.{ints}
 use Rattle.std.proofs.lemmas.List.{length-drop, take_all}
 use Rattle.std.proofs.lemmas.List.Elements.{All-drop}
 use Rattle.std.proofs.Math.Nat.{mul-le-mul_left}
+use Rattle.lab_model.proofs.Orders.{≤ℤ_trans}
 use Rattle.lab_model.specs.declared.context.Played.{Played}
 use Rattle.lab_model.specs.declared.label.Label.{Label}
 use Rattle.lab_model.specs.Film.{rungs_of, segments_of}
@@ -33,7 +34,7 @@ use Rattle.price_bounds.specs.Laws.{NoListPasses}
 use Rattle.price_bounds.specs.LinkPart.{cell_in, link_gain, link_part, rising_cells, worth_to_begin, worth_to_end}
 use Rattle.price_bounds.specs.ListPart.{list_gain, list_part, priced_bits}
 use Rattle.price_bounds.specs.Windows.{AreWindows, price_unit}
-use Rattle.price_bounds.proofs.Cells.{least_from}
+use Rattle.price_bounds.proofs.CellLaws.{least_from}
 use Rattle.price_bounds.proofs.CellsAlong.{cells_along, cells_rising, in_cell}
 use Rattle.price_bounds.proofs.Greatest.{greatest_bounds}
 use Rattle.price_bounds.proofs.WindowsAlong.{played_after, played_one, windows_worth}
@@ -42,9 +43,6 @@ use Rattle.price_bounds.proofs.WindowsAlong.{played_after, played_one, windows_w
 
 le_itself : (a : ℤ) → a ≤ℤ a
 le_itself a = omega (arith, ints)
-
-z_trans : (a b c : ℤ) → a ≤ℤ b → b ≤ℤ c → a ≤ℤ c
-z_trans a b c h k = omega (arith, ints)
 
 -- what isn't above so many parts isn't above the least whole number that isn't below them
 pub round_bounds : (x y : ℕ) (z : ℤ) → (pos (price_unit * x) -ℤ pos (price_unit * y)) ≤ℤ z → (pos x -ℤ pos y) ≤ℤ rounded_up z
@@ -140,7 +138,7 @@ module _ (g : Task) (is : IsTask g) (ws : List Window) (windows : AreWindows (se
       let losses = w.startup * first + w.switch * changes_of w (Some q) ps + w.stall * at_end in
       let top = greatest_of (map (bound_on g ws) (rungs_below (rungs_of g.film))) in
       subst (λ v. v ≤ℤ rounded_up top) (sym value_is)
-      (round_bounds gains losses top (z_trans (pos (price_unit * gains) -ℤ pos (price_unit * losses)) (bound_on g ws q) top below_bound bound_above))
+      (round_bounds gains losses top (≤ℤ_trans (pos (price_unit * gains) -ℤ pos (price_unit * losses)) (bound_on g ws q) top below_bound bound_above))
 
 -- the law
 pub no_list_passes : NoListPasses

@@ -1,4 +1,4 @@
-pub mod Cells
+pub mod CellLaws
 pub mod Carried
 pub mod Steps
 pub mod Greatest
@@ -8,3 +8,17 @@ pub mod Along
 pub mod CellsAlong
 pub mod WindowsAlong
 pub mod Law
+pub mod Limits
+pub mod ListTable
+pub mod Taken
+pub mod LinkTable
+pub mod PriceSums
+pub mod Edges
+pub mod CellSteps
+pub mod ListSteps
+pub mod CellCode
+pub mod Verdicts
+pub mod Follows
+pub mod BoundParts
+pub mod Short
+pub mod LinkSteps

@@ -7,3 +7,4 @@ pub mod Bound
 pub mod Laws
 pub mod Steps
 pub mod Tables
+pub mod Verdict

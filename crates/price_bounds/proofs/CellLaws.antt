@@ -75,6 +75,12 @@ module _ (first : ℕ) where
       ⊎_elim (λ (far : farthest_delay < least_delay first c). absurd (least_before most_cells (λ k. nat_lt farthest_delay (least_delay first k)) c low (lt-ltb _ _ far)))
       (λ (near : least_delay first c ≤ farthest_delay). near) (cases_lt farthest_delay (least_delay first c))
 
+  -- there is a cell behind a first delay up to the farthest
+  pub cells_some : first ≤ farthest_delay → 1 ≤ cells_of first
+  cells_some near =
+      ⊎_elim (λ (none : cells_of first < 1). let none_at : cells_of first ≡ 0 = omega (arith, none) in let end = cells_end.1 in let same = ap (least_delay first) none_at in let zero = least_first first in absurd (omega (arith, end, same, zero, near)))
+      (λ (some : 1 ≤ cells_of first). some) (cases_lt (cells_of first) 1)
+
 -- the last of so many cells that begins at a delay or before it
 abbrev pub cell_below : ℕ → ℕ → ℕ → ℕ
 cell_below first delay zero = 0
