@@ -98,15 +98,7 @@ module _ (g : Task) (ws : List Window) (first segment n : ℕ) (old : List ℤ) 
       → IsBestOf (cells_of first) 1 (λ c. pos (ending_worth g ws first segment c) +ℤ slice_index_or old c (pos 0)) best
   best_begun best some e = best_first (cells_of first) (λ c. pos (ending_worth g ws first segment c) +ℤ slice_index_or old c (pos 0)) best some e
 
-  -- one cell more
-  pub best_went : (done cell : ℕ) (best here top : ℤ) → cell + done + 1 ≡ cells_of first → here ≡ pos (ending_worth g ws first segment cell) +ℤ slice_index_or old cell (pos 0) → top ≡ int_max best here
-      → IsBestOf (cells_of first) (max done 1) (λ c. pos (ending_worth g ws first segment c) +ℤ slice_index_or old c (pos 0)) best
-      → IsBestOf (cells_of first) (max (done + 1) 1) (λ c. pos (ending_worth g ws first segment c) +ℤ slice_index_or old c (pos 0)) top
-  best_went done cell best here top e is up b =
-      subst (IsBestOf (cells_of first) (max (done + 1) 1) (λ c. pos (ending_worth g ws first segment c) +ℤ slice_index_or old c (pos 0))) (sym (up ∙ ap (int_max best) is))
-      (best_more (cells_of first) (λ c. pos (ending_worth g ws first segment c) +ℤ slice_index_or old c (pos 0)) done cell best e b)
-
-  -- its place in the table
+  -- one cell more has its place in the table
   pub went_on : (done cell : ℕ) (table : List ℤ) (best value : ℤ) → cell + done + 1 ≡ cells_of first → value ≡ best -ℤ pos (beginning_worth g ws first segment cell)
       → IsSteppedTo (cell_moves first) (cell_gains g ws first) n segment old done table
       → IsBestOf (cells_of first) (max (done + 1) 1) (λ c. pos (ending_worth g ws first segment c) +ℤ slice_index_or old c (pos 0)) best

@@ -20,3 +20,5 @@ pub mod CellCode
 pub mod Verdicts
 pub mod Follows
 pub mod BoundParts
+pub mod Short
+pub mod LinkSteps

@@ -16,12 +16,14 @@ use Rattle.price_bounds.specs.Windows.{price_unit}
 abbrev pub first_delay : Task → ℕ → ℕ
 first_delay g q = (start_label g q).p
 
+-- what a first rung gains, less what its startup costs, where its segment comes at `first`
+abbrev pub start_worth : Task → ℕ → ℕ → ℤ
+start_worth g q first =
+    let w = g.setup.weights in pos (price_unit * (1000 * utility_of w 0 q)) -ℤ pos (price_unit * (w.startup * first))
+
 -- the bound on the lists that begin with rung `q`, in parts of a thousandth of a point
 unfoldable pub bound_on : Task → List Window → ℕ → ℤ
-bound_on g ws q =
-    let w = g.setup.weights in
-    let first = first_delay g q in
-    ((pos (price_unit * (1000 * utility_of w 0 q)) -ℤ pos (price_unit * (w.startup * first))) +ℤ list_part g ws q) +ℤ link_part g ws first
+bound_on g ws q = let first = first_delay g q in (start_worth g q first +ℤ list_part g ws q) +ℤ link_part g ws first
 
 -- the least whole number that isn't below so many parts
 abbrev pub rounded_up : ℤ → ℤ

@@ -54,6 +54,15 @@ pub record AreEdges (first : ℕ) (edges : List ℕ) : Type 0 where
   pub count : length edges ≡ cells_of first + 1
   pub each : (c : ℕ) → c ≤ cells_of first → slice_index edges c ≡ least_delay first c
 
+-- what the stalls up to each cell cost, as losses
+pub record AreLosses (g : Task) (first : ℕ) (losses : List ℤ) : Type 0 where
+  pub count : length losses ≡ cells_of first
+  pub each : (c : ℕ) → c < cells_of first → slice_index_or losses c (pos 0) ≡ pos 0 -ℤ pos (stall_cost g first c)
+
+-- what a first rung and its startup come to lies no farther from 0
+abbrev pub most_start_worth : ℕ
+most_start_worth = 1000000000000000000000000000
+
 -- no list part lies farther from 0
 abbrev pub most_list_worth : ℕ
 most_list_worth = 2000000000000000000000000000000
@@ -70,7 +79,11 @@ most_link_worth = 40650000000000000000000000000000000000
 abbrev pub most_bound : ℕ
 most_bound = 40660000000000000000000000000000000000
 
--- the same as far as they have come, the last of them being `edge`
+-- without windows no bound on a first rung is greater, in these parts
+abbrev pub most_plain_bound : ℕ
+most_plain_bound = 3000000000000000000000000000000
+
+-- the edges as far as they have come, the last of them being `edge`
 pub record AreEdgesSoFar (first edge : ℕ) (edges : List ℕ) : Type 0 where
   pub some : 1 ≤ length edges
   pub last : edge ≡ least_delay first (length edges - 1)

@@ -1,15 +1,16 @@
 //! The bound of windows.
 
-ghost use Rattle.std.specs.Prelude.{◌≡◌, ℕ, ◌<◌, ◌^◌, List, [], IfOk, pos, ◌-ℤ◌, ◌<ℤ◌, ◌≤ℤ◌};
+ghost use Rattle.std.specs.Prelude.{◌≡◌, ℕ, ◌<◌, ◌≤◌, ◌^◌, List, [], IfOk, pos, ◌+ℤ◌, ◌-ℤ◌, ◌<ℤ◌, ◌≤ℤ◌};
 ghost use Rattle.lab_model.specs.Film.{rungs_of, segments_of};
 ghost use Rattle.labels.specs.Best.{task_value};
 ghost use Rattle.labels.specs.Form.{score_digits};
 ghost use Rattle.labels.specs.Labels.{AreRungs};
 ghost use Rattle.lab_model.specs.Number.{IsNear};
 ghost use Rattle.player_core.specs.Scene.{IsTask};
-ghost use Rattle.price_bounds.specs.Bound.{bound_of, bound_on, rounded_up};
+ghost use Rattle.price_bounds.specs.Bound.{bound_of, bound_on, rounded_up, start_worth};
+ghost use Rattle.price_bounds.specs.Cells.{farthest_delay};
 ghost use Rattle.price_bounds.specs.ListPart.{list_part};
-ghost use Rattle.price_bounds.specs.Tables.{most_list_worth, most_bound};
+ghost use Rattle.price_bounds.specs.Tables.{most_bound, most_link_worth, most_list_worth, most_plain_bound, most_start_worth};
 ghost use Rattle.price_bounds.specs.Windows.{CanBound};
 
 use crate::counts::{rungs, segments};
@@ -25,6 +26,32 @@ use std::alloc::{AllocError, Global};
 /// The thousandths of a bit that cost a window's price.
 pub(crate) const PRICE_UNIT: u128 = 1_000_000_000;
 
+/// What a first rung gains, less what its startup costs, where its segment comes at `first`, at most 10^12 ms.
+#[tactic(auto, using(crate::proofs::BoundParts::start_near))]
+fn start_worth(scene: &Scene<'_>, rung: u8, first: u64) -> i128
+    requires rung { rung < rungs_of scene.now.film }
+    requires first { first ≤ farthest_delay }
+    ensures value { result ≡ start_worth scene.now rung first }
+    ensures near { IsNear most_start_worth result }
+{
+    prove!(segments(scene) > 0);
+    let weights = &scene.setup().weights;
+    let utility = PRICE_UNIT * (1000 * weights.utility(0, rung) as u128);
+    let startup = PRICE_UNIT * (weights.startup() as u128 * first as u128);
+    difference(utility, startup)
+}
+
+/// What the three parts of a bound come to.
+fn sum_of_parts(start: i128, list: i128, link: i128) -> i128
+    requires start { IsNear most_start_worth start }
+    requires list { IsNear most_list_worth list }
+    requires link { IsNear most_link_worth link }
+    ensures value { result ≡ (start +ℤ list) +ℤ link }
+    ensures near { IsNear most_bound result }
+{
+    start + list + link
+}
+
 /// The bound on the lists that begin with a rung, whose list part is given.
 fn bound_on(
     alloc: Global,
@@ -39,18 +66,16 @@ fn bound_on(
     requires near { IsNear most_list_worth gain }
     ensures value { IfOk result (λ v. v ≡ bound_on scene.now windows.now rung) }
     ensures near { IfOk result (IsNear most_bound) }
+    ensures plain { IfOk result (λ v. windows.now ≡ [] → v ≤ℤ pos most_plain_bound) }
 {
-    prove!(segments(scene) > 0);
-    let weights = &scene.setup().weights;
     let first = start_on(scene, rung).p;
-    let utility = PRICE_UNIT * (1000 * weights.utility(0, rung) as u128);
-    let startup = PRICE_UNIT * (weights.startup() as u128 * first as u128);
-    let worth = link_part(alloc, scene, windows, first)?;
-    Ok(difference(utility, startup) + gain + worth)
+    let start = start_worth(scene, rung, first);
+    let link = link_part(alloc, scene, windows, first)?;
+    Ok(sum_of_parts(start, gain, link))
 }
 
 /// The least whole number that isn't below so many parts.
-fn rounded_up(parts: i128) -> i128
+fn round_up(parts: i128) -> i128
     requires { IsNear most_bound parts }
     ensures { result ≡ rounded_up parts }
 {
@@ -75,7 +100,7 @@ pub fn bound_of_windows(
         → task_value scene.now rungs ≤ℤ b) }
     // It isn't too low to be spelled in a certificate, and without windows not too high.
     ensures low { IfOk result (λ b. (pos 0 -ℤ pos (10 ^ score_digits)) <ℤ b) }
-    ensures none { windows.now ≡ [] → IfOk result (λ b. b <ℤ pos (10 ^ score_digits)) }
+    ensures plain { IfOk result (λ b. windows.now ≡ [] → b <ℤ pos (10 ^ score_digits)) }
     ensures task { IsTask scene.now }
 {
     let count = rungs(scene);
@@ -85,5 +110,5 @@ pub fn bound_of_windows(
         let next = bound_on(alloc, scene, windows, rung, parts[rung as usize])?;
         best = best.max(next);
     }
-    Ok(rounded_up(best))
+    Ok(round_up(best))
 }

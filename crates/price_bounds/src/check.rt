@@ -1,12 +1,12 @@
 //! The check of a certificate by prices.
 
-ghost use Rattle.std.specs.Prelude.{◌≡◌, ◌↔◌, ◌≤◌, ◌&&◌, IfOk, length};
+ghost use Rattle.std.specs.Prelude.{◌≡◌, ◌↔◌, ◌≤◌, ◌&&◌, IfOk, IsTrue, length};
 ghost use Rattle.lab_model.specs.Film.{segments_of};
 ghost use Rattle.labels.specs.Best.{Settles, task_value};
 ghost use Rattle.labels.specs.Form.{HasSignedDigits, score_digits};
 ghost use Rattle.labels.specs.Labels.{AreRungs};
 ghost use Rattle.player_core.specs.Scene.{IsTask};
-ghost use Rattle.price_bounds.specs.Verdict.{IsValid, bad_rung, bad_window, bound_verdict, comes_after, is_of_film, is_window, price_parts, score_verdict, verdict_of};
+ghost use Rattle.price_bounds.specs.Verdict.{AreInOrder, IsValid, bad_rung, bad_window, bound_verdict, comes_after, is_of_film, is_window, price_parts, score_verdict, verdict_of};
 ghost use Rattle.price_bounds.specs.Windows.{CanBound, most_windows};
 ghost use Rattle.price_bounds.specs.declared.verdict.PriceVerdict.TheVariants.{Yes};
 
@@ -14,7 +14,7 @@ use crate::bound::bound_of_windows;
 use crate::certificate::PriceCertificate;
 use crate::counts::{rungs, segments};
 use crate::verdict::PriceVerdict;
-use crate::window::{MOST_PRICE, Window};
+use crate::window::{MOST_PRICE, MOST_WINDOWS, Window};
 use lab_model::NoMemory;
 use labels::{end_value, next_on, start_on};
 use player_core::Scene;
@@ -87,6 +87,14 @@ fn bad_window(windows: &[Window], segments: u16) -> Option<u16>
     None
 }
 
+/// Whether windows are within the limits for a film of so many segments, at most 4000, and in order of their first segments,
+/// then of their last.
+pub fn are_in_order(windows: &[Window], segments: u16) -> bool
+    ensures { IsTrue result ↔ AreInOrder segments windows.now }
+{
+    windows.len() <= MOST_WINDOWS && bad_window(windows, segments).is_none()
+}
+
 /// P1: whether a certificate's counts are the film's.
 fn is_of_film(scene: &Scene<'_>, certificate: &PriceCertificate) -> bool
     ensures value { result ≡ is_of_film scene.now (price_parts certificate.now) }
@@ -124,6 +132,29 @@ fn bound_verdict(
     Ok(score_verdict(scene, certificate))
 }
 
+/// P1 to P4 in their order.
+fn verdict_on(
+    alloc: Global,
+    scene: &Scene<'_>,
+    certificate: &PriceCertificate,
+) -> Result<PriceVerdict, NoMemory>
+    requires plan { length certificate.now.plan.items ≡ certificate.now.segments }
+    requires windows { length certificate.now.windows.items ≤ most_windows }
+    ensures verdict { IfOk result (λ v. v ≡ verdict_of scene.now (price_parts certificate.now)) }
+    ensures task { IsTask scene.now }
+{
+    if !is_of_film(scene, certificate) {
+        return Ok(PriceVerdict::OtherFilm);
+    }
+    if let Some(segment) = bad_rung(&certificate.plan, certificate.rungs) {
+        return Ok(PriceVerdict::BadRung { segment });
+    }
+    if let Some(window) = bad_window(&certificate.windows, certificate.segments) {
+        return Ok(PriceVerdict::BadWindow { window });
+    }
+    bound_verdict(alloc, scene, certificate)
+}
+
 /// The verdict on a certificate whose list has a rung for each of its segments, and which has at most 4000 windows.
 pub fn check_prices(
     alloc: Global,
@@ -139,14 +170,5 @@ pub fn check_prices(
     ensures sound { IfOk result (λ v. v ≡ Yes →
         Settles scene.now certificate.now.plan.items certificate.now.score certificate.now.bound) }
 {
-    if !is_of_film(scene, certificate) {
-        return Ok(PriceVerdict::OtherFilm);
-    }
-    if let Some(segment) = bad_rung(&certificate.plan, certificate.rungs) {
-        return Ok(PriceVerdict::BadRung { segment });
-    }
-    if let Some(window) = bad_window(&certificate.windows, certificate.segments) {
-        return Ok(PriceVerdict::BadWindow { window });
-    }
-    bound_verdict(alloc, scene, certificate)
+    verdict_on(alloc, scene, certificate)
 }

@@ -17,10 +17,7 @@ mod window;
 
 pub use bound::bound_of_windows;
 pub use certificate::PriceCertificate;
-pub use check::{check_prices, value_of_list};
+pub use check::{are_in_order, check_prices, value_of_list};
 pub use laws::no_list_passes;
 pub use verdict::PriceVerdict;
 pub use window::Window;
-
-#[cfg(test)]
-mod tests;

@@ -6,7 +6,7 @@ ghost use Rattle.lab_model.specs.Film.{segments_of};
 ghost use Rattle.price_bounds.specs.Cells.{cells_of, farthest_delay};
 ghost use Rattle.price_bounds.specs.LinkPart.{begin_at, carried_to, end_at, link_part};
 ghost use Rattle.price_bounds.specs.Steps.{IsTable};
-ghost use Rattle.price_bounds.specs.Tables.{AreEdges, cell_gains, cell_moves, most_link_worth, most_worth, stall_cost};
+ghost use Rattle.price_bounds.specs.Tables.{AreEdges, AreLosses, cell_gains, cell_moves, most_link_worth, most_worth, stall_cost};
 ghost use Rattle.price_bounds.specs.Windows.{CanBound, price_unit};
 
 use crate::bound::PRICE_UNIT;
@@ -95,9 +95,7 @@ fn cost_of_stalls(scene: &Scene<'_>, first: u64, delay: u64) -> u128
 /// What stalls cost up to each cell, as a loss.
 fn stall_losses(alloc: Global, scene: &Scene<'_>, edges: &[u64]) -> Result<Vec<i128>, AllocError>
     requires edges { AreEdges (slice_index edges.now 0) edges.now }
-    ensures { IfOk result (λ v. let first = slice_index edges.now 0 in
-        (length v.items ≡ cells_of first) × ((c : ℕ) → c < cells_of first
-        → slice_index_or v.items c (pos 0) ≡ pos 0 -ℤ pos (stall_cost scene.now first c))) }
+    ensures { IfOk result (λ v. AreLosses scene.now (slice_index edges.now 0) v.items) }
 {
     let mut losses = Vec::new(alloc);
     for cell in 0..edges.len() - 1 {

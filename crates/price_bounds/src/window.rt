@@ -6,6 +6,9 @@ ghost use Rattle.price_bounds.specs.Windows.{has_segment};
 /// The greatest price of a window.
 pub(crate) const MOST_PRICE: u64 = 1_000_000_000_000;
 
+/// The most windows of a bound.
+pub(crate) const MOST_WINDOWS: usize = 4000;
+
 /// A price of the bits that segments in turn take.
 #[derive(Clone, Copy, PartialEq, Eq, Debug)]
 pub struct Window {

@@ -2,11 +2,13 @@ use Rattle.std.proofs.Common.{◌≡◌, ◌∙◌, ◌-◌, ◌<◌, ap, sym, s
 use Rattle.std.specs.Prelude.{slice_index}
 use Rattle.std.proofs.lemmas.Int.{ints}
 use Rattle.lab_model.specs.Film.{segments_of}
+use Rattle.labels.specs.Form.{HasSignedDigits, score_digits}
 use Rattle.labels.specs.Labels.{end_value, label_at, next_label, value_at_end}
 use Rattle.labels.specs.Near.{CanFollow}
 use Rattle.labels.proofs.LabelsAreValues.{labels_are_values}
 use Rattle.labels.proofs.Path.{label_first}
 use Rattle.price_bounds.proofs.Follows.{list_follows, list_next}
+use Rattle.price_bounds.proofs.Short.{value_short}
 use Rattle.price_bounds.proofs.check.value_of_list.Goals as goal
 
 pub loop-segment-init : goal.loop-segment-init
@@ -36,8 +38,8 @@ end_value-requires c =
     let same = ap (λ l. l.p) c.loop-segment.invariant in
     omega (arith, delay, same)
 
-pub returns : goal.returns
-returns c =
+pub returns-clause-value : goal.returns-clause-value
+returns-clause-value c =
     let g = c.args.scene.now in
     let count = c.segments-count.ensures.value in
     let some = c.segments-count.ensures.task.film.segments.0 in
@@ -46,3 +48,8 @@ returns c =
     ∙ ap (end_value g) (c.loop-segment.invariant ∙ ap (λ n. label_at g c.args.rungs.now (n - 1)) last)
     ∙ sym (labels_are_values g c.segments-count.ensures.task c.args.rungs.now c.requires) in
     omega (arith, ints, e)
+
+pub returns-clause-short : goal.returns-clause-short
+returns-clause-short c =
+    let g = c.args.scene.now in
+    subst (HasSignedDigits score_digits) (sym (returns-clause-value c)) (value_short g c.segments-count.ensures.task c.args.rungs.now c.requires)
