@@ -5,11 +5,14 @@
 mod cap;
 mod delay;
 mod demand;
+mod descent;
 mod link;
 mod list;
 mod near;
 mod prices;
+mod slopes;
 mod stalls;
+mod tariff;
 mod windows;
 mod worth;
 

@@ -308,12 +308,12 @@ pub fn better_list(
     scene: &Scene<'_>,
     prices: Vec<u64>,
     shared: &[u64],
-) -> Result<Vec<u8>, AllocError>
+) -> Result<Found, AllocError>
     requires prices { IsForEach scene.now prices.items }
     requires shared { IsForEachEdge scene.now shared.now }
-    ensures { IfOk result (λ v. AreRungs scene.now (segments_of scene.now.film) v.items) }
+    ensures { IfOk result (λ f. AreRungs scene.now (segments_of scene.now.film) f.rungs.items) }
 {
-    let outlook = Outlook::new(alloc, scene, &prices, shared)?;
+    let outlook = Outlook::new(alloc, scene, 0, &prices, shared)?;
     let mut guide = Guide {
         prices,
         outlook: None,
@@ -322,8 +322,8 @@ pub fn better_list(
     guide.outlook = Some(outlook);
     let other = near_list(alloc, scene, &guide)?;
     Ok(if other.worth > plain.worth {
-        other.rungs
+        other
     } else {
-        plain.rungs
+        plain
     })
 }

@@ -1,6 +1,6 @@
 //! A good rung list, and windows that bound all lists, as a certificate.
 
-ghost use Rattle.std.specs.Prelude.{◌<◌, ◌≡◌, ◌<ℤ◌, ◌^◌, IfOk, pos};
+ghost use Rattle.std.specs.Prelude.{◌≡◌, IfOk};
 ghost use Rattle.lab_model.specs.Film.{segments_of};
 ghost use Rattle.labels.specs.Form.{HasSignedDigits, score_digits};
 ghost use Rattle.labels.specs.Labels.{AreRungs};
@@ -8,7 +8,9 @@ ghost use Rattle.price_bounds.specs.Bound.{bound_of};
 ghost use Rattle.price_bounds.specs.Verdict.{AreInOrder, IsValid, price_parts};
 
 use crate::cap::near_prices;
+use crate::descent::descend;
 use crate::list::better_list;
+use crate::tariff::tariff_of;
 use crate::windows::{shared_prices, windows_of};
 use lab_model::NoMemory;
 use player_core::Scene;
@@ -18,11 +20,12 @@ use std::alloc::{AllocError, Global};
 /// No certificate has a bound of this size or a greater one.
 const LEAST_UNSPELLED: i128 = 1_000_000_000_000_000_000_000_000;
 
-/// A rung list, and windows, which nothing is known of.
+/// A rung list, and windows of which nothing is known, twice.
 #[derive(Drop, Debug)]
 struct Found {
     rungs: Vec<u8>,
     windows: Vec<Window>,
+    lower: Vec<Window>,
 }
 
 /// Windows that are in range and in order, with their bound, which can be spelled.
@@ -32,7 +35,7 @@ struct Bounded {
     bound: i128,
 }
 
-/// What is found of prices.
+/// What is found of prices, and of those that they are moved to.
 fn found_near(alloc: Global, scene: &Scene<'_>) -> Result<Found, AllocError>
     ensures { IfOk result (λ f. AreRungs scene.now (segments_of scene.now.film) f.rungs.items) }
 {
@@ -40,8 +43,21 @@ fn found_near(alloc: Global, scene: &Scene<'_>) -> Result<Found, AllocError>
     let found = near_prices(alloc, scene)?;
     let shared = shared_prices(alloc, scene, &found.delays, &found.prices)?;
     let windows = windows_of(alloc, &found.prices, &shared)?;
-    let rungs = better_list(alloc, scene, found.prices, &shared)?;
-    Ok(Found { rungs, windows })
+    let list = better_list(alloc, scene, found.prices, &shared)?;
+    let moved = descend(alloc, scene, &windows, list.worth)?;
+    let tariff = tariff_of(alloc, scene.film().segments() as usize, &moved)?;
+    let lower = windows_of(alloc, &tariff.prices, &tariff.shared)?;
+    let other = better_list(alloc, scene, tariff.prices, &tariff.shared)?;
+    let rungs = if other.worth > list.worth {
+        other.rungs
+    } else {
+        list.rungs
+    };
+    Ok(Found {
+        rungs,
+        windows,
+        lower,
+    })
 }
 
 /// No windows, with their bound.
@@ -70,6 +86,25 @@ fn bound_by(alloc: Global, scene: &Scene<'_>, windows: Vec<Window>) -> Result<Bo
     without_windows(alloc, scene)
 }
 
+/// Those of two lists of windows that have the lower bound.
+fn lower_bound(
+    alloc: Global,
+    scene: &Scene<'_>,
+    one: Vec<Window>,
+    other: Vec<Window>,
+) -> Result<Bounded, NoMemory>
+    ensures order { IfOk result (λ b. AreInOrder (segments_of scene.now.film) b.windows.items) }
+    ensures bound { IfOk result (λ b. b.bound ≡ bound_of scene.now b.windows.items) }
+    ensures short { IfOk result (λ b. HasSignedDigits score_digits b.bound) }
+{
+    let one = bound_by(alloc, scene, one)?;
+    let other = bound_by(alloc, scene, other)?;
+    if other.bound < one.bound {
+        return Ok(other);
+    }
+    Ok(one)
+}
+
 /// A good rung list of the film with its value, and windows whose bound is near it: a valid certificate by prices, which can
 /// be spelled.
 pub fn near_best(alloc: Global, scene: &Scene<'_>) -> Result<PriceCertificate, NoMemory>
@@ -81,7 +116,7 @@ pub fn near_best(alloc: Global, scene: &Scene<'_>) -> Result<PriceCertificate, N
 {
     let film = scene.film();
     let found = found_near(alloc, scene)?;
-    let bounded = bound_by(alloc, scene, found.windows)?;
+    let bounded = lower_bound(alloc, scene, found.windows, found.lower)?;
     Ok(PriceCertificate {
         segments: film.segments(),
         rungs: film.rungs(),

@@ -15,22 +15,46 @@ const GROWTH_PARTS: u64 = 8;
 /// By so many parts of what it lies behind the first delay a cell of delays is wide.
 const CELL_PARTS: u64 = 64;
 
-/// The delays that are tried, from the first on.
-fn tried_delays(alloc: Global, first: u64) -> Result<Vec<u64>, AllocError>
+/// The longest stall that may be worth its cost: that which costs what all segments gain.
+fn dearest_stall(scene: &Scene<'_>) -> u64 {
+    let (film, weights) = (scene.film(), &scene.setup().weights);
+    prove!(film.rungs() > 0);
+    let top = film.rungs() - 1;
+    let count = film.segments();
+    let mut gain = 0u64;
+    for segment in 0..count {
+        gain = gain.saturating_add(1000 * weights.utility(segment, top) as u64);
+    }
+    gain / (weights.stall() as u64).max(1)
+}
+
+/// By how much a step behind a stall is longer than 1 ms.
+fn growth(stall: u64, dearest: u64) -> u64
+    ensures { result ≤ stall }
+{
+    if stall < dearest {
+        stall / GROWTH_PARTS
+    } else {
+        stall
+    }
+}
+
+/// The delays that are tried, from the first on: close together up to the dearest stall, then each about double the one before.
+fn tried_delays(alloc: Global, first: u64, dearest: u64) -> Result<Vec<u64>, AllocError>
     ensures { IfOk result (λ v. 1 ≤ length v.items) }
 {
     let mut delays = Vec::new(alloc);
     let mut delay = first;
     delays.push(delay)?;
     while delay < FARTHEST_DELAY_MS {
-        delay = delay + 1 + delay.saturating_sub(first) / GROWTH_PARTS;
+        delay = delay + 1 + growth(delay.saturating_sub(first), dearest);
         delays.push(delay)?;
     }
     Ok(delays)
 }
 
 /// What the link's bits up to the latest end of a segment are worth, in the cell of a delay.
-fn worth_to_end(scene: &Scene<'_>, segment: u16, first: u64, delay: u64, price: u64) -> i128 {
+pub fn worth_to_end(scene: &Scene<'_>, segment: u16, first: u64, delay: u64, price: u64) -> i128 {
     if price == 0 {
         return 0;
     }
@@ -39,7 +63,7 @@ fn worth_to_end(scene: &Scene<'_>, segment: u16, first: u64, delay: u64, price: 
 }
 
 /// What those before the earliest begin of a segment are worth.
-fn worth_to_begin(scene: &Scene<'_>, segment: u16, first: u64, delay: u64, price: u64) -> i128
+pub fn worth_to_begin(scene: &Scene<'_>, segment: u16, first: u64, delay: u64, price: u64) -> i128
     requires { segment < segments_of scene.now.film }
 {
     if price == 0 {
@@ -110,7 +134,7 @@ pub fn link_worth(
     requires shared { IsForEachEdge scene.now shared.now }
 {
     prove!(scene.film().segments() > 0);
-    let delays = tried_delays(alloc, first)?;
+    let delays = tried_delays(alloc, first, dearest_stall(scene))?;
     let mut table = stall_losses(alloc, scene, &delays)?;
     for done in 1..prices.len() {
         let segment = prices.len() - done;
@@ -129,17 +153,20 @@ pub fn link_worth(
 /// What the link's bits behind each segment may come to, less all stalls, by the delay of the segment.
 #[derive(Drop, Debug)]
 pub struct Outlook {
-    /// The delays that are tried, from 0 on.
+    /// The delays that are tried.
     delays: Vec<u64>,
+    /// What they come to from the first on.
+    most: i128,
     /// By segment from the last to the first, what the link's bits come to up to all latest ends behind it, after each delay.
     worths: Vec<Vec<i128>>,
 }
 
 impl Outlook {
-    /// The outlook at these prices.
+    /// The outlook at these prices, from a first delay on.
     pub fn new(
         alloc: Global,
         scene: &Scene<'_>,
+        first: u64,
         prices: &[u64],
         shared: &[u64],
     ) -> Result<Outlook, AllocError>
@@ -147,7 +174,7 @@ impl Outlook {
         requires shared { IsForEachEdge scene.now shared.now }
     {
         prove!(scene.film().segments() > 0);
-        let delays = tried_delays(alloc, 0)?;
+        let delays = tried_delays(alloc, first, dearest_stall(scene))?;
         let mut table = stall_losses(alloc, scene, &delays)?;
         let mut worths = Vec::new(alloc);
         worths.push(table.to_vec(alloc)?)?;
@@ -159,7 +186,33 @@ impl Outlook {
             worths.push(table.to_vec(alloc)?)?;
             take_begin(scene, &delays, segment as u16, rise, &mut table);
         }
-        Ok(Outlook { delays, worths })
+        let most = most_of(&table);
+        Ok(Outlook {
+            delays,
+            most,
+            worths,
+        })
+    }
+
+    /// What the link's bits come to at most from the first delay on.
+    pub fn most(&self) -> i128 {
+        self.most
+    }
+
+    /// A delay that is tried.
+    pub fn delay(&self, place: usize) -> u64 {
+        match self.delays.get(place) {
+            None => 0,
+            Some(delay) => *delay,
+        }
+    }
+
+    /// The place of the delay of a segment, behind which so many are left less one, that follows that of the one before best.
+    pub fn next_place(&self, left: usize, place: usize) -> usize {
+        match self.worths.get(left) {
+            None => place,
+            Some(worths) => last_equal(worths, place),
+        }
     }
 
     /// What may come behind a segment that has a delay, when so many segments are left.
@@ -170,6 +223,16 @@ impl Outlook {
             Some(worths) => between(&self.delays, worths, place, delay),
         }
     }
+}
+
+/// The last place up to which numbers are equal from a place on.
+fn last_equal(numbers: &[i128], from: usize) -> usize {
+    for place in from.saturating_add(1)..numbers.len() {
+        if numbers[place] != numbers[place - 1] {
+            return place - 1;
+        }
+    }
+    numbers.len().saturating_sub(1)
 }
 
 /// The last of the delays that isn't above one.

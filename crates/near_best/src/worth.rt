@@ -32,21 +32,40 @@ pub fn fall_at(prices: &[u64], shared: &[u64], segment: usize) -> u64
     prices[segment].saturating_sub(shared[segment + 1])
 }
 
-/// The most that a segment gains at a price, in parts of 10^-9 of a thousandth of a point.
+/// What a segment gains on a rung at a price, in parts of 10^-9 of a thousandth of a point.
+fn gain_of(scene: &Scene<'_>, segment: u16, rung: u8, price: u64) -> i128
+    requires segment { segment < segments_of scene.now.film }
+    requires rung { rung < rungs_of scene.now.film }
+{
+    let utility = scene.setup().weights.utility(segment, rung);
+    let gain = PRICE_UNIT as i128 * 1000 * utility as i128;
+    let bits = 1000 * scene.film().size(segment, rung) as i128;
+    gain.saturating_sub(bits.saturating_mul(price as i128))
+}
+
+/// The rung on which a segment gains the most at a price.
+pub fn best_rung(scene: &Scene<'_>, segment: u16, price: u64) -> u8
+    requires { segment < segments_of scene.now.film }
+    ensures { result < rungs_of scene.now.film }
+{
+    let count = scene.film().rungs();
+    let mut best = 0u8;
+    let mut most = gain_of(scene, segment, 0, price);
+    for rung in 1..count {
+        let gain = gain_of(scene, segment, rung, price);
+        if gain > most {
+            best = rung;
+            most = gain;
+        }
+    }
+    best
+}
+
+/// The most that a segment gains at a price.
 fn most_gain(scene: &Scene<'_>, segment: u16, price: u64) -> i128
     requires { segment < segments_of scene.now.film }
 {
-    let film = scene.film();
-    let weights = &scene.setup().weights;
-    let count = film.rungs();
-    let mut most = i128::MIN;
-    for rung in 0..count {
-        let gain = PRICE_UNIT as i128 * 1000 * weights.utility(segment, rung) as i128;
-        let bits = 1000 * film.size(segment, rung) as i128;
-        let cost = bits.saturating_mul(price as i128);
-        most = most.max(gain.saturating_sub(cost));
-    }
-    most
+    gain_of(scene, segment, best_rung(scene, segment, price), price)
 }
 
 /// The most that all segments but the first gain at their prices.
