@@ -179,4 +179,4 @@ verdict_done gap i j old new r u is k p =
   where
     by_verdict : (v : Verdict) → j.verdict ≡ v → Puts old (judged gap j).text new (Ok u) → Writes of_a_check (check gap i) old (verdict_ending v) new
     by_verdict Yes e q = (judged gap j, is, (ap verdict_ending e, q.answered))
-    by_verdict (No clause segment rung label) e q = (tt, (judged gap j, is, (ap verdict_ending e, q.answered)))
+    by_verdict (No clause segment rung label) e q = (refl, (judged gap j, is, (ap verdict_ending e, q.answered)))

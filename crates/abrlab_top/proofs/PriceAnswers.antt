@@ -148,8 +148,8 @@ price_done i score bound v old new r u is k p =
   where
     by_verdict : (w : PriceVerdict) → v ≡ w → Puts old (told_prices score bound v).text new (Ok u) → Writes of_a_price_check (near_check i) old (price_ending w) new
     by_verdict said.Yes e q = (told_prices score bound v, is, (ap price_ending e, q.answered))
-    by_verdict said.OtherFilm e q = (tt, (told_prices score bound v, is, (ap price_ending e, q.answered)))
-    by_verdict (said.BadRung segment) e q = (tt, (told_prices score bound v, is, (ap price_ending e, q.answered)))
-    by_verdict (said.BadWindow window) e q = (tt, (told_prices score bound v, is, (ap price_ending e, q.answered)))
-    by_verdict (said.BoundAbove least) e q = (tt, (told_prices score bound v, is, (ap price_ending e, q.answered)))
-    by_verdict (said.OtherScore value) e q = (tt, (told_prices score bound v, is, (ap price_ending e, q.answered)))
+    by_verdict said.OtherFilm e q = (refl, (told_prices score bound v, is, (ap price_ending e, q.answered)))
+    by_verdict (said.BadRung segment) e q = (refl, (told_prices score bound v, is, (ap price_ending e, q.answered)))
+    by_verdict (said.BadWindow window) e q = (refl, (told_prices score bound v, is, (ap price_ending e, q.answered)))
+    by_verdict (said.BoundAbove least) e q = (refl, (told_prices score bound v, is, (ap price_ending e, q.answered)))
+    by_verdict (said.OtherScore value) e q = (refl, (told_prices score bound v, is, (ap price_ending e, q.answered)))

@@ -1,5 +1,5 @@
 -- What `plan --near` and `check --near` answer: a rung list with a bound by prices, or its certificate; and the verdict on such a certificate.
-use Rattle.std.specs.Prelude.{ℤ, Bool, List, [], ◌∷◌, ◌++◌, map, Option, Some, None, Result, Ok, codes, if◌then◌else◌}
+use Rattle.std.specs.Prelude.{ℕ, ℤ, Bool, List, [], ◌∷◌, ◌++◌, map, Option, Some, None, Result, Ok, codes, if◌then◌else◌}
 use Rattle.std.specs.Fmt.{decimal, signed_decimal}
 use Rattle.std.specs.List.{slice_get}
 use Rattle.lab_io.specs.Piece.{fields_line}

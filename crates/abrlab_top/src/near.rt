@@ -1,9 +1,12 @@
 //! `plan --near` and `check --near`: a rung list with a bound by prices, or its certificate; and the verdict on anybody's.
 
-ghost use Rattle.std.specs.Prelude.{◌≡◌};
+ghost use Rattle.std.specs.Prelude.{◌≡◌, ◌∷◌, [], codes};
+ghost use Rattle.std.specs.Fmt.{decimal, signed_decimal};
+ghost use Rattle.lab_io.specs.Piece.{fields_line};
 ghost use Rattle.lab_io.specs.Sink.{Puts};
 ghost use Rattle.lab_inputs.specs.Roles.{film_files};
 ghost use Rattle.price_bounds.specs.Verdict.{price_parts};
+ghost use Rattle.price_bounds.specs.declared.verdict.PriceVerdict.TheVariants.{Yes};
 ghost use Rattle.price_text.specs.Form.{IsPrices};
 ghost use Rattle.abrlab_top.specs.Chosen.{EndsNear, WritesNear};
 ghost use Rattle.abrlab_top.specs.Ending.{ended};
@@ -93,6 +96,48 @@ pub(crate) fn near_plan<F: Shelf, O: Sink>(
     write_near(alloc, &inputs, as_certificate, out)
 }
 
+/// Says yes, with the score and the bound.
+fn put_price_yes<O: Sink>(out: &mut O, score: i128, bound: i128) -> Result<(), PutErr>
+    ensures { Puts (O.seen out.old) (price_verdict_text score bound Yes) (O.seen out.new) result }
+{
+    put_fields(
+        out,
+        &[
+            Word("yes"),
+            Word("score"),
+            Number(score),
+            Word("bound"),
+            Number(bound),
+        ],
+    )
+}
+
+/// Says no: at this place the list or the windows are out of range.
+fn put_bad_place<O: Sink>(out: &mut O, kind: &str, place: u16) -> Result<(), PutErr>
+    ensures { Puts (O.seen out.old)
+        (fields_line (codes "no" ∷ codes "P2" ∷ kind.now ∷ decimal place ∷ []))
+        (O.seen out.new) result }
+{
+    put_fields(
+        out,
+        &[Word("no"), Word("P2"), Word(kind), Number(place as i128)],
+    )
+}
+
+/// Says no: this number is another.
+fn put_other_number<O: Sink>(
+    out: &mut O,
+    test: &str,
+    kind: &str,
+    number: i128,
+) -> Result<(), PutErr>
+    ensures { Puts (O.seen out.old)
+        (fields_line (codes "no" ∷ test.now ∷ kind.now ∷ signed_decimal number ∷ []))
+        (O.seen out.new) result }
+{
+    put_fields(out, &[Word("no"), Word(test), Word(kind), Number(number)])
+}
+
 /// Says the verdict on a certificate with this score and bound.
 fn put_price_verdict<O: Sink>(
     out: &mut O,
@@ -104,43 +149,12 @@ fn put_price_verdict<O: Sink>(
         (O.seen out.new) result }
 {
     match verdict {
-        PriceVerdict::Yes => put_fields(
-            out,
-            &[
-                Word("yes"),
-                Word("score"),
-                Number(score),
-                Word("bound"),
-                Number(bound),
-            ],
-        ),
+        PriceVerdict::Yes => put_price_yes(out, score, bound),
         PriceVerdict::OtherFilm => put_fields(out, &[Word("no"), Word("P1")]),
-        PriceVerdict::BadRung { segment } => put_fields(
-            out,
-            &[
-                Word("no"),
-                Word("P2"),
-                Word("segment"),
-                Number(segment as i128),
-            ],
-        ),
-        PriceVerdict::BadWindow { window } => put_fields(
-            out,
-            &[
-                Word("no"),
-                Word("P2"),
-                Word("window"),
-                Number(window as i128),
-            ],
-        ),
-        PriceVerdict::BoundAbove { bound } => put_fields(
-            out,
-            &[Word("no"), Word("P3"), Word("bound"), Number(bound)],
-        ),
-        PriceVerdict::OtherScore { score } => put_fields(
-            out,
-            &[Word("no"), Word("P4"), Word("score"), Number(score)],
-        ),
+        PriceVerdict::BadRung { segment } => put_bad_place(out, "segment", segment),
+        PriceVerdict::BadWindow { window } => put_bad_place(out, "window", window),
+        PriceVerdict::BoundAbove { bound } => put_other_number(out, "P3", "bound", bound),
+        PriceVerdict::OtherScore { score } => put_other_number(out, "P4", "score", score),
     }
 }
 
