@@ -9,6 +9,7 @@ use Rattle.lab_model.specs.declared.trace.Period.{Period}
 use Rattle.lab_words.specs.declared.Verb.TheVariants as verb
 use Rattle.lab_words.specs.Command.{CommandWords}
 use Rattle.lab_words.specs.Limits.{HasFilm}
+use Rattle.lab_words.specs.Words.{command_of}
 use Rattle.lab_words.proofs.LimitLemmas.{command_within}
 use Rattle.lab_inputs.specs.declared.role.Role.TheVariants as role
 use Rattle.lab_inputs.specs.Files.{Files, read_as}

@@ -1,5 +1,5 @@
 -- What is asked of `plan`, and of the plans of a ranking, is within its limits.
-use Rattle.std.proofs.Common.{◌≡◌, ◌==◌, ◌||◌, ℕ, Bool, true, false, is_some, [], ◌∷◌, None, IfSome, inl, inr, refl, subst, arith}
+use Rattle.std.proofs.Common.{◌≡◌, ◌==◌, ◌&&◌, ◌||◌, not, ℕ, Bool, true, false, is_some, [], ◌∷◌, None, IfSome, inl, inr, refl, subst, arith}
 use Rattle.std.proofs.lemmas.Bool.Decides.{nat_tests}
 use Rattle.lab_model.specs.Film.{IsWithin}
 use Rattle.lab_words.specs.declared.Verb.TheVariants.{Compare, Plan}
@@ -33,11 +33,16 @@ calm : (abandon seeks : Bool) → at_most_one (true ∷ (abandon || seeks) ∷ [
 calm false seeks h = refl
 calm true seeks h = cc
 
+first_of : (a b : Bool) → (a && b) ≡ true → a ≡ true
+first_of true b e = refl
+first_of false b e = cc
+
 -- words that ask for regrets ask for no abandonment
 pub calm_words : (c : CommandWords) → IsWithinLimits c → c.verb ≡ Compare → c.regret ≡ true → c.abandon ≡ false
 calm_words c limits v r =
     let agreed : agrees Compare c ≡ true = subst (λ w. agrees w c ≡ true) v limits.agreed in
-    calm c.abandon (is_some c.seeks) (subst (λ b. at_most_one (b ∷ (c.abandon || is_some c.seeks) ∷ []) ≡ true) r agreed)
+    let first = first_of (at_most_one (c.regret ∷ (c.abandon || is_some c.seeks) ∷ [])) (at_most_one (c.near ∷ not c.regret ∷ [])) agreed in
+    calm c.abandon (is_some c.seeks) (subst (λ b. at_most_one (b ∷ (c.abandon || is_some c.seeks) ∷ []) ≡ true) r first)
 
 -- the budget of the plans of a ranking
 pub ranking_budget : (c : CommandWords) → IsWithinLimits c → c.verb ≡ Compare → c.regret ≡ true → IsWithin 1 1000000 c.budget

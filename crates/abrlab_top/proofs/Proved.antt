@@ -1,5 +1,5 @@
 -- The headline of each command, from a run that answered 0.
-use Rattle.std.proofs.Common.{◌≡◌, ◌∙◌, ℕ, ◌≤◌, Bool, false, is_some, List, [], ◌∷◌, length, Option, Some, None, IfSome, Result, Ok, Err, ap, sym, refl, subst, arith}
+use Rattle.std.proofs.Common.{◌≡◌, ◌∙◌, ℕ, ◌≤◌, Bool, true, false, is_some, List, [], ◌∷◌, length, Option, Some, None, IfSome, Result, Ok, Err, ap, sym, refl, subst, arith}
 use Rattle.std.specs.List.{All, slice_get}
 use Rattle.lab_io.specs.Sink.{Text, Grew}
 use Rattle.lab_model.specs.declared.setup.Setup.{Setup}

@@ -1,5 +1,5 @@
 -- A run over files and sinks in memory, of which none fails.
-use Rattle.std.proofs.Common.{◌≡◌, ◌∙◌, ◌++◌, ◌⊎◌, ◌<◌, ℕ, List, [], Option, Some, Result, Ok, Err, inl, inr, ap, sym, refl, append-nil, arith}
+use Rattle.std.proofs.Common.{◌≡◌, ◌∙◌, ◌++◌, ◌⊎◌, ◌<◌, ℕ, List, [], Option, Some, Result, Ok, Err, inl, inr, ap, subst, sym, refl, append-nil, arith}
 use Rattle.lab_io.specs.declared.PutErr.{PutErr}
 use Rattle.lab_io.specs.declared.PutErr.TheVariants as put
 use Rattle.lab_io.specs.Memory.{MemFiles, SureText, file_of, mem_shelved, sure_seen}

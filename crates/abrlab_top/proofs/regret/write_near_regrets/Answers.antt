@@ -4,7 +4,7 @@ use Rattle.abrlab_top.specs.Answer.{printed}
 use Rattle.abrlab_top.specs.Regret.{first_spent, near_regret, ranked_text, tops_of}
 use Rattle.abrlab_top.specs.Stages.{at_the_end}
 use Rattle.session_report.specs.declared.regret.Top.TheVariants as top
-use Rattle.abrlab_top.proofs.Chosen.{bounds_failed, bounds_unwritten}
+use Rattle.abrlab_top.proofs.Chosen.{bounds_unwritten}
 use Rattle.abrlab_top.proofs.Regrets.{bounded, bounds_of, bounds_stopped, only_memory, table_given, unspent_err}
 use Rattle.abrlab_top.proofs.Whole.{all_settled, exit, put_done, put_failed, settings_stop, unsettled, wanting}
 use Rattle.abrlab_top.proofs.regret.write_near_regrets.Goals as goal
