@@ -73,7 +73,7 @@ answer_alike a b verb.Simulate c files = alike_same _
 answer_alike a b verb.Compare c files = about_alike _ _ c files (λ i. comparison_alike a b c.regret c.near c.budget i)
 answer_alike a b verb.Plan c files = about_alike _ _ c files (λ i. planning_alike a b c.near (options_of c) i)
 answer_alike a b verb.Check c files = alike_same _
-answer_alike a b verb.Demo c files = alike_same _
+answer_alike a b verb.Demo c files = alike_same (answer_by a verb.Demo c files)
 
 outcome_alike : (a b : Choice) (o : Option CommandWords) (files : Files) → Alike (outcome_by a o files) (outcome_by b o files)
 outcome_alike a b None files = refl

@@ -113,7 +113,7 @@ fn put_price_yes<O: Sink>(out: &mut O, score: i128, bound: i128) -> Result<(), P
 }
 
 /// Says no: at this place the list or the windows are out of range.
-fn put_bad_place<O: Sink>(out: &mut O, kind: &str, place: u16) -> Result<(), PutErr>
+fn put_bad_place<O: Sink>(out: &mut O, kind: &'static str, place: u16) -> Result<(), PutErr>
     ensures { Puts (O.seen out.old)
         (fields_line (codes "no" ∷ codes "P2" ∷ kind.now ∷ decimal place ∷ []))
         (O.seen out.new) result }
@@ -127,8 +127,8 @@ fn put_bad_place<O: Sink>(out: &mut O, kind: &str, place: u16) -> Result<(), Put
 /// Says no: this number is another.
 fn put_other_number<O: Sink>(
     out: &mut O,
-    test: &str,
-    kind: &str,
+    test: &'static str,
+    kind: &'static str,
     number: i128,
 ) -> Result<(), PutErr>
     ensures { Puts (O.seen out.old)
