@@ -28,13 +28,14 @@ use Rattle.price_text.proofs.Texts.{last_text, prices_parts, three_lines}
 
 -- ---- the lines
 
-can_first : IsSpellable prices_line
+-- each line can be told apart from others
+pub can_first : IsSpellable prices_line
 can_first = (refl, (refl, tt))
 
-can_windows : IsSpellable windows_line
+pub can_windows : IsSpellable windows_line
 can_windows = (refl, (lit< tt, tt))
 
-can_window : IsSpellable window_line
+pub can_window : IsSpellable window_line
 can_window = ((lit≤ tt, lit≤ tt), ((lit≤ tt, lit≤ tt), ((lit≤ tt, lit≤ tt), tt)))
 
 -- three lines and what stands behind them
