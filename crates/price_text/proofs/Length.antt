@@ -11,13 +11,9 @@ use Rattle.certificate_text.specs.Spelling.{lines_text}
 use Rattle.certificate_text.proofs.Length.{bound_short, count_short, digits_short, first_field, lines_both, lines_more, list_short, one_field, score_short}
 use Rattle.price_bounds.specs.declared.window.Window.{Window}
 use Rattle.price_bounds.specs.Verdict.{PriceParts}
-use Rattle.price_text.specs.Form.{IsPrices, IsSpelledWindow}
+use Rattle.price_text.specs.Form.{IsPrices, IsSpelledWindow, most_bytes}
 use Rattle.price_text.specs.Grammar.{prices_line, window_line, windows_line}
 use Rattle.price_text.specs.Spelling.{count_lines, price_lines, prices_text, value_lines, window_fields, window_lines}
-
--- the most bytes of the text of a certificate by prices that a program has to take
-abbrev pub most_bytes : ℕ
-most_bytes = 67108864
 
 window_short : (w : Window) → IsSpelledWindow w → length (fields_line (window_fields w)) ≤ 25
 window_short w h =

@@ -15,6 +15,10 @@ segment_digits = 4
 abbrev pub price_digits : ℕ
 price_digits = 13
 
+-- the most bytes of a text that a program has to take
+abbrev pub most_bytes : ℕ
+most_bytes = 67108864
+
 -- a window whose numbers have no more digits than its line allows
 pub record IsSpelledWindow (w : Window) : Type 0 where
   pub first : HasDigits segment_digits w.first

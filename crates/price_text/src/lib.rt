@@ -25,6 +25,6 @@ mod reader;
 mod tests;
 mod writer;
 
-pub use laws::{one_prices_spelling, told_apart};
+pub use laws::{one_prices_spelling, texts_fit, told_apart};
 pub use reader::read_prices;
 pub use writer::write_prices;
