@@ -127,7 +127,7 @@ completes line old e new h files t shelf out = by_ending e h.ends.came
     by_ending ending.Done x = let a = x.comes files named in is ending.Done (ap ending_in a.1 ∙ a.2.0)
     by_ending ending.Invalid x = let a = x.comes files named in is ending.Invalid (ap ending_in a.1 ∙ a.2.0)
     by_ending ending.Usage x = is ending.Usage (ap ending_in (x.comes files named))
-    by_ending (ending.Stopped why) x = inl (rw (stopped_outcome choice line old.shelf new.shelf why files t shelf x.asked (x.comes files named)) refl)
+    by_ending (ending.Stopped why) x = is (ending.Stopped why) (ap ending_in (stopped_outcome choice line old.shelf new.shelf why files t shelf x.asked (x.comes files named)))
     by_ending (ending.Spent trace segment) x = is (ending.Spent trace segment) (ap ending_in (x.comes files named))
     by_ending ending.OutputFailed x = absurd (out x.leaves)
     by_ending ending.NoMemory x = inr refl
