@@ -15,8 +15,14 @@ use labels::{next_on, start_on};
 use player_core::Scene;
 use std::alloc::{AllocError, Global};
 
-/// So many labels of a segment and a rung are kept.
-const PLACES: usize = 32;
+/// At most so many labels of a segment and a rung are kept.
+const MOST_PLACES: u64 = 32;
+
+/// At least so many.
+const LEAST_PLACES: u64 = 4;
+
+/// About so many steps from label to label are tried for a list.
+const WORK: u64 = 600_000;
 
 /// A label that is kept.
 #[derive(Clone, Copy, Debug)]
@@ -38,14 +44,25 @@ pub struct Layer {
     pub kept: Vec<Kept>,
 }
 
+/// How many labels of a segment and a rung are kept, so that a long film takes no longer.
+fn places_of(scene: &Scene<'_>) -> u64
+    ensures some { 1 ≤ result }
+    ensures most { result ≤ 32 }
+{
+    let (segments, rungs) = (scene.film().segments() as u64, scene.film().rungs() as u64);
+    let moves = segments.saturating_mul(rungs.saturating_mul(rungs)).max(1);
+    (WORK / moves).max(LEAST_PLACES).min(MOST_PLACES)
+}
+
 /// The place of a label among those of its rung: by how long its segment has come before it is played.
 fn place_of(scene: &Scene<'_>, segment: u16, label: Label) -> usize
     ensures { result < 32 }
 {
+    let places = places_of(scene);
     let media = segment as u64 * scene.film().seg_ms() as u64;
     let ahead = label.p.saturating_add(media).saturating_sub(label.t);
-    let width = scene.setup().buffer_ms as u64 / PLACES as u64 + 1;
-    let place = (ahead / width).min(PLACES as u64 - 1);
+    let width = scene.setup().buffer_ms as u64 / places + 1;
+    let place = (ahead / width).min(places - 1);
     place as usize
 }
 
