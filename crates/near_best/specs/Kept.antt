@@ -1,5 +1,5 @@
 -- Labels that the search for a list keeps.
-use Rattle.std.specs.Prelude.{ℕ, ◌+◌, ◌*◌, ◌<◌, ◌≤◌, List, length}
+use Rattle.std.specs.Prelude.{ℕ, ◌+◌, ◌*◌, ◌<◌, ◌≤◌, List}
 use Rattle.std.specs.List.{All}
 use Rattle.lab_model.specs.Film.{rungs_of}
 use Rattle.lab_model.specs.Number.{IsNear}

@@ -17,3 +17,6 @@ mod windows;
 mod worth;
 
 pub use near::near_best;
+
+#[cfg(test)]
+mod tests;

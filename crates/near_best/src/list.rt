@@ -15,8 +15,14 @@ use labels::{next_on, start_on};
 use player_core::Scene;
 use std::alloc::{AllocError, Global};
 
-/// So many labels of a segment and a rung are kept.
-const PLACES: usize = 32;
+/// At most so many labels of a segment and a rung are kept.
+const MOST_PLACES: u64 = 32;
+
+/// At least so many.
+const LEAST_PLACES: u64 = 4;
+
+/// About so many steps from label to label are tried for a list.
+const WORK: u64 = 400_000;
 
 /// A label that is kept.
 #[derive(Clone, Copy, Debug)]
@@ -27,6 +33,8 @@ pub struct Kept {
     pub worth: i128,
     /// Its rung.
     pub rung: u8,
+    /// The delay of the first segment.
+    pub first: u64,
     /// The place of the label before.
     pub before: usize,
 }
@@ -38,14 +46,25 @@ pub struct Layer {
     pub kept: Vec<Kept>,
 }
 
+/// How many labels of a segment and a rung are kept, so that a long film takes no longer.
+fn places_of(scene: &Scene<'_>) -> u64
+    ensures some { 1 ≤ result }
+    ensures most { result ≤ 32 }
+{
+    let (segments, rungs) = (scene.film().segments() as u64, scene.film().rungs() as u64);
+    let moves = segments.saturating_mul(rungs.saturating_mul(rungs)).max(1);
+    (WORK / moves).max(LEAST_PLACES).min(MOST_PLACES)
+}
+
 /// The place of a label among those of its rung: by how long its segment has come before it is played.
 fn place_of(scene: &Scene<'_>, segment: u16, label: Label) -> usize
     ensures { result < 32 }
 {
+    let places = places_of(scene);
     let media = segment as u64 * scene.film().seg_ms() as u64;
     let ahead = label.p.saturating_add(media).saturating_sub(label.t);
-    let width = scene.setup().buffer_ms as u64 / PLACES as u64 + 1;
-    let place = (ahead / width).min(PLACES as u64 - 1);
+    let width = scene.setup().buffer_ms as u64 / places + 1;
+    let place = (ahead / width).min(places - 1);
     place as usize
 }
 
@@ -64,26 +83,32 @@ pub struct Guide {
     pub prices: Vec<u64>,
     /// What may come, by the delay of a segment; without it no stall is to come.
     pub outlook: Option<Outlook>,
+    /// So many times the stalls to come count there.
+    pub times: i128,
 }
 
 impl Guide {
-    /// What may come behind a label, less all stalls; so many segments are left.
-    fn outlook_of(&self, scene: &Scene<'_>, left: usize, label: Label) -> i128 {
+    /// What may come behind a label, less all stalls; so many segments are left, and the first one had a delay.
+    fn outlook_of(&self, scene: &Scene<'_>, left: usize, label: Label, first: u64) -> i128 {
         match &self.outlook {
-            Some(outlook) if left > 0 => outlook.worth(left, label.p),
+            Some(outlook) if left > 0 => {
+                let extra = self.times.saturating_sub(1);
+                let back = stall_cost(scene, first).saturating_mul(extra);
+                outlook.worth(left, label.p).saturating_add(back)
+            }
             _ => 0i128.saturating_sub(stall_cost(scene, label.p)),
         }
     }
 
-    /// What a label of a segment may come to. Behind the last segment it is its value.
-    fn worth(&self, scene: &Scene<'_>, segment: u16, label: Label) -> i128 {
+    /// What a label of a segment may come to, if the first one had a delay. Behind the last segment it is its value.
+    fn worth(&self, scene: &Scene<'_>, segment: u16, label: Label, first: u64) -> i128 {
         let left = self.prices.len().saturating_sub(segment as usize + 1);
         let value = PRICE_UNIT as i128 * label.v as i128;
         let cost = match self.prices.get(segment as usize + 1) {
             None => 0,
             Some(price) => worth_of_bits(carried_to_next(scene, segment, label), *price),
         };
-        let to_come = self.outlook_of(scene, left, label);
+        let to_come = self.outlook_of(scene, left, label, first);
         value.saturating_sub(cost).saturating_add(to_come)
     }
 }
@@ -95,6 +120,7 @@ fn kept_of(
     segment: u16,
     label: Label,
     rung: u8,
+    first: u64,
     before: usize,
 ) -> Kept
     requires label { IsInReach segment label }
@@ -103,8 +129,9 @@ fn kept_of(
 {
     Kept {
         label,
-        worth: guide.worth(scene, segment, label),
+        worth: guide.worth(scene, segment, label, first),
         rung,
+        first,
         before,
     }
 }
@@ -118,7 +145,7 @@ fn first_labels(alloc: Global, scene: &Scene<'_>, guide: &Guide) -> Result<Vec<K
     let mut labels = Vec::new(alloc);
     for rung in 0..count {
         let label = start_on(scene, rung);
-        labels.push(kept_of(scene, guide, 0, label, rung, 0))?;
+        labels.push(kept_of(scene, guide, 0, label, rung, label.p, 0))?;
     }
     Ok(labels)
 }
@@ -138,7 +165,7 @@ fn kept_behind(
     ensures { IsKept scene.now segment result }
 {
     let label = next_on(scene, segment, old.rung, old.label, rung);
-    kept_of(scene, guide, segment, label, rung, number)
+    kept_of(scene, guide, segment, label, rung, old.first, number)
 }
 
 /// Keeps the successor of a label on a rung, unless the one that is kept in its place comes to no less.
@@ -302,8 +329,11 @@ pub fn near_list(alloc: Global, scene: &Scene<'_>, guide: &Guide) -> Result<Foun
     Ok(Found { rungs, worth })
 }
 
-/// The better of the rung lists that these prices lead to, with and without stalls to come.
-pub fn better_list(
+/// How many times stalls to come count for the lists that are tried, beside one for which no stall is to come.
+const TIMES: [i128; 2] = [1, 3];
+
+/// The best of the rung lists that these prices lead to, with and without stalls to come.
+pub fn best_list(
     alloc: Global,
     scene: &Scene<'_>,
     prices: Vec<u64>,
@@ -313,17 +343,20 @@ pub fn better_list(
     requires shared { IsForEachEdge scene.now shared.now }
     ensures { IfOk result (λ f. AreRungs scene.now (segments_of scene.now.film) f.rungs.items) }
 {
-    let outlook = Outlook::new(alloc, scene, 0, &prices, shared)?;
     let mut guide = Guide {
         prices,
         outlook: None,
+        times: 1,
     };
-    let plain = near_list(alloc, scene, &guide)?;
-    guide.outlook = Some(outlook);
-    let other = near_list(alloc, scene, &guide)?;
-    Ok(if other.worth > plain.worth {
-        other
-    } else {
-        plain
-    })
+    let mut best = near_list(alloc, scene, &guide)?;
+    for times in TIMES {
+        let outlook = Outlook::new(alloc, scene, 0, times, &guide.prices, shared)?;
+        guide.outlook = Some(outlook);
+        guide.times = times;
+        let next = near_list(alloc, scene, &guide)?;
+        if next.worth > best.worth {
+            best = next;
+        }
+    }
+    Ok(best)
 }

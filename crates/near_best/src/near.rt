@@ -9,7 +9,7 @@ ghost use Rattle.price_bounds.specs.Verdict.{AreInOrder, IsValid, price_parts};
 
 use crate::cap::near_prices;
 use crate::descent::descend;
-use crate::list::better_list;
+use crate::list::best_list;
 use crate::tariff::tariff_of;
 use crate::windows::{shared_prices, windows_of};
 use lab_model::NoMemory;
@@ -43,11 +43,11 @@ fn found_near(alloc: Global, scene: &Scene<'_>) -> Result<Found, AllocError>
     let found = near_prices(alloc, scene)?;
     let shared = shared_prices(alloc, scene, &found.delays, &found.prices)?;
     let windows = windows_of(alloc, &found.prices, &shared)?;
-    let list = better_list(alloc, scene, found.prices, &shared)?;
+    let list = best_list(alloc, scene, found.prices, &shared)?;
     let moved = descend(alloc, scene, &windows, list.worth)?;
     let tariff = tariff_of(alloc, scene.film().segments() as usize, &moved)?;
     let lower = windows_of(alloc, &tariff.prices, &tariff.shared)?;
-    let other = better_list(alloc, scene, tariff.prices, &tariff.shared)?;
+    let other = best_list(alloc, scene, tariff.prices, &tariff.shared)?;
     let rungs = if other.worth > list.worth {
         other.rungs
     } else {

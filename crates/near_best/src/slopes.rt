@@ -74,7 +74,7 @@ pub fn slopes_on(
 {
     prove!(scene.film().segments() > 0);
     let first = start_on(scene, rung).p;
-    let outlook = Outlook::new(alloc, scene, first, &tariff.prices, &tariff.shared)?;
+    let outlook = Outlook::new(alloc, scene, first, 1, &tariff.prices, &tariff.shared)?;
     let count = tariff.prices.len();
     let mut begins = Vec::new(alloc);
     let mut ends = Vec::new(alloc);

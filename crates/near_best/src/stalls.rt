@@ -15,7 +15,10 @@ const GROWTH_PARTS: u64 = 8;
 /// By so many parts of what it lies behind the first delay a cell of delays is wide.
 const CELL_PARTS: u64 = 64;
 
-/// The longest stall that may be worth its cost: that which costs what all segments gain.
+/// Up to so long a stall all delays are tried close together, in milliseconds: a network may be fast for some while.
+const LEAST_DEAREST_MS: u64 = 1_000_000;
+
+/// The longest stall that may be worth its cost: that which costs what all segments gain, or a little more.
 fn dearest_stall(scene: &Scene<'_>) -> u64 {
     let (film, weights) = (scene.film(), &scene.setup().weights);
     prove!(film.rungs() > 0);
@@ -25,7 +28,7 @@ fn dearest_stall(scene: &Scene<'_>) -> u64 {
     for segment in 0..count {
         gain = gain.saturating_add(1000 * weights.utility(segment, top) as u64);
     }
-    gain / (weights.stall() as u64).max(1)
+    (gain / (weights.stall() as u64).max(1)).max(LEAST_DEAREST_MS)
 }
 
 /// By how much a step behind a stall is longer than 1 ms.
@@ -81,15 +84,20 @@ fn most_of(table: &[i128]) -> i128 {
     most
 }
 
-/// What the stalls up to each delay cost, as a loss.
-fn stall_losses(alloc: Global, scene: &Scene<'_>, delays: &[u64]) -> Result<Vec<i128>, AllocError>
+/// What the stalls up to each delay cost, so many times, as a loss.
+fn stall_losses(
+    alloc: Global,
+    scene: &Scene<'_>,
+    delays: &[u64],
+    times: i128,
+) -> Result<Vec<i128>, AllocError>
     requires { 1 ≤ length delays.now }
     ensures { IfOk result (λ v. length v.items ≡ length delays.now) }
 {
     let mut losses = Vec::new(alloc);
     for place in 0..delays.len() {
         let cost = stall_cost(scene, delays[place].saturating_sub(delays[0]));
-        losses.push(0i128.saturating_sub(cost))?;
+        losses.push(0i128.saturating_sub(cost.saturating_mul(times)))?;
     }
     Ok(losses)
 }
@@ -135,7 +143,7 @@ pub fn link_worth(
 {
     prove!(scene.film().segments() > 0);
     let delays = tried_delays(alloc, first, dearest_stall(scene))?;
-    let mut table = stall_losses(alloc, scene, &delays)?;
+    let mut table = stall_losses(alloc, scene, &delays, 1)?;
     for done in 1..prices.len() {
         let segment = prices.len() - done;
         let rise = rise_at(prices, shared, segment);
@@ -162,11 +170,12 @@ pub struct Outlook {
 }
 
 impl Outlook {
-    /// The outlook at these prices, from a first delay on.
+    /// The outlook at these prices, from a first delay on, where stalls count so many times.
     pub fn new(
         alloc: Global,
         scene: &Scene<'_>,
         first: u64,
+        times: i128,
         prices: &[u64],
         shared: &[u64],
     ) -> Result<Outlook, AllocError>
@@ -175,7 +184,7 @@ impl Outlook {
     {
         prove!(scene.film().segments() > 0);
         let delays = tried_delays(alloc, first, dearest_stall(scene))?;
-        let mut table = stall_losses(alloc, scene, &delays)?;
+        let mut table = stall_losses(alloc, scene, &delays, times)?;
         let mut worths = Vec::new(alloc);
         worths.push(table.to_vec(alloc)?)?;
         for done in 1..prices.len() {

@@ -1,4 +1,3 @@
-use Rattle.std.proofs.Common.{◌≡◌}
 use Rattle.near_best.proofs.cap.best_cap.Given as goal
 
 abbrev pub decreases-loop-cap : goal.decreases-loop-cap

@@ -1,4 +1,4 @@
-use Rattle.std.proofs.Common.{◌≡◌, ◌+◌, ◌-◌, ◌<◌, length}
+use Rattle.std.proofs.Common.{◌≡◌, ◌+◌, ◌-◌, length}
 use Rattle.std.specs.List.{All}
 use Rattle.near_best.specs.Kept.{AreOnRungs, IsKept}
 use Rattle.near_best.proofs.list.all_labels.Given as goal
