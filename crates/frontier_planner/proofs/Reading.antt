@@ -79,9 +79,9 @@ stands_in ns k true h =
     let inside = h.1 in
     let low : h.0 < length ns = omega (arith, steps, inside) in (
       λ yes. (
-          h.0,
-          omega (arith, ids, low),
-          get_or-map (λ (s : Standing). s.node) ns h.0 none k low ∙ sym (ap (λ (s : Step). s.node) (get_or-map step_of ns h.0 none (step_of none) low)) ∙ h.2 (step_of none),
+        h.0,
+        omega (arith, ids, low),
+        get_or-map (λ (s : Standing). s.node) ns h.0 none k low ∙ sym (ap (λ (s : Step). s.node) (get_or-map step_of ns h.0 none (step_of none) low)) ∙ h.2 (step_of none),
       ),
       λ there. refl,
     )
