@@ -1,5 +1,5 @@
 -- Nodes that are added at the end of a chain of the arena.
-use Rattle.std.proofs.Common.{◌≡◌, ◌∙◌, ℕ, zero, suc, ◌+◌, ◌-◌, ◌<◌, ◌≤◌, ◌⊎◌, inl, inr, ⊎_elim, cond, true, false, List, [], ◌∷◌, ◌++◌, Option, None, Some, length, get_or, set, map, take, refl, sym, ap, subst, arith, length-set, get_or-set_other, get_or-set_same, set-set}
+use Rattle.std.proofs.Common.{◌≡◌, ◌∙◌, ℕ, zero, suc, ◌+◌, ◌-◌, ◌<◌, ◌≤◌, ◌⊎◌, inl, inr, ⊎_elim, true, false, List, [], ◌∷◌, ◌++◌, Option, None, Some, length, get_or, set, map, take, refl, sym, ap, subst, arith, length-set, get_or-set_other, get_or-set_same, set-set}
 use Rattle.std.specs.Prelude.{IfSome}
 use Rattle.std.specs.List.{Contains, sum_by}
 use Rattle.std.proofs.lemmas.Bool.{eq-eqb, ne_eqb, cases_eq, cond-true, cond-false}
@@ -7,11 +7,11 @@ use Rattle.std.proofs.lemmas.List.{length-map, map-append, set-get_or, take_all,
 use Rattle.std.proofs.lemmas.List.Elements.{Contains-push}
 use Rattle.std.proofs.lemmas.List.Sums.{sum_by-set}
 use Rattle.lab_model.specs.declared.label.Label.{Label}
-use Rattle.label_arena.specs.Chains.{HasParent, Holdings, IsOpen, IsSound, LinkedChain, Standing, StandsAfter, StandsIn, StandsSealed, chain_at, ids_of, linked_chain, node_count, nodes_with, same_node, standing, times, with_added, with_room, with_seal}
+use Rattle.label_arena.specs.Chains.{HasParent, Holdings, IsOpen, IsSound, LinkedChain, Standing, StandsAfter, StandsIn, chain_at, ids_of, linked_chain, node_count, nodes_with, same_node, standing, times, with_added, with_room, with_seal}
 use Rattle.label_arena.specs.declared.node.NodeId.{NodeId}
 use Rattle.label_arena.proofs.Counts.{counted, counted_first}
 use Rattle.label_arena.proofs.Parents.{in_ids, parent_stays}
-use Rattle.labels.proofs.Walks.{at_head, at_tail, none_at}
+use Rattle.labels.proofs.Walks.{at_head, at_tail}
 use Rattle.frontier_planner.specs.declared.chains.Reached.{Reached}
 use Rattle.frontier_planner.specs.declared.grow.Candidate.{Candidate}
 use Rattle.frontier_planner.specs.Linked.{AddsFrontier, Appends, HaveNodes, no_reached, node_of, part_for, part_of}

@@ -1,5 +1,5 @@
 -- The arena while the frontiers grow in it, chain by chain.
-use Rattle.std.proofs.Common.{◌≡◌, ◌∙◌, ℕ, zero, suc, ◌+◌, ◌-◌, ◌*◌, ◌<◌, ◌≤◌, ⊎_elim, true, false, List, [], ◌∷◌, ◌++◌, Option, None, Some, length, get_or, map, replicate, refl, sym, ap, subst, arith, mul-le-mul_right}
+use Rattle.std.proofs.Common.{◌≡◌, ◌∙◌, ℕ, zero, suc, ◌+◌, ◌-◌, ◌*◌, ◌<◌, ◌≤◌, ⊎_elim, false, List, [], ◌∷◌, ◌++◌, Option, length, get_or, map, replicate, refl, sym, ap, subst, arith, mul-le-mul_right}
 use Rattle.std.specs.List.{Contains}
 use Rattle.std.proofs.lemmas.Bool.{cases_eq, cases_lt}
 use Rattle.std.proofs.lemmas.List.{get_or-map, length-map, length-replicate, map-append}
@@ -7,7 +7,7 @@ use Rattle.std.proofs.lemmas.Simd.{map-map}
 use Rattle.std.proofs.lemmas.List.Elements.{Contains-append_cases, Contains-get_or}
 use Rattle.lab_model.specs.declared.label.Label.{Label}
 use Rattle.lab_model.specs.Film.{rungs_of, segments_of}
-use Rattle.label_arena.specs.Chains.{Holdings, LinkedChain, Standing, StandsSealed, chain_at, empty_holdings, ids_of, linked_chain, node_count, steps_of}
+use Rattle.label_arena.specs.Chains.{Holdings, LinkedChain, Standing, chain_at, empty_holdings, ids_of, linked_chain, node_count, steps_of}
 use Rattle.label_arena.specs.declared.walk.Step.{Step}
 use Rattle.label_arena.specs.declared.node.NodeId.{NodeId}
 use Rattle.label_arena.proofs.Counts.{all_zero}
@@ -21,8 +21,8 @@ use Rattle.labels.proofs.Counted.{by_rung_more}
 use Rattle.labels.proofs.Walks.{from_map, in_map, none_at}
 use Rattle.frontier_planner.specs.declared.chains.Reached.{Reached}
 use Rattle.frontier_planner.specs.declared.grow.Candidate.{Candidate}
-use Rattle.frontier_planner.specs.Linked.{AddsFrontier, AreBefore, AreReached, HaveNodes, HoldsAll, HoldsBelow, HoldsFrontier, HoldsSegment, IsLinked, StandsAt, labels_held, no_reached, node_of, pair_of, part_for, part_of, reached_in, step_reached}
-use Rattle.frontier_planner.specs.Parents.{HaveParents, labels_in}
+use Rattle.frontier_planner.specs.Linked.{AddsFrontier, AreBefore, AreReached, HaveNodes, HoldsBelow, HoldsFrontier, HoldsSegment, IsLinked, StandsAt, labels_held, no_reached, pair_of, part_for, part_of, reached_in, step_reached}
+use Rattle.frontier_planner.specs.Parents.{HaveParents}
 use Rattle.frontier_planner.proofs.Adding.{added_count, added_sealed, node_there, others_stay}
 
 -- ---- numbers of chains

@@ -14,10 +14,8 @@ use Rattle.std.proofs.lemmas.List.Sorted.{Contains-permutation, IsPermutation-sy
 use Rattle.lab_model.specs.declared.label.Label.{Label}
 use Rattle.lab_model.specs.Film.{rungs_of, segments_of}
 use Rattle.labels.specs.declared.label.Grid.{Grid}
-use Rattle.labels.specs.Frontier.{undominated}
-use Rattle.labels.specs.Grid.{rounded}
-use Rattle.labels.specs.Grown.{grown, successors, CanPlan, grown_labels}
-use Rattle.labels.specs.Labels.{Dominates, came_at, next_label, request_at}
+use Rattle.labels.specs.Grown.{CanPlan, grown_labels}
+use Rattle.labels.specs.Labels.{came_at, next_label, request_at}
 use Rattle.player_core.specs.Scene.{IsTask, Task}
 use Rattle.labels.specs.Near.{CanFollow}
 use Rattle.frontier_planner.specs.Staircase.{IsRising}
@@ -28,13 +26,10 @@ use Rattle.frontier_planner.specs.declared.thin.Followed.{Followed}
 use Rattle.frontier_planner.specs.Linked.{no_reached, pair_of}
 use Rattle.frontier_planner.specs.Thinned.{AreEnough, AreLeaders, AreWaiting, CoversChange, LeadsBy, change_cost, no_followed, waiting, waiting_at}
 use Rattle.labels.proofs.Follows.{in_reach, label_follows}
-use Rattle.labels.proofs.Grown.{grown_next}
 use Rattle.labels.proofs.Inherits.{came_in_order}
-use Rattle.labels.proofs.Kept.{dominates_itself, undominated_same}
 use Rattle.labels.proofs.Reached.{request_soon}
-use Rattle.labels.proofs.Rounds.{round_inherits}
 use Rattle.frontier_planner.proofs.Sweep.{NotBefore, none_behind, sweep_total, times}
-use Rattle.labels.proofs.Walks.{from_map, in_map, none_at}
+use Rattle.labels.proofs.Walks.{none_at}
 
 -- ---- labels that wait
 

@@ -8,7 +8,7 @@ use Rattle.label_arena.specs.declared.node.NodeId.{NodeId}
 use Rattle.label_arena.specs.declared.walk.Step.{Step}
 use Rattle.labels.specs.declared.label.Grid.{Grid}
 use Rattle.player_core.specs.Scene.{Task}
-use Rattle.labels.specs.Grown.{CanPlan, grown, grown_labels}
+use Rattle.labels.specs.Grown.{grown, grown_labels}
 use Rattle.labels.specs.Read.{no_label, parent_of}
 use Rattle.frontier_planner.specs.declared.chains.Reached.{Reached}
 use Rattle.frontier_planner.specs.declared.grow.Candidate.{Candidate}

@@ -1,6 +1,6 @@
 //! Names: for each label and each next rung the place of a label there that dominates the successor.
 
-ghost use Rattle.std.specs.Prelude.{◌≡◌, ℕ, ◌+◌, ◌-◌, ◌*◌, ◌<◌, ◌≤◌, ◌++◌, IfOk, length, map};
+ghost use Rattle.std.specs.Prelude.{◌≡◌, ℕ, ◌+◌, ◌-◌, ◌*◌, ◌<◌, ◌≤◌, ◌++◌, [], IfOk, length, map};
 ghost use Rattle.std.specs.List.{Contains, flat_map};
 ghost use Rattle.lab_model.specs.Film.{rungs_of, segments_of};
 ghost use Rattle.frontier_planner.specs.Blocks.{AreOver, IsFinder};
@@ -104,6 +104,14 @@ fn name_label(
     Ok(())
 }
 
+/// Room for the names of a chain, as much as they take.
+fn room_for_names(alloc: Global, brief: &Brief, chain: &[Label]) -> Result<Vec<u32>, AllocError>
+    requires { length chain.now ≤ 1000000 }
+    ensures { IfOk result (λ v. v.items ≡ []) }
+{
+    Vec::with_capacity(alloc, chain.len() * brief.rungs() as usize)
+}
+
 /// The names of the chain of a segment on a rung, where there is a next segment.
 fn names(
     alloc: Global,
@@ -121,7 +129,11 @@ fn names(
         ≡ flat_map (λ l. names_read brief.now.grid brief.now.scene segment (rung, l))
         (grown brief.now.grid brief.now.scene segment rung)) }
 {
-    let mut names = Vec::new(alloc);
+    let mut names = room_for_names(
+        alloc,
+        brief,
+        &layers[segment as usize].chains[rung as usize],
+    )?;
     for l in &layers[segment as usize].chains[rung as usize] {
         name_label(brief, layers, finders, segment, (rung, *l), &mut names)?;
     }

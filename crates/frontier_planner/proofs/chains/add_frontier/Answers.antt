@@ -1,4 +1,4 @@
-use Rattle.std.proofs.Common.{◌≡◌, ◌∙◌, subst, sym, arith}
+use Rattle.std.proofs.Common.{subst, sym}
 use Rattle.label_arena.specs.Chains.{Holdings}
 use Rattle.frontier_planner.specs.Linked.{HaveNodes}
 use Rattle.frontier_planner.proofs.Adding.{added}

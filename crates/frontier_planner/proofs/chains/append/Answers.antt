@@ -1,4 +1,4 @@
-use Rattle.std.proofs.Common.{◌≡◌, ◌∙◌, get_or, refl, subst, sym, arith}
+use Rattle.std.proofs.Common.{refl, subst, sym, arith}
 use Rattle.label_arena.specs.Chains.{HasParent}
 use Rattle.frontier_planner.specs.Parents.{no_candidate}
 use Rattle.frontier_planner.proofs.Adding.{append_after, append_all, append_more, append_none, append_open, append_parent, node_sealed}

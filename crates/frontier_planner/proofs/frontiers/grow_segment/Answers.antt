@@ -1,11 +1,9 @@
-use Rattle.std.proofs.Common.{◌≡◌, ◌∙◌, ◌+◌, ◌-◌, ◌*◌, ◌<◌, ◌≤◌, ap, length, refl, subst, sym, arith}
+use Rattle.std.proofs.Common.{◌∙◌, ◌+◌, ◌*◌, ◌<◌, ap, length, refl, subst, sym, arith}
 use Rattle.std.proofs.lemmas.List.{length-map}
 use Rattle.lab_model.specs.Film.{rungs_of, segments_of}
-use Rattle.label_arena.specs.Chains.{node_count}
 use Rattle.labels.specs.Grown.{grown}
 use Rattle.labels.proofs.Counted.{by_rung_count, by_rung_fewer}
 use Rattle.frontier_planner.specs.Linked.{AddsFrontier, HaveNodes}
-use Rattle.frontier_planner.specs.Parents.{labels_in}
 use Rattle.frontier_planner.proofs.Adding.{added_nodes}
 use Rattle.frontier_planner.proofs.Linking.{before_more, before_sealed, holds_more, number_inside, number_open}
 use Rattle.frontier_planner.proofs.frontiers.grow_segment.Goals as goal

@@ -1,9 +1,7 @@
-use Rattle.std.proofs.Common.{◌≡◌, ◌∙◌, ◌-◌, ◌<◌, ◌∷◌, ◌++◌, [], ap, subst, sym, arith}
-use Rattle.std.specs.Prelude.{IfOk}
+use Rattle.std.proofs.Common.{◌∙◌, ◌<◌, ◌∷◌, ◌++◌, [], ap, subst, sym, arith}
 use Rattle.std.proofs.lemmas.Result.{IfOk-weaker}
 use Rattle.lab_model.specs.Number.{IsNear}
 use Rattle.labels.specs.Grid.{rounded}
-use Rattle.labels.specs.Labels.{start_label}
 use Rattle.labels.proofs.Follows.{start_rounds}
 use Rattle.frontier_planner.specs.Parents.{AreFirst, HaveParents}
 use Rattle.frontier_planner.proofs.FirstParents.{first_start, next_parents}

@@ -1,4 +1,4 @@
-use Rattle.std.proofs.Common.{◌∙◌, ◌-◌, ◌++◌, ◌∷◌, [], ap, sym, arith}
+use Rattle.std.proofs.Common.{◌∙◌, ◌++◌, ◌∷◌, [], ap, sym, arith}
 use Rattle.labels.specs.Grown.{grown}
 use Rattle.labels.proofs.ReadBack.{back_first}
 use Rattle.frontier_planner.specs.Layers.{rungs_read}

@@ -1,7 +1,7 @@
 use Rattle.std.proofs.Common.{◌≡◌, map, take, get_or}
 use Rattle.std.specs.List.{Contains, best_of}
 use Rattle.labels.specs.Read.{ends_higher, no_label}
-use Rattle.frontier_planner.specs.Linked.{no_reached, pair_of}
+use Rattle.frontier_planner.specs.Linked.{pair_of}
 use Rattle.frontier_planner.proofs.read.best_end.Given as goal
 
 abbrev pub invariant-loop-reached : goal.invariant-loop-reached

@@ -1,4 +1,4 @@
-use Rattle.std.proofs.Common.{subst, sym}
+use Rattle.std.proofs.Common.{subst}
 use Rattle.label_arena.specs.Chains.{HasLink}
 use Rattle.frontier_planner.proofs.Reading.{link_parent, link_some, link_stands, stands_own}
 use Rattle.frontier_planner.proofs.read.parent.Goals as goal

@@ -1,6 +1,5 @@
-use Rattle.std.proofs.Common.{◌≡◌, ◌∙◌, ◌+◌, ◌*◌, ◌<◌, ◌≤◌, ⊎_elim, ap, sym, subst, arith}
+use Rattle.std.proofs.Common.{◌*◌, arith}
 use Rattle.lab_model.specs.Film.{rungs_of}
-use Rattle.label_arena.specs.Chains.{StandsIn}
 use Rattle.frontier_planner.proofs.Reading.{none_more}
 use Rattle.frontier_planner.proofs.read.rung_of.Goals as goal
 

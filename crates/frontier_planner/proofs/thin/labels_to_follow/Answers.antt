@@ -1,4 +1,4 @@
-use Rattle.std.proofs.Common.{◌-◌, ap, get_or, map, sym, subst, arith, ◌+◌, ◌∙◌}
+use Rattle.std.proofs.Common.{◌-◌, ap, get_or, map, sym, subst, arith, ◌+◌}
 use Rattle.std.specs.List.{All, Contains}
 use Rattle.std.proofs.lemmas.List.Elements.{Contains-get_or}
 use Rattle.std.proofs.lemmas.Result.{IfOk-weaker}
