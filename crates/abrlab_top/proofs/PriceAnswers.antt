@@ -38,7 +38,7 @@ use Rattle.abrlab_top.specs.declared.ending.Ending.TheVariants as ending
 use Rattle.abrlab_top.specs.Answer.{Answer, printed, unless_stopped}
 use Rattle.abrlab_top.specs.Choice.{IsBound, IsNearBest}
 use Rattle.abrlab_top.specs.Ending.{IsWhole, after_put}
-use Rattle.abrlab_top.specs.Near.{near_check, near_check_on, near_plan, near_plan_on, near_text, price_ending, prices_in, told_prices}
+use Rattle.abrlab_top.specs.Near.{near_check, near_check_on, near_plan, near_plan_on, near_text, price_ending, price_verdict_text, prices_in, told_prices}
 use Rattle.abrlab_top.specs.Plan.{task_on}
 use Rattle.abrlab_top.specs.Stages.{Writes, bad_line, of_a_price_check}
 use Rattle.abrlab_top.proofs.Whole.{late_setting, put_failed, wanting}
@@ -126,6 +126,10 @@ pub prices_told : (i : InputValues) (n : Text × List Period) (p : PriceParts) (
 unfolding near_check
 prices_told i n p scene middle v e read fits f g said =
     rw (e, read, fits) (ap (λ w. Ok (told_prices p.score p.bound w)) (ap (λ t. verdict_of t p) (sym (f ∙ g)) ∙ sym said))
+
+-- the line of equal numbers
+pub price_text_as : (score other bound limit : ℤ) (v : PriceVerdict) → score ≡ other → bound ≡ limit → price_verdict_text score bound v ≡ price_verdict_text other limit v
+price_text_as score other bound limit v e f = ap (λ z. price_verdict_text z bound v) e ∙ ap (λ z. price_verdict_text other z v) f
 
 whole_price : (v : PriceVerdict) → IsWhole (price_ending v)
 whole_price said.Yes = tt

@@ -1,4 +1,4 @@
-use Rattle.std.proofs.Common.{◌≡◌, ◌∙◌, Err, Ok, Some, ap, rules, subst, sym}
+use Rattle.std.proofs.Common.{◌≡◌, Err, Ok, Some, rules, subst, sym}
 use Rattle.std.specs.Int.{w128}
 use Rattle.std.proofs.lemmas.Int.{to_z-of_z}
 use Rattle.lab_io.proofs.Puts.{puts_as}
@@ -8,9 +8,9 @@ use Rattle.lab_inputs.specs.Stages.{network_of}
 use Rattle.price_bounds.specs.Verdict.{price_parts}
 use Rattle.price_text.specs.Reading.{prices_of}
 use Rattle.abrlab_top.specs.declared.ending.Ending.TheVariants as ending
-use Rattle.abrlab_top.specs.Near.{near_check, price_verdict_text}
+use Rattle.abrlab_top.specs.Near.{near_check}
 use Rattle.abrlab_top.specs.Stages.{Writes, of_a_price_check}
-use Rattle.abrlab_top.proofs.PriceAnswers.{bad_prices, misfit_prices, no_check_network, price_done, price_failed, prices_told}
+use Rattle.abrlab_top.proofs.PriceAnswers.{bad_prices, misfit_prices, no_check_network, price_done, price_failed, price_text_as, prices_told}
 use Rattle.abrlab_top.proofs.Plans.{task_is}
 use Rattle.abrlab_top.proofs.Whole.{all_settled, exit, none_there, nothing_printed, some_there, unsettled, wanting}
 use Rattle.abrlab_top.proofs.near.write_price_verdict.Goals as goal
@@ -48,7 +48,7 @@ returns-in_err-put_price_verdict g c =
     let told = prices_told i (network_of c.in-Some.network.now) p _ _ c.in_ok-verdict.verdict network read fits.0 c.new-scene.ensures.value task c.in_ok-verdict.ensures.verdict in
     let score = to_z-of_z w128 c.in-Ok.certificate.score (search rules) in
     let bound = to_z-of_z w128 c.in-Ok.certificate.bound (search rules) in
-    let put = puts_as _ _ _ _ _ (ap (λ z. price_verdict_text z _ c.in_ok-verdict.verdict) score ∙ ap (λ z. price_verdict_text p.score z c.in_ok-verdict.verdict) bound) c.put_price_verdict.ensures in
+    let put = puts_as _ _ _ _ _ (price_text_as _ _ _ _ c.in_ok-verdict.verdict score bound) c.put_price_verdict.ensures in
     exit of_a_price_check (near_check i) _ _ c.from_residual-in_err-put_price_verdict.result _ c.from_residual-in_err-put_price_verdict.ensures.1
     (price_failed i p.score p.bound c.in_ok-verdict.verdict _ _ c.put_price_verdict.result _ told c.in_err-put_price_verdict.was put)
 
@@ -63,6 +63,6 @@ returns g c =
     let told = prices_told i (network_of c.in-Some.network.now) p _ _ c.in_ok-verdict.verdict network read fits.0 c.new-scene.ensures.value task c.in_ok-verdict.ensures.verdict in
     let score = to_z-of_z w128 c.in-Ok.certificate.score (search rules) in
     let bound = to_z-of_z w128 c.in-Ok.certificate.bound (search rules) in
-    let put = puts_as _ _ _ _ _ (ap (λ z. price_verdict_text z _ c.in_ok-verdict.verdict) score ∙ ap (λ z. price_verdict_text p.score z c.in_ok-verdict.verdict) bound) c.put_price_verdict.ensures in
+    let put = puts_as _ _ _ _ _ (price_text_as _ _ _ _ c.in_ok-verdict.verdict score bound) c.put_price_verdict.ensures in
     subst (λ e. Writes of_a_price_check (near_check i) (g.O.Sink.seen c.args.out.now) e (g.O.Sink.seen c.put_price_verdict.new.out)) (sym c.price_end.ensures)
     (price_done i p.score p.bound c.in_ok-verdict.verdict _ _ c.put_price_verdict.result _ told c.in_ok-put_price_verdict.was put)
