@@ -12,6 +12,7 @@ mod demo;
 mod failures;
 mod files;
 mod made;
+mod near;
 mod plan;
 mod players;
 mod reach;

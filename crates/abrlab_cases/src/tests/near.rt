@@ -1,0 +1,92 @@
+// Whole runs with bounds by prices: plans, checks of certificates, and regrets.
+use super::Text::Is;
+use super::files::{FALLING, SHORT, SHORT_WEIGHED, SLOW, STEADY, UNEVEN, WAVES};
+use super::{Case, File, NO_FILE, Planned, assert_answer, assert_planned};
+use std::test::Fail;
+
+// Two films on networks that change.
+const LONGER: [File; 2] = [("m", WAVES), ("t", FALLING)];
+
+const SHORTER: [File; 2] = [("m", SHORT), ("t", UNEVEN)];
+
+const SHORTER_WEIGHED: [File; 3] = [("m", SHORT), ("t", UNEVEN), ("u", SHORT_WEIGHED)];
+
+// Plans, and the checks of their certificates.
+#[rattlefmt::skip]
+static PLANS: [(&[File], Planned); 1] = [
+    (&STEADY, Planned {
+        task: "--manifest m --trace t --utilities 0,10 --buffer 10000",
+        plan: "--near",
+        check: "--near",
+        text: "score 29000\nbound 29000\nplan 1 1 1\n",
+        verdict: "yes score 29000 bound 29000\n",
+    }),
+];
+
+#[test]
+fn plans(rt: HostRuntime) -> Result<(), Fail> {
+    for (files, planned) in &PLANS {
+        assert_planned(&rt, rt.alloc(), planned, files)?;
+    }
+    Ok(())
+}
+
+// What the check of each certificate says.
+const CHECK: &str = "check --near --manifest m --trace t --utilities 0,10 --buffer 10000 --certificate c";
+
+const MISFIT: &str = "check --near --manifest m --trace t --utilities 0 --buffer 10000 --certificate c";
+
+#[rattlefmt::skip]
+static CHECKS: [(&str, &str, u8, &str, &str); 12] = [
+    (CHECK, "abrlab prices 1\nsegments 3\nrungs 2\nscore 29000\nbound 29000\nplan 1 1 1\nwindows 0\nend\n", 0, "yes score 29000 bound 29000\n", ""),
+    (CHECK, "abrlab prices 1\nsegments 3\nrungs 2\nscore 29000\nbound 30000\nplan 1 1 1\nwindows 0\nend\n", 0, "yes score 29000 bound 30000\n", ""),
+    (CHECK, "abrlab prices 1\nsegments 4\nrungs 2\nscore 29000\nbound 29000\nplan 1 1 1 1\nwindows 0\nend\n", 1, "no P1\n", ""),
+    (CHECK, "abrlab prices 1\nsegments 3\nrungs 2\nscore 1\nbound 1\nplan 1 2 1\nwindows 1\n0 1 5\nend\n", 1, "no P2 segment 1\n", ""),
+    (CHECK, "abrlab prices 1\nsegments 3\nrungs 2\nscore 1\nbound 1\nplan 1 1 1\nwindows 1\n0 1 5\nend\n", 1, "no P2 window 0\n", ""),
+    (CHECK, "abrlab prices 1\nsegments 3\nrungs 2\nscore 1\nbound 1\nplan 1 1 1\nwindows 2\n1 1 5\n1 1 5\nend\n", 1, "no P2 window 1\n", ""),
+    (CHECK, "abrlab prices 1\nsegments 3\nrungs 2\nscore 1\nbound 28999\nplan 1 1 1\nwindows 0\nend\n", 1, "no P3 bound 29000\n", ""),
+    (CHECK, "abrlab prices 1\nsegments 3\nrungs 2\nscore 29001\nbound 29001\nplan 1 1 1\nwindows 0\nend\n", 1, "no P4 score 29000\n", ""),
+    (CHECK, "abrlab prices 1\nsegments 3\nrungs 2\nscore 29000\nbound 29000\nplan 1 1 1\nwindows 0\n", 3, "", "abrlab: certificate file: bad-line at line row 8 column 0\n"),
+    (CHECK, "abrlab certificate 1\n", 3, "", "abrlab: certificate file: bad-line at line row 1 column 0\n"),
+    (MISFIT, "abrlab prices 2\n", 3, "", "abrlab: certificate file: bad-line at line row 1 column 0\n"),
+    (MISFIT, "abrlab prices 1\nsegments 3\nrungs 2\nscore 29000\nbound 29000\nplan 1 1 1\nwindows 0\nend\n", 3, "", "abrlab: settings: utilities\n"),
+];
+
+#[test]
+fn checks(rt: HostRuntime) -> Result<(), Fail> {
+    for (words, certificate, status, out, err) in &CHECKS {
+        let case = Case {
+            name: certificate,
+            words,
+            file: ("c", certificate),
+            files: &STEADY,
+            status: *status,
+            out: Is(out),
+            err,
+        };
+        assert_answer(&rt, rt.alloc(), &case)?;
+    }
+    Ok(())
+}
+
+// Regrets beside bounds.
+#[rattlefmt::skip]
+static REGRETS: [Case; 1] = [
+    Case {
+        name: "near regrets",
+        words: "compare --regret --near --manifest m --rules fixed:1/fixed:0 --utilities 0,10 --buffer 10000 t",
+        file: NO_FILE,
+        files: &STEADY,
+        status: 0,
+        out: Is("trace t\nrule fixed:1 score 29000 bound 29000 regret 0\nrule fixed:0 score -500 bound 29000 regret 29500\ntotal fixed:1 score 29000 bound 29000 regret 0 worst 0\ntotal fixed:0 score -500 bound 29000 regret 29500 worst 29500\n"),
+        err: "",
+    },
+];
+
+#[test]
+fn regrets(rt: HostRuntime) -> Result<(), Fail> {
+    for case in &REGRETS {
+        assert_answer(&rt, rt.alloc(), case)?;
+    }
+    Ok(())
+}
