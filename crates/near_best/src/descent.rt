@@ -17,7 +17,7 @@ const STEPS: usize = 6;
 /// So many segments and stages make up the work of a descent.
 const WORK: usize = 3200;
 
-const LEAST_STAGES: usize = 4;
+const LEAST_STAGES: usize = 8;
 
 const MOST_STAGES: usize = 16;
 

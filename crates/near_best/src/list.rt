@@ -19,7 +19,7 @@ use std::alloc::{AllocError, Global};
 const MOST_PLACES: u64 = 32;
 
 /// At least so many.
-const LEAST_PLACES: u64 = 4;
+const LEAST_PLACES: u64 = 8;
 
 /// About so many steps from label to label are tried for a list.
 const WORK: u64 = 400_000;

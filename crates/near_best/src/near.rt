@@ -8,6 +8,7 @@ ghost use Rattle.price_bounds.specs.Bound.{bound_of};
 ghost use Rattle.price_bounds.specs.Verdict.{AreInOrder, IsValid, price_parts};
 
 use crate::cap::near_prices;
+use crate::demand::PRICE_UNIT;
 use crate::descent::descend;
 use crate::list::best_list;
 use crate::tariff::tariff_of;
@@ -20,11 +21,15 @@ use std::alloc::{AllocError, Global};
 /// No certificate has a bound of this size or a greater one.
 const LEAST_UNSPELLED: i128 = 1_000_000_000_000_000_000_000_000;
 
-/// A rung list, and windows of which nothing is known, twice.
+/// A rung list, and windows of which nothing is known.
 #[derive(Drop, Debug)]
 struct Found {
     rungs: Vec<u8>,
+    /// The windows of the prices that were found first.
     windows: Vec<Window>,
+    /// About their bound.
+    about: i128,
+    /// The windows of the prices that these were moved to.
     lower: Vec<Window>,
 }
 
@@ -56,6 +61,7 @@ fn found_near(alloc: Global, scene: &Scene<'_>) -> Result<Found, AllocError>
     Ok(Found {
         rungs,
         windows,
+        about: found.worth / PRICE_UNIT as i128,
         lower,
     })
 }
@@ -86,23 +92,27 @@ fn bound_by(alloc: Global, scene: &Scene<'_>, windows: Vec<Window>) -> Result<Bo
     without_windows(alloc, scene)
 }
 
-/// Those of two lists of windows that have the lower bound.
+/// The second windows, or the first, of whose bound something is known about, if they have the lower bound.
 fn lower_bound(
     alloc: Global,
     scene: &Scene<'_>,
-    one: Vec<Window>,
-    other: Vec<Window>,
+    windows: Vec<Window>,
+    about: i128,
+    lower: Vec<Window>,
 ) -> Result<Bounded, NoMemory>
     ensures order { IfOk result (λ b. AreInOrder (segments_of scene.now.film) b.windows.items) }
     ensures bound { IfOk result (λ b. b.bound ≡ bound_of scene.now b.windows.items) }
     ensures short { IfOk result (λ b. HasSignedDigits score_digits b.bound) }
 {
-    let one = bound_by(alloc, scene, one)?;
-    let other = bound_by(alloc, scene, other)?;
-    if other.bound < one.bound {
-        return Ok(other);
+    let lower = bound_by(alloc, scene, lower)?;
+    if lower.bound < about {
+        return Ok(lower);
     }
-    Ok(one)
+    let first = bound_by(alloc, scene, windows)?;
+    if lower.bound < first.bound {
+        return Ok(lower);
+    }
+    Ok(first)
 }
 
 /// A good rung list of the film with its value, and windows whose bound is near it: a valid certificate by prices, which can
@@ -116,7 +126,7 @@ pub fn near_best(alloc: Global, scene: &Scene<'_>) -> Result<PriceCertificate, N
 {
     let film = scene.film();
     let found = found_near(alloc, scene)?;
-    let bounded = lower_bound(alloc, scene, found.windows, found.lower)?;
+    let bounded = lower_bound(alloc, scene, found.windows, found.about, found.lower)?;
     Ok(PriceCertificate {
         segments: film.segments(),
         rungs: film.rungs(),
