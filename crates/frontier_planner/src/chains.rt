@@ -117,7 +117,8 @@ pub fn reached_labels(
 ) -> Result<Vec<Reached>, AllocError>
     requires segment { segment < segments_of brief.now.scene.film }
     requires holds { HoldsSegment brief.now.grid brief.now.scene arena.now segment }
-    ensures { IfOk result (λ v. AreReached brief.now.grid brief.now.scene arena.now segment v.items) }
+    ensures { IfOk result (λ v. AreReached brief.now.grid brief.now.scene arena.now
+        segment v.items) }
 {
     let mut reached = Vec::new(alloc);
     for rung in 0..brief.rungs() {
