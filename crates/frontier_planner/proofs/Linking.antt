@@ -5,9 +5,10 @@ use Rattle.std.proofs.lemmas.Bool.{cases_eq, cases_lt}
 use Rattle.std.proofs.lemmas.List.{get_or-map, length-map, length-replicate, map-append}
 use Rattle.std.proofs.lemmas.Simd.{map-map}
 use Rattle.std.proofs.lemmas.List.Elements.{Contains-append_cases, Contains-get_or}
+use Rattle.std.proofs.lemmas.List.Sums.{get_or-le-sum_by}
 use Rattle.lab_model.specs.declared.label.Label.{Label}
 use Rattle.lab_model.specs.Film.{rungs_of, segments_of}
-use Rattle.label_arena.specs.Chains.{Holdings, LinkedChain, Standing, chain_at, empty_holdings, ids_of, linked_chain, node_count, steps_of}
+use Rattle.label_arena.specs.Chains.{Holdings, IsSound, LinkedChain, Standing, chain_at, empty_holdings, ids_of, linked_chain, node_count, steps_of}
 use Rattle.label_arena.specs.declared.walk.Step.{Step}
 use Rattle.label_arena.specs.declared.node.NodeId.{NodeId}
 use Rattle.label_arena.proofs.Counts.{all_zero}
@@ -155,6 +156,15 @@ steps_reached q steps ns is = ap (map (step_reached q)) is ∙ map-map (step_rea
 -- and its labels are those
 pub steps_labels : (steps : List Step) (ns : List Standing) → steps ≡ steps_of ns → map (λ (s : Step). s.label) steps ≡ labels_held ns
 steps_labels steps ns is = ap (map (λ (s : Step). s.label)) is ∙ map-map (λ (s : Step). s.label) (λ (s : Standing). let t : Step = record { node = s.node; label = s.label } in t) ns
+
+-- a chain is no longer than an arena may be
+pub chain_short : (a : Holdings) (c : ℕ) → IsSound a → c < length a.chains → length (steps_of (chain_at a c).nodes) ≤ 4000000
+chain_short a c sound low =
+    let ns = (chain_at a c).nodes in
+    let one = get_or-le-sum_by (λ (x : LinkedChain). length x.nodes) a.chains c (linked_chain [] false) low in
+    let long = length-map ns (λ (s : Standing). let t : Step = record { node = s.node; label = s.label } in t) in
+    let few = sound.few in
+    omega (arith, one, long, few)
 
 -- their nodes stand in sealed chains
 pub before_sealed : (d : Grid) (g : Task) (a : Holdings) (segment number : ℕ) (before : List Reached) → HoldsBelow d g a number → segment * rungs_of g.film ≤ number → AreBefore d g a segment before → HaveNodes a before

@@ -2,13 +2,13 @@
 
 ghost use Rattle.std.specs.Prelude.{◌≡◌, ℕ, [], ◌+◌, ◌*◌, ◌<◌, ◌≤◌, ◌++◌, IfOk, Some, length, map};
 ghost use Rattle.lab_model.specs.Film.{rungs_of, segments_of};
-ghost use Rattle.label_arena.specs.Chains.{HasParent, IsOpen, chain_at, node_count, steps_of};
+ghost use Rattle.label_arena.specs.Chains.{HasParent, IsOpen, chain_at, node_count};
 ghost use Rattle.frontier_planner.specs.Linked.{AddsFrontier, Appends, AreReached, HaveNodes, HoldsSegment, node_of, reached_in};
 
 use crate::brief::Brief;
 use crate::grow::Candidate;
 use lab_model::{Label, NoMemory};
-use label_arena::{Arena, NodeId, Step};
+use label_arena::{Arena, NodeId};
 use std::alloc::{AllocError, Global};
 
 /// A label that stands in the arena.
@@ -38,14 +38,6 @@ pub fn chain_of(brief: &Brief, segment: u16, rung: u8) -> u32
     ensures bound { result < segments_of brief.now.scene.film * rungs_of brief.now.scene.film }
 {
     segment as u32 * brief.rungs() as u32 + rung as u32
-}
-
-/// The nodes of a chain in order, with their labels.
-pub fn steps_in(alloc: Global, arena: &Arena, chain: u32) -> Result<Vec<Step>, AllocError>
-    requires { chain < length arena.now.chains }
-    ensures { IfOk result (λ v. v.items ≡ steps_of (chain_at arena.now chain).nodes) }
-{
-    arena.walk(chain).collect(alloc)
 }
 
 /// The node of the label at a place, if there is one.
@@ -106,8 +98,7 @@ fn add_reached(
     ensures { IfOk result (λ _. reached.new.items
         ≡ reached.old.items ++ reached_in rung (chain_at arena.now chain).nodes) }
 {
-    let steps = steps_in(alloc, arena, chain)?;
-    for step in &steps {
+    for step in arena.walk(chain) {
         reached.push(Reached {
             rung,
             label: step.label,
@@ -126,7 +117,8 @@ pub fn reached_labels(
 ) -> Result<Vec<Reached>, AllocError>
     requires segment { segment < segments_of brief.now.scene.film }
     requires holds { HoldsSegment brief.now.grid brief.now.scene arena.now segment }
-    ensures { IfOk result (λ v. AreReached brief.now.grid brief.now.scene arena.now segment v.items) }
+    ensures { IfOk result (λ v. AreReached brief.now.grid brief.now.scene arena.now
+        segment v.items) }
 {
     let mut reached = Vec::new(alloc);
     for rung in 0..brief.rungs() {

@@ -9,7 +9,7 @@ ghost use Rattle.frontier_planner.specs.Layers.{FrontiersAnswer, HoldAll, HoldsF
 ghost use Rattle.frontier_planner.specs.Linked.{AreBefore, HoldsAll, HoldsBelow, HoldsSegment, labels_held, pair_of};
 
 use crate::brief::Brief;
-use crate::chains::{Reached, add_frontier, chain_count, chain_of, reached_labels, steps_in};
+use crate::chains::{Reached, add_frontier, chain_count, chain_of, reached_labels};
 use crate::grow::frontier;
 use crate::plans::PlanErr;
 use crate::thin::{Followed, labels_to_follow};
@@ -118,9 +118,9 @@ fn chain_labels(alloc: Global, arena: &Arena, chain: u32) -> Result<Vec<Label>, 
     requires { chain < length arena.now.chains }
     ensures { IfOk result (λ v. v.items ≡ labels_held (chain_at arena.now chain).nodes) }
 {
-    let steps = steps_in(alloc, arena, chain)?;
-    let mut labels = Vec::with_capacity(alloc, steps.len())?;
-    for step in &steps {
+    prove!(arena.spare() <= 4_000_000);
+    let mut labels = Vec::with_capacity(alloc, arena.walk(chain).count())?;
+    for step in arena.walk(chain) {
         labels.push(step.label)?;
     }
     Ok(labels)

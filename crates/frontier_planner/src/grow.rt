@@ -92,7 +92,8 @@ fn successors(
     Ok(made)
 }
 
-/// The coarse frontier of a segment and a rung with its first parents, from labels that are enough to follow; segment 0 needs none.
+/// The coarse frontier of a segment and a rung with its first parents, from labels that are enough to follow; segment 0
+/// needs none.
 pub fn frontier(
     alloc: Global,
     brief: &Brief,
