@@ -1,7 +1,7 @@
 // Whole runs with bounds by prices: plans, checks of certificates, and regrets.
-use super::Text::Is;
+use super::Text::{Begins, Is};
 use super::files::{FALLING, SHORT, SHORT_WEIGHED, SLOW, STEADY, UNEVEN, WAVES};
-use super::{Case, File, NO_FILE, Planned, assert_answer, assert_planned};
+use super::{Case, File, NO_FILE, Planned, Round, assert_answer, assert_planned, assert_round};
 use std::test::Fail;
 
 // Two films on networks that change.
@@ -31,10 +31,66 @@ fn plans(rt: HostRuntime) -> Result<(), Fail> {
     Ok(())
 }
 
-// What the check of each certificate says.
-const CHECK: &str = "check --near --manifest m --trace t --utilities 0,10 --buffer 10000 --certificate c";
+// What is found, whatever it is, is accepted.
+#[rattlefmt::skip]
+static ROUNDS: [Round; 5] = [
+    Round {
+        plan: "plan --near --manifest m --trace t --utilities 0,10 --buffer 10000 --as-certificate",
+        check: "check --near --manifest m --trace t --utilities 0,10 --buffer 10000 --certificate c",
+        files: &SLOW,
+        status: 0,
+        out: Begins("yes score "),
+        err: "",
+    },
+    Round {
+        plan: "plan --near --manifest m --trace t --utilities 0,10,25 --buffer 4000 --switch 7 --stall 11 --startup 13 --live 1700 --as-certificate",
+        check: "check --near --manifest m --trace t --utilities 0,10,25 --buffer 4000 --switch 7 --stall 11 --startup 13 --live 1700 --certificate c",
+        files: &SHORTER,
+        status: 0,
+        out: Begins("yes score "),
+        err: "",
+    },
+    Round {
+        plan: "plan --near --manifest m --trace t --utilities 0,5,5,20 --buffer 12000 --switch 3 --as-certificate",
+        check: "check --near --manifest m --trace t --utilities 0,5,5,20 --buffer 12000 --switch 3 --certificate c",
+        files: &LONGER,
+        status: 0,
+        out: Begins("yes score "),
+        err: "",
+    },
+    Round {
+        plan: "plan --near --manifest m --trace t --utility-table u --buffer 4000 --stall 1000 --as-certificate",
+        check: "check --near --manifest m --trace t --utility-table u --buffer 4000 --stall 1000 --certificate c",
+        files: &SHORTER_WEIGHED,
+        status: 0,
+        out: Begins("yes score "),
+        err: "",
+    },
+    // A certificate by prices is none by labels.
+    Round {
+        plan: "plan --near --manifest m --trace t --utilities 0,10 --buffer 10000 --as-certificate",
+        check: "check --manifest m --trace t --utilities 0,10 --buffer 10000 --certificate c",
+        files: &SLOW,
+        status: 3,
+        out: Is(""),
+        err: "abrlab: certificate file: bad-line at line row 1 column 0\n",
+    },
+];
 
-const MISFIT: &str = "check --near --manifest m --trace t --utilities 0 --buffer 10000 --certificate c";
+#[test]
+fn rounds(rt: HostRuntime) -> Result<(), Fail> {
+    for round in &ROUNDS {
+        assert_round(&rt, rt.alloc(), round)?;
+    }
+    Ok(())
+}
+
+// What the check of each certificate says.
+const CHECK: &str =
+    "check --near --manifest m --trace t --utilities 0,10 --buffer 10000 --certificate c";
+
+const MISFIT: &str =
+    "check --near --manifest m --trace t --utilities 0 --buffer 10000 --certificate c";
 
 #[rattlefmt::skip]
 static CHECKS: [(&str, &str, u8, &str, &str); 12] = [
