@@ -9,8 +9,6 @@ const LONGER: [File; 2] = [("m", WAVES), ("t", FALLING)];
 
 const SHORTER: [File; 2] = [("m", SHORT), ("t", UNEVEN)];
 
-const SHORTER_WEIGHED: [File; 3] = [("m", SHORT), ("t", UNEVEN), ("u", SHORT_WEIGHED)];
-
 // Plans, and the checks of their certificates.
 #[rattlefmt::skip]
 static PLANS: [(&[File], Planned); 1] = [
@@ -61,7 +59,7 @@ static ROUNDS: [Round; 5] = [
     Round {
         plan: "plan --near --manifest m --trace t --utility-table u --buffer 4000 --stall 1000 --as-certificate",
         check: "check --near --manifest m --trace t --utility-table u --buffer 4000 --stall 1000 --certificate c",
-        files: &SHORTER_WEIGHED,
+        files: &SHORT_WEIGHED,
         status: 0,
         out: Begins("yes score "),
         err: "",
