@@ -91,34 +91,25 @@ const MISFIT: &str =
     "check --near --manifest m --trace t --utilities 0 --buffer 10000 --certificate c";
 
 #[rattlefmt::skip]
-static CHECKS: [(&str, &str, u8, &str, &str); 12] = [
-    (CHECK, "abrlab prices 1\nsegments 3\nrungs 2\nscore 29000\nbound 29000\nplan 1 1 1\nwindows 0\nend\n", 0, "yes score 29000 bound 29000\n", ""),
-    (CHECK, "abrlab prices 1\nsegments 3\nrungs 2\nscore 29000\nbound 30000\nplan 1 1 1\nwindows 0\nend\n", 0, "yes score 29000 bound 30000\n", ""),
-    (CHECK, "abrlab prices 1\nsegments 4\nrungs 2\nscore 29000\nbound 29000\nplan 1 1 1 1\nwindows 0\nend\n", 1, "no P1\n", ""),
-    (CHECK, "abrlab prices 1\nsegments 3\nrungs 2\nscore 1\nbound 1\nplan 1 2 1\nwindows 1\n0 1 5\nend\n", 1, "no P2 segment 1\n", ""),
-    (CHECK, "abrlab prices 1\nsegments 3\nrungs 2\nscore 1\nbound 1\nplan 1 1 1\nwindows 1\n0 1 5\nend\n", 1, "no P2 window 0\n", ""),
-    (CHECK, "abrlab prices 1\nsegments 3\nrungs 2\nscore 1\nbound 1\nplan 1 1 1\nwindows 2\n1 1 5\n1 1 5\nend\n", 1, "no P2 window 1\n", ""),
-    (CHECK, "abrlab prices 1\nsegments 3\nrungs 2\nscore 1\nbound 28999\nplan 1 1 1\nwindows 0\nend\n", 1, "no P3 bound 29000\n", ""),
-    (CHECK, "abrlab prices 1\nsegments 3\nrungs 2\nscore 29001\nbound 29001\nplan 1 1 1\nwindows 0\nend\n", 1, "no P4 score 29000\n", ""),
-    (CHECK, "abrlab prices 1\nsegments 3\nrungs 2\nscore 29000\nbound 29000\nplan 1 1 1\nwindows 0\n", 3, "", "abrlab: certificate file: bad-line at line row 8 column 0\n"),
-    (CHECK, "abrlab certificate 1\n", 3, "", "abrlab: certificate file: bad-line at line row 1 column 0\n"),
-    (MISFIT, "abrlab prices 2\n", 3, "", "abrlab: certificate file: bad-line at line row 1 column 0\n"),
-    (MISFIT, "abrlab prices 1\nsegments 3\nrungs 2\nscore 29000\nbound 29000\nplan 1 1 1\nwindows 0\nend\n", 3, "", "abrlab: settings: utilities\n"),
+static CHECKS: [Case; 12] = [
+    Case { name: "near yes", words: CHECK, file: ("c", "abrlab prices 1\nsegments 3\nrungs 2\nscore 29000\nbound 29000\nplan 1 1 1\nwindows 0\nend\n"), files: &STEADY, status: 0, out: Is("yes score 29000 bound 29000\n"), err: "" },
+    Case { name: "near a bound above that of its windows", words: CHECK, file: ("c", "abrlab prices 1\nsegments 3\nrungs 2\nscore 29000\nbound 30000\nplan 1 1 1\nwindows 0\nend\n"), files: &STEADY, status: 0, out: Is("yes score 29000 bound 30000\n"), err: "" },
+    Case { name: "near P1", words: CHECK, file: ("c", "abrlab prices 1\nsegments 4\nrungs 2\nscore 29000\nbound 29000\nplan 1 1 1 1\nwindows 0\nend\n"), files: &STEADY, status: 1, out: Is("no P1\n"), err: "" },
+    Case { name: "near P2 of a rung", words: CHECK, file: ("c", "abrlab prices 1\nsegments 3\nrungs 2\nscore 1\nbound 1\nplan 1 2 1\nwindows 1\n0 1 5\nend\n"), files: &STEADY, status: 1, out: Is("no P2 segment 1\n"), err: "" },
+    Case { name: "near P2 of a window", words: CHECK, file: ("c", "abrlab prices 1\nsegments 3\nrungs 2\nscore 1\nbound 1\nplan 1 1 1\nwindows 1\n0 1 5\nend\n"), files: &STEADY, status: 1, out: Is("no P2 window 0\n"), err: "" },
+    Case { name: "near P2 of the order", words: CHECK, file: ("c", "abrlab prices 1\nsegments 3\nrungs 2\nscore 1\nbound 1\nplan 1 1 1\nwindows 2\n1 1 5\n1 1 5\nend\n"), files: &STEADY, status: 1, out: Is("no P2 window 1\n"), err: "" },
+    Case { name: "near P3", words: CHECK, file: ("c", "abrlab prices 1\nsegments 3\nrungs 2\nscore 1\nbound 28999\nplan 1 1 1\nwindows 0\nend\n"), files: &STEADY, status: 1, out: Is("no P3 bound 29000\n"), err: "" },
+    Case { name: "near P4", words: CHECK, file: ("c", "abrlab prices 1\nsegments 3\nrungs 2\nscore 29001\nbound 29001\nplan 1 1 1\nwindows 0\nend\n"), files: &STEADY, status: 1, out: Is("no P4 score 29000\n"), err: "" },
+    Case { name: "near cut", words: CHECK, file: ("c", "abrlab prices 1\nsegments 3\nrungs 2\nscore 29000\nbound 29000\nplan 1 1 1\nwindows 0\n"), files: &STEADY, status: 3, out: Is(""), err: "abrlab: certificate file: bad-line at line row 8 column 0\n" },
+    Case { name: "near by labels", words: CHECK, file: ("c", "abrlab certificate 1\n"), files: &STEADY, status: 3, out: Is(""), err: "abrlab: certificate file: bad-line at line row 1 column 0\n" },
+    Case { name: "near a bad line before a setting", words: MISFIT, file: ("c", "abrlab prices 2\n"), files: &STEADY, status: 3, out: Is(""), err: "abrlab: certificate file: bad-line at line row 1 column 0\n" },
+    Case { name: "near a setting", words: MISFIT, file: ("c", "abrlab prices 1\nsegments 3\nrungs 2\nscore 29000\nbound 29000\nplan 1 1 1\nwindows 0\nend\n"), files: &STEADY, status: 3, out: Is(""), err: "abrlab: settings: utilities\n" },
 ];
 
 #[test]
 fn checks(rt: HostRuntime) -> Result<(), Fail> {
-    for (words, certificate, status, out, err) in &CHECKS {
-        let case = Case {
-            name: certificate,
-            words,
-            file: ("c", certificate),
-            files: &STEADY,
-            status: *status,
-            out: Is(out),
-            err,
-        };
-        assert_answer(&rt, rt.alloc(), &case)?;
+    for case in &CHECKS {
+        assert_answer(&rt, rt.alloc(), case)?;
     }
     Ok(())
 }
