@@ -34,7 +34,7 @@ fn worth_with_stalls(
 }
 
 /// Prices at a cap.
-fn capped(alloc: Global, prices: &[u64], cap: u64) -> Result<Vec<u64>, AllocError>
+fn prices_under(alloc: Global, prices: &[u64], cap: u64) -> Result<Vec<u64>, AllocError>
     ensures { IfOk result (λ v. length v.items ≡ length prices.now) }
 {
     let mut capped = Vec::new(alloc);
@@ -68,7 +68,7 @@ fn best_cap(
     let mut cap = from;
     while cap > 0 {
         let lower = cap - 1 - (cap - 1) / parts;
-        let prices = capped(alloc, &priced.prices, lower)?;
+        let prices = prices_under(alloc, &priced.prices, lower)?;
         let worth = worth_with_stalls(alloc, scene, &priced.delays, &prices)?;
         if worth > best {
             return Ok(cap);
@@ -88,7 +88,7 @@ fn with_cap(alloc: Global, scene: &Scene<'_>, priced: Priced) -> Result<Priced, 
     let about = best_cap(alloc, scene, &priced, most, COARSE_PARTS)?;
     let from = about.saturating_mul(2).min(most);
     let cap = best_cap(alloc, scene, &priced, from, FINE_PARTS)?;
-    let prices = capped(alloc, &priced.prices, cap)?;
+    let prices = prices_under(alloc, &priced.prices, cap)?;
     let worth = worth_with_stalls(alloc, scene, &priced.delays, &prices)?;
     let mut found = priced;
     found.prices = prices;

@@ -74,7 +74,7 @@ fn squares(directions: &[i128]) -> i128 {
 }
 
 /// A price that is lowered by an amount, within the limits.
-fn lowered(price: u64, by: i128) -> u64 {
+fn price_less(price: u64, by: i128) -> u64 {
     let price = (price as i128).saturating_sub(by);
     price.max(0).min(MOST_PRICE as i128) as u64
 }
@@ -87,7 +87,7 @@ fn lower(windows: &mut [Window], directions: &[i128], excess: i128)
     let steepness = squares(directions).max(1);
     for place in 0..windows.len() {
         let by = excess.saturating_mul(directions[place]) / steepness;
-        windows[place].price = lowered(windows[place].price, by);
+        windows[place].price = price_less(windows[place].price, by);
     }
 }
 

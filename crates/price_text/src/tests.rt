@@ -166,7 +166,7 @@ fn each_prefix(rt: HostRuntime) -> Result<(), Fail> {
 }
 
 /// What the certificate of a text is written as.
-fn rewritten(alloc: Global, text: &str) -> Result<SureSink, Fail> {
+fn text_after_reading(alloc: Global, text: &str) -> Result<SureSink, Fail> {
     let certificate = read_prices(alloc, text.as_bytes())?;
     let mut out = SureSink::new(alloc);
     write_prices(&certificate, &mut out)?;
@@ -177,12 +177,12 @@ fn rewritten(alloc: Global, text: &str) -> Result<SureSink, Fail> {
 fn what_is_read_is_written_again(rt: HostRuntime) -> Result<(), Fail> {
     let alloc = rt.alloc();
     for text in OTHERS {
-        let again = rewritten(alloc, text)?;
+        let again = text_after_reading(alloc, text)?;
         assert_eq!(rt; again.written(), text.as_bytes());
     }
     for (row, line) in GOOD_LINES {
         let text = with_line(alloc, row, line)?;
-        let again = rewritten(alloc, text.as_str())?;
+        let again = text_after_reading(alloc, text.as_str())?;
         assert_eq!(rt; again.written(), text.as_bytes());
     }
     Ok(())
