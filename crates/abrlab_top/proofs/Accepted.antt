@@ -23,7 +23,7 @@ use Rattle.player_core.specs.Scene.{IsTask, Task, task_of}
 use Rattle.labels.specs.declared.label.Grid.{Grid}
 use Rattle.labels.specs.Grid.{IsGrid}
 use Rattle.certificate_text.specs.Form.{GapParts, IsGapCertificate}
-use Rattle.labels.specs.declared.verdict.Verdict.TheVariants.{Yes}
+use Rattle.certificate_check.specs.declared.verdict.Verdict.TheVariants.{Yes}
 use Rattle.certificate_check.specs.Verdict.{verdict_of}
 use Rattle.abrlab_top.specs.declared.ending.Ending.{Ending}
 use Rattle.abrlab_top.specs.Accepts.{ChecksText, PlansCertificate, ReadAlike, RunsAreAccepted, without_certificate}

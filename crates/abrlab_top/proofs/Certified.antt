@@ -17,7 +17,7 @@ use Rattle.labels.proofs.Rounds.{exact_fits}
 use Rattle.labels.proofs.Same.{before_same, bound_same, certificate_same}
 use Rattle.labels.proofs.HasForm.{bound_short, certificate_form}
 use Rattle.labels.proofs.Sound.{exact_agrees, plan_accepted, plan_settles}
-use Rattle.labels.specs.declared.verdict.Verdict.TheVariants.{Yes}
+use Rattle.certificate_check.specs.declared.verdict.Verdict.TheVariants.{Yes}
 use Rattle.certificate_text.specs.Form.{IsGapCertificate}
 use Rattle.certificate_check.specs.Verdict.{verdict_of}
 use Rattle.certificate_check.proofs.Verdicts.{valid_yes}

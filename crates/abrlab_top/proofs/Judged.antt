@@ -19,8 +19,8 @@ use Rattle.lab_inputs.specs.Inputs.{InputValues}
 use Rattle.lab_inputs.specs.Settings.{misfit, settled}
 use Rattle.player_core.specs.Scene.{Task}
 use Rattle.labels.specs.Parts.{CertificateParts}
-use Rattle.labels.specs.declared.verdict.Verdict.{Verdict}
-use Rattle.labels.specs.declared.verdict.Verdict.TheVariants.{Yes, No}
+use Rattle.certificate_check.specs.declared.verdict.Verdict.{Verdict}
+use Rattle.certificate_check.specs.declared.verdict.Verdict.TheVariants.{Yes, No}
 use Rattle.certificate_text.specs.Form.{GapParts}
 use Rattle.certificate_text.specs.Reading.{certificate_of, gap_of, head_at}
 use Rattle.certificate_text.specs.Walk.{Walk, accepted, begun, begun_gap, certificate_by, first_walk, gap_accepted, rest_of}

@@ -9,7 +9,7 @@ use Rattle.lab_inputs.specs.Files.{Files}
 use Rattle.lab_inputs.specs.Inputs.{InputValues, inputs_of}
 use Rattle.lab_inputs.specs.Stages.{Tells}
 use Rattle.labels.specs.declared.label.Grid.{Grid}
-use Rattle.labels.specs.declared.verdict.Verdict.TheVariants.{Yes}
+use Rattle.certificate_check.specs.declared.verdict.Verdict.TheVariants.{Yes}
 use Rattle.certificate_text.specs.Form.{GapParts, IsGapCertificate}
 use Rattle.price_bounds.specs.Verdict.{PriceParts}
 use Rattle.price_bounds.specs.declared.verdict.PriceVerdict.TheVariants as said

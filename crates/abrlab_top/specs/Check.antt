@@ -11,8 +11,8 @@ use Rattle.lab_model.specs.Steps.{◌>>=◌}
 use Rattle.lab_inputs.specs.Files.{at_role, read_as}
 use Rattle.lab_inputs.specs.Inputs.{InputValues}
 use Rattle.lab_inputs.specs.Settings.{settled}
-use Rattle.labels.specs.declared.verdict.Verdict.{Verdict}
-use Rattle.labels.specs.declared.verdict.Verdict.TheVariants.{Yes, No}
+use Rattle.certificate_check.specs.declared.verdict.Verdict.{Verdict}
+use Rattle.certificate_check.specs.declared.verdict.Verdict.TheVariants.{Yes, No}
 use Rattle.certificate_text.specs.Form.{GapParts}
 use Rattle.certificate_check.specs.Verdict.{verdict_of}
 use Rattle.abrlab_top.specs.declared.ending.Ending.{Ending}

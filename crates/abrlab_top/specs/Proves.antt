@@ -21,7 +21,7 @@ use Rattle.player_core.specs.Scene.{Task, task_of}
 use Rattle.labels.specs.declared.label.Grid.{Grid}
 use Rattle.labels.specs.Parts.{CertificateParts}
 use Rattle.labels.specs.Valid.{IsValid}
-use Rattle.labels.specs.declared.verdict.Verdict.TheVariants.{Yes}
+use Rattle.certificate_check.specs.declared.verdict.Verdict.TheVariants.{Yes}
 use Rattle.certificate_text.specs.Form.{GapParts, IsGapCertificate}
 use Rattle.price_bounds.specs.Verdict.{PriceParts}
 use Rattle.price_bounds.specs.declared.verdict.PriceVerdict.TheVariants as said

@@ -15,8 +15,8 @@ use Rattle.labels.specs.Parts.{CertificateParts, ChainParts, chain_parts}
 use Rattle.labels.specs.Best.{Settles}
 use Rattle.labels.specs.Valid.{IsValid, no_chain}
 use Rattle.certificate_text.specs.declared.certificate.Layer.{Layer}
-use Rattle.labels.specs.declared.verdict.Verdict.{Verdict}
-use Rattle.labels.specs.declared.verdict.Verdict.TheVariants.{Yes}
+use Rattle.certificate_check.specs.declared.verdict.Verdict.{Verdict}
+use Rattle.certificate_check.specs.declared.verdict.Verdict.TheVariants.{Yes}
 use Rattle.labels.specs.Form.{AreChains, IsChain, IsHead, label_count, names_per}
 use Rattle.certificate_text.specs.Form.{GapParts}
 use Rattle.certificate_text.specs.Reading.{Place}

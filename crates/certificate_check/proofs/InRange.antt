@@ -8,7 +8,7 @@ use Rattle.lab_model.specs.declared.label.Label.{Label}
 use Rattle.labels.specs.Near.{CanFollow, farthest_ms}
 use Rattle.labels.specs.Parts.{ChainParts}
 use Rattle.labels.specs.Read.{no_label}
-use Rattle.labels.specs.declared.verdict.Verdict.TheVariants.{Yes}
+use Rattle.certificate_check.specs.declared.verdict.Verdict.TheVariants.{Yes}
 use Rattle.labels.specs.Form.{HasSignedDigits, IsChain}
 use Rattle.certificate_check.specs.Scheme.{tested}
 use Rattle.certificate_check.specs.Clauses.{Layer, count_of, is_near, label_of, name_of, name_ranges, range_verdict, starts_verdict}

@@ -7,8 +7,8 @@ use Rattle.player_core.specs.Scene.{Task}
 use Rattle.labels.specs.Labels.{dominates, next_label, start_label}
 use Rattle.labels.specs.Parts.{CertificateParts}
 use Rattle.labels.specs.Valid.{chain_in}
-use Rattle.labels.specs.declared.verdict.Verdict.{Verdict}
-use Rattle.labels.specs.declared.verdict.Verdict.TheVariants.{Yes}
+use Rattle.certificate_check.specs.declared.verdict.Verdict.{Verdict}
+use Rattle.certificate_check.specs.declared.verdict.Verdict.TheVariants.{Yes}
 use Rattle.labels.specs.Form.{names_per}
 use Rattle.certificate_check.specs.declared.checker.Found.{Found}
 use Rattle.certificate_check.specs.Scheme.{both, first_no, tested}

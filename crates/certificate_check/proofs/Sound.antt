@@ -5,7 +5,7 @@ use Rattle.labels.specs.Best.{Settles}
 use Rattle.labels.specs.Form.{IsCertificate}
 use Rattle.labels.specs.Parts.{CertificateParts}
 use Rattle.labels.specs.Valid.{IsValid}
-use Rattle.labels.specs.declared.verdict.Verdict.TheVariants.{Yes}
+use Rattle.certificate_check.specs.declared.verdict.Verdict.TheVariants.{Yes}
 use Rattle.labels.proofs.Sound.{sound}
 use Rattle.certificate_check.specs.Verdict.{verdict_of}
 use Rattle.certificate_check.proofs.Verdicts.{valid_yes, yes_valid}

@@ -14,8 +14,8 @@ use Rattle.labels.specs.Parts.{CertificateParts}
 use Rattle.labels.specs.Read.{has_table, list_value}
 use Rattle.labels.specs.Valid.{CountsMatch, EndsBelow, InRange, IsPlace, IsValid, NamesHold, ScoreHolds, StartsHold, chain_in, count_in, label_in, start_in}
 use Rattle.labels.proofs.Kept.{dominates_from, dominates_true}
-use Rattle.labels.specs.declared.verdict.Verdict.{Verdict}
-use Rattle.labels.specs.declared.verdict.Verdict.TheVariants.{Yes}
+use Rattle.certificate_check.specs.declared.verdict.Verdict.{Verdict}
+use Rattle.certificate_check.specs.declared.verdict.Verdict.TheVariants.{Yes}
 use Rattle.labels.specs.Form.{names_per}
 use Rattle.certificate_check.specs.Scheme.{first_no, tested}
 use Rattle.certificate_check.specs.Clauses.{Layer, count_of, counts_verdict, end_verdict, ends_verdict, is_near, name_of, name_verdict, over_labels, plan_verdict, range_verdict, score_verdict, starts_held, starts_verdict}

@@ -10,7 +10,7 @@ use Rattle.labels.specs.Near.{farthest_ms}
 use Rattle.labels.specs.Parts.{ChainParts, chain_parts}
 use Rattle.labels.specs.Read.{has_table, list_value, no_label}
 use Rattle.labels.specs.Valid.{no_chain}
-use Rattle.labels.specs.declared.verdict.Verdict.{Verdict}
+use Rattle.certificate_check.specs.declared.verdict.Verdict.{Verdict}
 use Rattle.certificate_check.specs.Scheme.{both, first_no, tested}
 
 -- the chains of a segment, by rung

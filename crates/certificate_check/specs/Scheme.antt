@@ -1,7 +1,7 @@
 -- The one scheme by which a clause is tested at all its places: the first No is the answer.
 use Rattle.std.specs.Prelude.{ℕ, zero, suc, Bool, true, false, Result, Ok, Err, if◌then◌else◌}
-use Rattle.labels.specs.declared.verdict.Verdict.{Verdict}
-use Rattle.labels.specs.declared.verdict.Verdict.TheVariants.{Yes, No}
+use Rattle.certificate_check.specs.declared.verdict.Verdict.{Verdict}
+use Rattle.certificate_check.specs.declared.verdict.Verdict.TheVariants.{Yes, No}
 use Rattle.certificate_check.specs.declared.ranges.Failure.{Failure}
 
 -- the verdict that tests of the code come to

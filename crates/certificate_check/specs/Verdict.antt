@@ -5,8 +5,8 @@ use Rattle.lab_model.specs.declared.fault.Refusal.{Refusal}
 use Rattle.player_core.specs.Scene.{Task}
 use Rattle.labels.specs.Parts.{CertificateParts}
 use Rattle.labels.specs.Valid.{IsValid, chain_in}
-use Rattle.labels.specs.declared.verdict.Verdict.{Verdict}
-use Rattle.labels.specs.declared.verdict.Verdict.TheVariants.{Yes}
+use Rattle.certificate_check.specs.declared.verdict.Verdict.{Verdict}
+use Rattle.certificate_check.specs.declared.verdict.Verdict.TheVariants.{Yes}
 use Rattle.labels.specs.Form.{names_per}
 use Rattle.certificate_text.specs.Form.{GapParts}
 use Rattle.certificate_text.specs.Reading.{certificate_of, gap_of}

@@ -7,14 +7,14 @@ ghost use Rattle.player_core.specs.Available.{all_ahead};
 ghost use Rattle.player_core.specs.Scene.{task_of};
 ghost use Rattle.labels.specs.Best.{Settles};
 ghost use Rattle.labels.specs.Parts.{chain_parts};
-ghost use Rattle.labels.specs.declared.verdict.Verdict.TheVariants.{Yes};
+ghost use Rattle.certificate_check.specs.declared.verdict.Verdict.TheVariants.{Yes};
 ghost use Rattle.certificate_text.specs.Walk.{IsBegun, begun, begun_gap, certificate_by, layer_of};
 ghost use Rattle.certificate_check.specs.Verdict.{SaysGapValid, SaysValid, bounded_verdict, gap_verdict, lines_verdict, verdict_on};
 
 use crate::checker::Checker;
+use crate::verdict::Verdict;
 use certificate_text::{Layer, Lines};
 use lab_model::{InputFault, Manifest, Setup};
-use labels::Verdict;
 use network_clock::Clock;
 use player_core::limits::ALL_AHEAD_MS;
 

@@ -8,7 +8,7 @@ ghost use Rattle.player_core.specs.Scene.{IsTask, Task, task_of};
 ghost use Rattle.labels.specs.Near.{CanFollow};
 ghost use Rattle.labels.specs.Parts.{chain_parts};
 ghost use Rattle.labels.specs.Read.{list_value};
-ghost use Rattle.labels.specs.declared.verdict.Verdict.TheVariants.{Yes};
+ghost use Rattle.certificate_check.specs.declared.verdict.Verdict.TheVariants.{Yes};
 ghost use Rattle.certificate_check.specs.Scheme.{both, first_no, verdict_by};
 ghost use Rattle.certificate_check.specs.Clauses.{counts_verdict, end_verdict, ends_verdict, chains_by_rung, name_verdict, names_verdict, plan_verdict, range_verdict, ranges_verdict, score_verdict, starts_held, starts_verdict};
 ghost use Rattle.certificate_check.specs.Layers.{AreBoth, CanName, IsLayer, MayEnd};
@@ -17,8 +17,9 @@ use crate::ranges::{
     Outcome, both, count_of, label_of, name_of, plan_verdict, ranges_verdict, starts_verdict, test,
     verdict_by,
 };
+use crate::verdict::Verdict;
 use lab_model::{Label, Manifest, Setup};
-use labels::{Chain, Verdict, dominates, end_value, next_on, start_on};
+use labels::{Chain, dominates, end_value, next_on, start_on};
 use network_clock::Clock;
 use player_core::Scene;
 use std::marker::Model;

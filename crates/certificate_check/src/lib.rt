@@ -4,8 +4,9 @@
 mod by_layer;
 mod checker;
 mod ranges;
+mod verdict;
 mod whole;
 
 pub use by_layer::{check_lines, check_lines_from};
-pub use labels::Verdict;
+pub use verdict::Verdict;
 pub use whole::{check, check_bound, check_from};

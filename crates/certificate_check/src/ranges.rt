@@ -6,8 +6,9 @@ ghost use Rattle.certificate_check.specs.Scheme.{both, first_no, tested, verdict
 ghost use Rattle.certificate_check.specs.Clauses.{count_of, is_near, label_of, chains_by_rung, name_of, name_ranges, plan_verdict, range_verdict, ranges_verdict, starts_verdict};
 ghost use Rattle.certificate_check.specs.Layers.{IsLayer};
 
+use crate::verdict::Verdict;
 use lab_model::Label;
-use labels::{Chain, Verdict};
+use labels::Chain;
 
 /// The greatest time of a label, in milliseconds.
 const FARTHEST_MS: u64 = 1_000_000_000_000_000;

@@ -6,16 +6,17 @@ ghost use Rattle.player_core.specs.Available.{all_ahead};
 ghost use Rattle.player_core.specs.Scene.{task_of};
 ghost use Rattle.labels.specs.Best.{Settles};
 ghost use Rattle.labels.specs.Valid.{IsValid};
-ghost use Rattle.labels.specs.declared.verdict.Verdict.TheVariants.{Yes};
+ghost use Rattle.certificate_check.specs.declared.verdict.Verdict.TheVariants.{Yes};
 ghost use Rattle.labels.specs.Form.{IsCertificate, names_per};
 ghost use Rattle.certificate_text.specs.Form.{certificate_parts};
 ghost use Rattle.certificate_check.specs.Layers.{IsLayer, IsLayerOf};
 ghost use Rattle.certificate_check.specs.Verdict.{verdict_of};
 
 use crate::checker::Checker;
+use crate::verdict::Verdict;
 use certificate_text::Certificate;
 use lab_model::{Manifest, Setup};
-use labels::{Chain, Verdict};
+use labels::Chain;
 use network_clock::Clock;
 use player_core::limits::ALL_AHEAD_MS;
 

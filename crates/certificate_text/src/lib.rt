@@ -36,6 +36,5 @@ pub use fields::{bad_line, known_at, number_at, push, within_at, word_at};
 pub use head::{
     MOST_RUNGS, MOST_SEGMENTS, RUNG_DIGITS, amount_at, count_at, list_at, small_numbers,
 };
-pub use labels::Verdict;
 pub use lines::{Lines, one_gap_spelling, one_spelling, read_certificate, read_gap};
 pub use writer::{put_bound, put_count, put_gap, put_plan, put_score, write_certificate};

@@ -6,7 +6,6 @@ mod label;
 mod laws;
 mod plans;
 mod values;
-mod verdict;
 
 pub use label::{
     Grid, dominates, end_value, next_from, next_label, next_on, request_on, round_label,
@@ -18,4 +17,3 @@ pub use laws::{
 };
 pub use plans::{Chain, Plan};
 pub use values::labels_are_values;
-pub use verdict::Verdict;

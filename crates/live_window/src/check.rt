@@ -6,7 +6,7 @@ ghost use Rattle.player_core.specs.Scene.{task_of};
 ghost use Rattle.labels.specs.Best.{Settles};
 ghost use Rattle.labels.specs.Form.{IsCertificate};
 ghost use Rattle.labels.specs.Valid.{IsValid};
-ghost use Rattle.labels.specs.declared.verdict.Verdict.TheVariants.{Yes};
+ghost use Rattle.certificate_check.specs.declared.verdict.Verdict.TheVariants.{Yes};
 ghost use Rattle.certificate_text.specs.Form.{certificate_parts};
 ghost use Rattle.certificate_check.specs.Verdict.{verdict_of};
 

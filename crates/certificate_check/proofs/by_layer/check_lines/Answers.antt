@@ -7,7 +7,7 @@ use Rattle.lab_model.specs.Reading.{Gives}
 use Rattle.player_core.specs.Available.{all_ahead}
 use Rattle.player_core.specs.Scene.{task_of}
 use Rattle.labels.specs.Best.{Settles}
-use Rattle.labels.specs.declared.verdict.Verdict.TheVariants.{Yes}
+use Rattle.certificate_check.specs.declared.verdict.Verdict.TheVariants.{Yes}
 use Rattle.certificate_check.specs.Verdict.{SaysValid, bounded_verdict}
 use Rattle.certificate_check.proofs.ByLayer.{own_verdict}
 use Rattle.certificate_check.proofs.by_layer.check_lines.Goals as goal

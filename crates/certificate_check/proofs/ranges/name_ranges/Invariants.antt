@@ -1,6 +1,6 @@
 use Rattle.std.proofs.Common.{◌≡◌, length, nat_lt}
 use Rattle.labels.specs.Parts.{chain_parts}
-use Rattle.labels.specs.declared.verdict.Verdict.TheVariants.{Yes}
+use Rattle.certificate_check.specs.declared.verdict.Verdict.TheVariants.{Yes}
 use Rattle.certificate_check.specs.Scheme.{first_no, tested}
 use Rattle.certificate_check.specs.Clauses.{count_of, chains_by_rung, name_of}
 use Rattle.certificate_check.proofs.ranges.name_ranges.Given as goal

@@ -1,6 +1,6 @@
 use Rattle.std.proofs.Common.{◌≡◌}
 use Rattle.labels.specs.Parts.{chain_parts}
-use Rattle.labels.specs.declared.verdict.Verdict.TheVariants.{Yes}
+use Rattle.certificate_check.specs.declared.verdict.Verdict.TheVariants.{Yes}
 use Rattle.certificate_check.specs.Scheme.{first_no}
 use Rattle.certificate_check.specs.Clauses.{end_verdict}
 use Rattle.certificate_check.proofs.checker.Checker.ends_of_chain.Given as goal

@@ -1,6 +1,6 @@
 use Rattle.std.proofs.Common.{◌∙◌, sym, ap, ◌≡◌, subst, length, [], to_z, of_z}
 use Rattle.std.specs.Int.{w128}
-use Rattle.labels.specs.declared.verdict.Verdict.TheVariants.{Yes}
+use Rattle.certificate_check.specs.declared.verdict.Verdict.TheVariants.{Yes}
 use Rattle.certificate_check.specs.Scheme.{first_no}
 use Rattle.certificate_check.specs.Clauses.{count_of, end_verdict, chains_by_rung, range_verdict, ends_verdict}
 use Rattle.std.proofs.lemmas.Int.{to_z-of_z}

@@ -1,7 +1,7 @@
 use Rattle.std.proofs.Common.{◌≡◌, length, ◌+◌}
 use Rattle.labels.specs.Parts.{chain_parts}
 use Rattle.labels.specs.Labels.{dominates, next_label}
-use Rattle.labels.specs.declared.verdict.Verdict.TheVariants.{Yes}
+use Rattle.certificate_check.specs.declared.verdict.Verdict.TheVariants.{Yes}
 use Rattle.certificate_check.specs.Scheme.{first_no, tested}
 use Rattle.certificate_check.specs.Clauses.{label_of, chains_by_rung, name_of}
 use Rattle.certificate_check.proofs.checker.Checker.name_verdict.Given as goal

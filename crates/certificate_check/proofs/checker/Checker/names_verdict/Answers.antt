@@ -1,5 +1,5 @@
 use Rattle.std.proofs.Common.{◌∙◌, sym, ap, ◌≡◌, length, subst, arith}
-use Rattle.labels.specs.declared.verdict.Verdict.TheVariants.{Yes}
+use Rattle.certificate_check.specs.declared.verdict.Verdict.TheVariants.{Yes}
 use Rattle.certificate_check.specs.Scheme.{first_no}
 use Rattle.certificate_check.specs.Clauses.{count_of, chains_by_rung, name_verdict, range_verdict}
 use Rattle.certificate_check.proofs.Layers.{chain_read, few_read, layer_read}

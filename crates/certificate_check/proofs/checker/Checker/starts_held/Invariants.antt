@@ -1,6 +1,6 @@
 use Rattle.std.proofs.Common.{◌≡◌, slice_index}
 use Rattle.labels.specs.Labels.{dominates, start_label}
-use Rattle.labels.specs.declared.verdict.Verdict.TheVariants.{Yes}
+use Rattle.certificate_check.specs.declared.verdict.Verdict.TheVariants.{Yes}
 use Rattle.certificate_check.specs.Scheme.{first_no, tested}
 use Rattle.certificate_check.specs.Clauses.{label_of, chains_by_rung}
 use Rattle.certificate_check.proofs.checker.Checker.starts_held.Given as goal
