@@ -1,12 +1,13 @@
 -- Not part of the model: what the proofs keep.
 -- Quiet stretches: milliseconds in which nothing begins and nothing happens, and what so many of them make of the player at once.
-use Rattle.std.specs.Prelude.{◌≡◌, ℕ, ◌+◌, ◌-◌, ◌%◌, ◌≤◌, ◌<◌, ◌==◌, ◌&&◌, ◌⊎◌, Bool, true, false, not, nat_le, nat_lt, Some, None, IfSome, option_map, if◌then◌else◌}
-use Rattle.lab_model.specs.Film.{segments_of}
-use Rattle.network_clock.specs.Network.{done_on, first_on, job_on}
+use Rattle.std.specs.Prelude.{◌≡◌, ℕ, ◌+◌, ◌-◌, ◌*◌, ◌%◌, ◌≤◌, ◌<◌, ◌==◌, ◌&&◌, ◌⊎◌, Bool, true, false, not, nat_le, nat_lt, Some, None, IfSome, option_map, if◌then◌else◌}
+use Rattle.lab_model.specs.Film.{Film, bitrate_of, segments_of}
+use Rattle.network_clock.specs.Network.{done_on, first_on, job_on, start_job}
+use Rattle.abandonment.specs.Test.{abandonment}
 use Rattle.player_core.specs.Limits.{judged_each, judged_from}
 use Rattle.player_core.specs.Available.{available_at}
 use Rattle.player_core.specs.State.{Case, Download, Mode, Player, starting, playing, seeking, ended}
-use Rattle.player_core.specs.Parts.{is_playing, seek_at}
+use Rattle.player_core.specs.Parts.{is_playing, progress_of, seek_at}
 use Rattle.player_core.specs.Sound.{asked_size}
 
 -- whether the player waits for its first segment
@@ -66,4 +67,26 @@ pub record IsQuiet (c : Case) (q : Player) (ms : ℕ) : Type 0 where
   pub untouched : IsUntouched c q ms
   pub arrives : IfSome q.download (λ d. q.t + ms ≤ done_on c.network d.asked (asked_size c d))
   pub judges : c.setup.abandon ≡ true → IfSome q.download (λ d. (d.rung ≡ 0) ⊎ ((m : ℕ) → q.t < m → m < q.t + ms → is_due_ms (m - d.asked) ≡ false))
+  pub seeks : (m : ℕ) → q.t < m → m < q.t + ms → seek_at c.seeks m ≡ None
+
+-- a rate is enough for a rung: nine tenths of it are its bitrate or more
+abbrev pub IsEnough : Film → ℕ → ℕ → Type 0
+IsEnough f rung rate = 10000 * bitrate_of f rung ≤ 9 * rate
+
+-- what a download is at an instant, from its request on
+abbrev pub running_at : Case → ℕ → Download → Download
+running_at c t d = record d {
+  job = job_on c.network d.asked (t - d.asked) (start_job (asked_size c d));
+  first = if nat_lt (first_on c.network d.asked (asked_size c d)) t then Some (first_on c.network d.asked (asked_size c d)) else None;
+}
+
+-- a download is not given up at an instant
+abbrev pub IsKeptAt : Case → ℕ → Download → Type 0
+IsKeptAt c t d = abandonment c.film d.segment d.rung (progress_of c.film t (running_at c t d)) ≡ None
+
+-- the same of longer stretches: within them a download may be looked at for abandonment, but is kept
+pub record IsUneventful (c : Case) (q : Player) (ms : ℕ) : Type 0 where
+  pub untouched : IsUntouched c q ms
+  pub arrives : IfSome q.download (λ d. q.t + ms ≤ done_on c.network d.asked (asked_size c d))
+  pub keeps : c.setup.abandon ≡ true → IfSome q.download (λ d. (m : ℕ) → q.t < m → m < q.t + ms → IsKeptAt c m d)
   pub seeks : (m : ℕ) → q.t < m → m < q.t + ms → seek_at c.seeks m ≡ None

@@ -162,6 +162,7 @@ pub record CanRest (f : Film) (set : Setup) (ahead : ℕ) (b : Body) : Type 0 wh
   pub idles : CanIdle f set ahead b
   pub instant : b.t < latest_ms
   pub runs : IfSome b.download (λ r. (r.asked ≤ b.t) × (b.t < r.done) × (r.done ≤ r.asked + longest_elapsed))
+  pub range : IfSome b.download (IsRunningOf f)
 
 -- so many milliseconds of the mode can pass at once
 pub record CanMove (b : Body) (ms : ℕ) : Type 0 where

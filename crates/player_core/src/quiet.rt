@@ -1,13 +1,14 @@
 //! Stretches of milliseconds in which nothing happens: how long they are, and how they pass at once.
 
-ghost use Rattle.std.specs.Prelude.{◌≡◌, ℕ, ◌+◌, ◌-◌, ◌%◌, ◌<◌, ◌≤◌, ◌⊎◌, List, true, IfOk};
+ghost use Rattle.std.specs.Prelude.{◌≡◌, ℕ, ◌+◌, ◌-◌, ◌%◌, ◌<◌, ◌≤◌, ◌⊎◌, List, true, IfOk, IfSome};
 ghost use Rattle.lab_model.specs.Film.{Film, segments_of};
 ghost use Rattle.lab_model.specs.Rules.{RuleKind};
 ghost use Rattle.player_core.specs.Limits.{latest_ms, longest_film};
 ghost use Rattle.player_core.specs.Available.{available_at};
 ghost use Rattle.player_core.specs.Parts.{is_playing};
-ghost use Rattle.player_core.specs.Quiet.{IsQuiet, IsUntouched, glides, moves_in, takes_all};
+ghost use Rattle.player_core.specs.Quiet.{IsUneventful, IsUntouched, glides, moves_in, takes_all};
 ghost use Rattle.player_core.specs.Seen.{CanGlide, CanIdle, CanMove, CanRest, CanWait, Follows, FollowsOn, IsTimed, KnowsEnd, MustWait, MustWaitFor, SameDownload, WaitsOn, mode_of, seen};
+ghost use Rattle.player_core.specs.Sound.{IsCase, Runs};
 ghost use Rattle.player_core.specs.State.{Case};
 ghost use Rattle.player_core.specs.Course.{case_on};
 
@@ -72,18 +73,20 @@ impl Body {
         begin.min(self.request_in(course))
     }
 
-    /// The milliseconds, at least 1, for which nothing happens after an instant: no arrival, test for abandonment, seek or request, and
+    /// The milliseconds, at least 1, for which nothing happens after an instant: no arrival, abandonment, seek or request, and
     /// no beginning of a segment or of a stall after the first of them.
     fn quiet_ms(&self, course: &Course<'_>) -> u64
         requires { CanRest course.now.scene.now.film course.now.scene.now.setup course.now.scene.now.ahead self.now }
         ensures some { 1 ≤ result }
         ensures limit { result ≤ latest_ms }
         ensures quiet { KnowsEnd course.now self.now → (kind : RuleKind) (history : List ℕ)
-            → IsQuiet (case_on course.now kind) (seen self.now history) result }
+            → IsCase (case_on course.now kind)
+            → IfSome (seen self.now history).download (Runs (case_on course.now kind) self.now.t)
+            → IsUneventful (case_on course.now kind) (seen self.now history) result }
     {
         let own = self.untouched_ms(course).min(seek_in(course.seeks, self.t));
         match self.download {
-            Some(d) => own.min(d.quiet_ms(self.t, course.scene.setup())),
+            Some(d) => own.min(d.quiet_ms(course, self.t)),
             None => own,
         }
     }

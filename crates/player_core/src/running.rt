@@ -2,21 +2,23 @@
 
 ghost use Rattle.std.specs.Prelude.{◌≡◌, ℕ, ◌+◌, ◌-◌, ◌*◌, ◌<◌, ◌≤◌, ◌==◌, ◌⊎◌, true, false, Option, Some, None, IfSome, is_some, nat_lt, if◌then◌else◌};
 ghost use Rattle.lab_model.specs.Film.{rungs_of, segments_of, size_of};
+ghost use Rattle.lab_model.specs.Rates.{rate_of};
 ghost use Rattle.lab_model.specs.Rules.{RuleKind};
 ghost use Rattle.network_clock.specs.Network.{first_at, spends};
 ghost use Rattle.abandonment.specs.Test.{abandonment};
-ghost use Rattle.player_core.specs.Limits.{latest_answer, longest_elapsed, most_bits, most_bits_in_ms};
+ghost use Rattle.player_core.specs.Limits.{judged_from, latest_answer, longest_elapsed, most_bits, most_bits_in_ms};
 ghost use Rattle.player_core.specs.State.{Case};
 ghost use Rattle.player_core.specs.Course.{case_on};
 ghost use Rattle.player_core.specs.Parts.{bit_ms_of, got_of, progress_of, sample_of, takes_in};
-ghost use Rattle.player_core.specs.Quiet.{is_due_ms, taken_ms};
+ghost use Rattle.player_core.specs.Quiet.{IsEnough, IsKeptAt, is_due_ms, taken_ms};
 ghost use Rattle.player_core.specs.Ready.{CanJudge};
-ghost use Rattle.player_core.specs.Seen.{CanTake, SameRequest, download_of};
+ghost use Rattle.player_core.specs.Seen.{CanTake, IsRunningOf, SameRequest, download_of};
+ghost use Rattle.player_core.specs.Sound.{IsCase, Runs};
 
 use crate::course::Course;
 use crate::limits::{JUDGED_EACH_MS, JUDGED_FROM_MS};
 use abandonment::{Progress, abandon_to};
-use lab_model::{Manifest, Period, Sample, Setup};
+use lab_model::{Manifest, Period, Sample};
 use network_clock::Job;
 
 /// A running download: what was asked for and when, when its bits begin and when it is done, what is left of it, and the first instant
@@ -44,10 +46,21 @@ pub struct Running {
 fn due_in(elapsed: u64) -> u64
     requires { elapsed ≤ longest_elapsed }
     ensures some { 1 ≤ result }
+    ensures limit { result ≤ judged_from }
     ensures none_before { (m : ℕ) → elapsed < m → m < elapsed + result → is_due_ms m ≡ false }
 {
     let next = (elapsed / JUDGED_EACH_MS + 1) * JUDGED_EACH_MS;
     next.max(JUDGED_FROM_MS) - elapsed
+}
+
+/// The milliseconds within which so many bits come at a rate that is enough for a rung.
+fn enough_ms(m: &Manifest, rung: u8, got: u32) -> u64
+    requires rung { rung < rungs_of m.now }
+    ensures { (more ms : ℕ) → got ≤ more → 1 ≤ ms → ms ≤ result
+        → IsEnough m.now rung (rate_of more ms) }
+{
+    let needed = (10_000 * m.bitrate(rung) as u64).div_ceil(9);
+    1000 * got as u64 / needed
 }
 
 impl Running {
@@ -100,22 +113,40 @@ impl Running {
         abandon_to(m, self.segment, self.rung, &now)
     }
 
+    /// The milliseconds after an instant, before the arrival, in which the bits that have come are enough for the rung, if no more come.
+    fn kept_ms(&self, m: &Manifest, t: u64) -> u64
+        requires segment { self.now.segment < segments_of m.now }
+        requires rung { self.now.rung < rungs_of m.now }
+        requires running { t < self.now.done }
+        ensures limit { t + result ≤ self.now.done }
+        ensures keeps { (more ms : ℕ) → got_of m.now (download_of self.now) ≤ more → 1 ≤ ms
+            → ms ≤ bit_ms_of t (download_of self.now) + result → 1 ≤ result
+            → IsEnough m.now self.now.rung (rate_of more ms) }
+    {
+        let enough = enough_ms(m, self.rung, self.got(m));
+        enough.saturating_sub(self.bit_ms(t)).min(self.done - t)
+    }
+
     /// The milliseconds from an instant to the arrival, or to the next instant at which the download may be given up.
-    pub fn quiet_ms(&self, t: u64, set: &Setup) -> u64
+    pub fn quiet_ms(&self, course: &Course<'_>, t: u64) -> u64
+        requires range { IsRunningOf course.now.scene.now.film self.now }
         requires asked { self.now.asked ≤ t }
         requires running { t < self.now.done }
         requires short { self.now.done ≤ self.now.asked + longest_elapsed }
         ensures some { 1 ≤ result }
         ensures arrives { t + result ≤ self.now.done }
-        ensures judges { set.now.abandon ≡ true → (self.now.rung ≡ 0)
-            ⊎ ((m : ℕ) → t < m → m < t + result → is_due_ms (m - self.now.asked) ≡ false) }
+        ensures keeps { course.now.scene.now.setup.abandon ≡ true → (kind : RuleKind)
+            → IsCase (case_on course.now kind)
+            → Runs (case_on course.now kind) t (download_of self.now)
+            → (m : ℕ) → t < m → m < t + result
+            → IsKeptAt (case_on course.now kind) m (download_of self.now) }
     {
         let left = self.done - t;
-        if set.abandon && self.rung > 0 {
-            left.min(due_in(t - self.asked))
-        } else {
-            left
+        if !course.scene.setup().abandon || self.rung == 0 {
+            return left;
         }
+        let kept = self.kept_ms(course.scene.film(), t);
+        left.min(kept + due_in(t + kept - self.asked))
     }
 
     /// The first instant spent on bits, once the millisecond of this instant has passed.

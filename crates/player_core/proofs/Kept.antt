@@ -1,0 +1,113 @@
+-- Tests for abandonment that keep a download: where it is on the lowest rung or none is made, and where its rate is enough for its rung.
+use Rattle.std.proofs.Common.{◌≡◌, ◌∙◌, ℕ, zero, suc, ◌+◌, ◌-◌, ◌*◌, ◌/◌, ◌<◌, ◌≤◌, ◌⊎◌, inl, inr, ⊎_elim, Bool, true, false, ◌&&◌, cond, eqb, leb, ltb, Option, Some, None, IfSome, refl, sym, ap, ap₂, subst, add-one, lt-ltb, le-ltb, max, arith}
+use Rattle.std.specs.Option.{option_map_or}
+use Rattle.std.proofs.lemmas.Grind.{div_ceil_times}
+use Rattle.std.proofs.lemmas.Bool.{and_left, and_right, cond-true, cond-false, cases_Bool, cases_lt, false_from_ne_true, leb-true, le-leb, true≢false}
+use Rattle.lab_model.specs.Film.{Film, bitrate_of, rungs_of, size_of}
+use Rattle.lab_model.specs.Rates.{rate_of}
+use Rattle.lab_model.specs.Ladder.{greatest_rung}
+use Rattle.lab_model.proofs.Rungs.{greatest_more}
+use Rattle.network_clock.specs.declared.job.Job.{Job}
+use Rattle.network_clock.specs.Network.{first_on, job_on, start_job}
+use Rattle.network_clock.proofs.Laws.{job_apart, left_falls}
+use Rattle.abandonment.specs.declared.Progress.{Progress}
+use Rattle.abandonment.specs.Test.{abandonment, is_better, is_due, is_late, left_of, rate_now, target_of}
+use Rattle.player_core.specs.State.{Case, Download}
+use Rattle.player_core.specs.Parts.{bit_ms_of, got_of, progress_of}
+use Rattle.player_core.specs.Sound.{IsCase, Runs, asked_size}
+use Rattle.player_core.specs.Quiet.{IsEnough, IsKeptAt, is_due_ms, running_at}
+use Rattle.player_core.proofs.Runs.{bit_ms_is}
+
+-- a rung that passes is at most the greatest that does
+greatest_least : (passes : ℕ → Bool) (q count : ℕ) → passes q ≡ true → q < count → q ≤ greatest_rung passes count
+greatest_least passes q zero passed low = absurd (omega (arith, low))
+greatest_least passes q (suc n) passed low =
+    let more = ap (greatest_rung passes) (sym (add-one n)) ∙ greatest_more passes n in
+    ⊎_elim
+    (λ (last : passes n ≡ true). let here = cond-true (passes n) n (greatest_rung passes n) last in omega (arith, more, here, low))
+    (λ (not_last : passes n ≡ false).
+    let here = cond-false (passes n) n (greatest_rung passes n) not_last in
+    let other : q ≡ n → ⊥ = λ e. true≢false (sym passed ∙ ap passes e ∙ not_last) in
+    let before = greatest_least passes q n passed (omega (arith, low, other)) in
+    omega (arith, more, here, before))
+    (cases_Bool (passes n))
+
+module _ (f : Film) (segment rung : ℕ) (p : Progress) where
+  -- where no test is due, none gives the download up
+  not_due : is_due p ≡ false → abandonment f segment rung p ≡ None
+  not_due off =
+      cond-false ((is_due p && is_late f segment rung p) && is_better f segment rung p) (Some (target_of f p)) None
+      (and_left (is_due p && is_late f segment rung p) (is_better f segment rung p) (and_left (is_due p) (is_late f segment rung p) off))
+
+  -- nor where the target is no lower
+  not_lower : rung ≤ target_of f p → abandonment f segment rung p ≡ None
+  not_lower low =
+      cond-false ((is_due p && is_late f segment rung p) && is_better f segment rung p) (Some (target_of f p)) None
+      (and_right (is_due p && is_late f segment rung p) (is_better f segment rung p)
+      (and_left (ltb (target_of f p) rung) (ltb (size_of f segment (target_of f p)) (left_of f segment rung p)) (le-ltb (target_of f p) rung low)))
+
+  -- the lowest rung is kept
+  pub lowest_kept : rung ≡ 0 → abandonment f segment rung p ≡ None
+  lowest_kept lowest = not_lower (omega (arith, lowest))
+
+  -- a rate that is enough for the rung keeps it
+  pub enough_kept : rung < rungs_of f → IsEnough f rung (rate_now p) → abandonment f segment rung p ≡ None
+  enough_kept low enough = not_lower (greatest_least (λ q. leb (10000 * bitrate_of f q) (9 * rate_now p)) rung (rungs_of f) (le-leb _ _ enough) low)
+
+  -- a download that isn't looked at is kept
+  pub early_kept : is_due_ms p.elapsed_ms ≡ false → abandonment f segment rung p ≡ None
+  early_kept early = not_due (and_left (is_due_ms p.elapsed_ms) (leb 1 p.bit_ms) early)
+
+  -- nor one of which no millisecond was spent on bits
+  pub waiting_kept : p.bit_ms ≡ 0 → abandonment f segment rung p ≡ None
+  waiting_kept none = not_due (and_right (is_due_ms p.elapsed_ms) (leb 1 p.bit_ms) (ap (leb 1) none))
+
+-- a download that runs has no fewer bits later, and one millisecond on bits more for each at most
+module _ (c : Case) (is : IsCase c) (t m : ℕ) (d : Download) (runs : Runs c t d) (later : t ≤ m) where
+  left_later : (running_at c m d).job.left ≤ d.job.left
+  left_later =
+      let asked = runs.asked in
+      let bits = start_job (asked_size c d) in
+      let parts : m - d.asked ≡ (t - d.asked) + (m - t) = omega (arith, asked, later) in
+      let whole = ap (λ (j : Job). j.left) (ap (λ n. job_on c.network d.asked n bits) parts ∙ job_apart c.network d.asked (t - d.asked) (m - t) bits) in
+      let falls = left_falls c.network (d.asked + (t - d.asked)) (m - t) (job_on c.network d.asked (t - d.asked) bits) in
+      let here = ap (λ (j : Job). j.left) runs.job in
+      omega (arith, whole, falls, here)
+
+  -- it has no fewer bits
+  pub got_later : got_of c.film d ≤ got_of c.film (running_at c m d)
+  got_later = let left = left_later in grind (arith, div_ceil_times, left)
+
+  -- and at most so many more milliseconds from the first one spent on bits
+  pub bit_ms_later : bit_ms_of m (running_at c m d) ≤ bit_ms_of t d + (m - t)
+  bit_ms_later =
+      let first = first_on c.network d.asked (asked_size c d) in
+      let here = bit_ms_is c is t d runs in
+      ⊎_elim
+      (λ (past : first < m). let there = ap (λ o. option_map_or (λ f. m - f) o 0) (cond-true (ltb first m) (Some first) None (lt-ltb first m past)) in omega (arith, here, there))
+      (λ (ahead : m ≤ first). let there = ap (λ o. option_map_or (λ f. m - f) o 0) (cond-false (ltb first m) (Some first) None (le-ltb first m ahead)) in omega (arith, here, there))
+      (cases_lt first m)
+
+-- what a running download is at its instant is what it is from its request on
+pub running_is : (c : Case) (t : ℕ) (d : Download) → Runs c t d → d ≡ running_at c t d
+running_is c t d runs = ap₂ (λ j o. record d { job = j; first = o }) runs.job runs.first
+
+-- where the bits that have come are enough for so many milliseconds more, no test in them gives a download up, and where none is due later, none does later
+pub kept_until : (c : Case) → IsCase c → (t kept due : ℕ) (d : Download) → Runs c t d
+    → ((more ms : ℕ) → got_of c.film d ≤ more → 1 ≤ ms → ms ≤ bit_ms_of t d + kept → 1 ≤ kept → IsEnough c.film d.rung (rate_of more ms))
+    → ((n : ℕ) → (t + kept) - d.asked < n → n < ((t + kept) - d.asked) + due → is_due_ms n ≡ false)
+    → (m : ℕ) → t < m → m < t + (kept + due) → IsKeptAt c m d
+kept_until c is t kept due d runs enough early m after before =
+    let p = progress_of c.film m (running_at c m d) in
+    let asked = runs.asked in
+    ⊎_elim
+    (λ (late : t + kept < m). early_kept c.film d.segment d.rung p (early (m - d.asked) (omega (arith, late, asked)) (omega (arith, late, before, asked))))
+    (λ (soon : m ≤ t + kept).
+    ⊎_elim
+    (λ (some : 0 < p.bit_ms).
+    let got = got_later c is t m d runs (omega (arith, after)) in
+    let bits = bit_ms_later c is t m d runs (omega (arith, after)) in
+    enough_kept c.film d.segment d.rung p runs.rung (enough p.got p.bit_ms got (omega (arith, some)) (omega (arith, bits, soon, after)) (omega (arith, soon, after))))
+    (λ (none : p.bit_ms ≤ 0). waiting_kept c.film d.segment d.rung p (omega (arith, none)))
+    (cases_lt 0 p.bit_ms))
+    (cases_lt (t + kept) m)
