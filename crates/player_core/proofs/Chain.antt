@@ -1,5 +1,5 @@
 -- The parts of a turn, one after the other, with what is true after each.
-use Rattle.std.proofs.Common.{◌≡◌, ◌∙◌, ℕ, ◌+◌, ◌-◌, ◌<◌, ◌≤◌, List, [], length, true, false, refl, sym, ap, subst, ⊎_elim, add-one, below_more, arith}
+use Rattle.std.proofs.Common.{◌≡◌, ◌∙◌, ℕ, ◌+◌, ◌-◌, ◌<◌, ◌≤◌, List, [], IfSome, length, true, false, refl, sym, ap, subst, ⊎_elim, add-one, below_more, arith}
 use Rattle.std.proofs.lemmas.Bool.{cases_lt, true≢false}
 use Rattle.std.specs.List.{All}
 use Rattle.lab_model.specs.declared.trace.Period.{Period}
@@ -16,9 +16,9 @@ use Rattle.player_core.specs.declared.session.Session.{Session}
 use Rattle.player_core.specs.State.{Case, Player, case_of, first_player}
 use Rattle.player_core.specs.Parts.{abandon, gone_on, instant, is_ended, pass_ms, request, seek, seek_at, stopped}
 use Rattle.player_core.specs.Session.{Shown, end_of, ends_at, last_player, player_after, session_of, shown, shown_by}
-use Rattle.player_core.specs.Sound.{IsCase, Sound}
+use Rattle.player_core.specs.Sound.{IsCase, Runs, Sound}
 use Rattle.player_core.specs.Scene.{IsTask, Task, task_of}
-use Rattle.player_core.specs.Quiet.{IsQuiet, glides}
+use Rattle.player_core.specs.Quiet.{IsUneventful, glides}
 use Rattle.player_core.specs.Seen.{CanGlide, CanRest, Follows, GoesOn, IsTimed, LeftAt, StandsAt, StandsFor, Step, Waits, mode_of, seen}
 use Rattle.player_core.specs.Ready.{CanPass, CanRequest}
 use Rattle.network_clock.proofs.Flows.{trace_flows}
@@ -28,7 +28,7 @@ use Rattle.player_core.proofs.Ends.{end_early, end_is, last_t, sessions_end}
 use Rattle.player_core.proofs.Follow.{Now, any_history, body_instant, body_sound, glide_ready, now_step, pass_ready, rest_ready}
 use Rattle.player_core.proofs.Players.{abandon_t, gone_on_sound, gone_on_t, instant_ended, instant_goes, instant_sound, instant_t, pass_t, player_next, player_sound, seeks_t, sought_sound, stopped_sound, stopped_t}
 use Rattle.player_core.proofs.Soundness.{IsOpen, abandon_sound, pass_sound}
-use Rattle.player_core.proofs.Stretch.{next_ahead, pass_next, stretch}
+use Rattle.player_core.proofs.Stretch.{pass_next, rests_ahead, uneventful_stretch}
 use Rattle.player_core.proofs.Turned.{none_timed, pass_told, player_first, request_told, seek_told}
 use Rattle.player_core.proofs.Waits.{IsStill, instant_still}
 
@@ -289,9 +289,11 @@ module _ (c : Case) (is : IsCase c) (a : Body) (left : LeftAt c a) where
             told = ap (λ (p : Player). p.history) same ∙ pass_told c q;
           }
 
-      module _ (ms : ℕ) (few : ms ≤ latest_ms) (quiet : IsTimed c.film c.network a.download → (h : List ℕ) → IsQuiet c (seen a h) ms) where
-        left_quiet : IsQuiet c (instant c (player_after c a.t)) ms
-        left_quiet = subst (λ p. IsQuiet c p ms) left.stands (quiet left.timed (instant c (player_after c a.t)).history)
+      module _ (ms : ℕ) (few : ms ≤ latest_ms) (quiet : IsTimed c.film c.network a.download → (h : List ℕ) → IfSome (seen a h).download (Runs c a.t) → IsUneventful c (seen a h) ms) where
+        left_quiet : IsUneventful c (instant c (player_after c a.t)) ms
+        left_quiet =
+            let q = instant c (player_after c a.t) in
+            subst (λ p. IsUneventful c p ms) left.stands (quiet left.timed q.history (body_sound c a.t (a.t + 1) q a at_left).running)
 
         -- the rest of a quiet stretch can pass at once
         pub glide_left : CanGlide b (ms - 1)
@@ -299,7 +301,7 @@ module _ (c : Case) (is : IsCase c) (a : Body) (left : LeftAt c a) where
             let q = instant c (player_after c a.t) in
             let early = at_left_early in
             glide_ready c is (a.t + 1) (a.t + 1) (ms - 1) (pass_ms c q) b (omega (arith, early)) (omega (arith, few)) at_next
-            (next_ahead c is (a.t + 1) q (pass_ms c q) ms left_both.0 left_goes left_still left_quiet (pass_next c q left_goes))
+            (rests_ahead c is (a.t + 1) q (pass_ms c q) ms left_both.0 left_goes left_still left_quiet (pass_next c q left_goes))
 
         -- a millisecond and then the rest of a quiet stretch at once are a wait
         pub waits_left : (r : Body) → (IsTimed c.film c.network b.download → Follows (glides c (ms - 1)) b r) → r.t ≡ b.t + (ms - 1)
@@ -309,7 +311,7 @@ module _ (c : Case) (is : IsCase c) (a : Body) (left : LeftAt c a) where
             let some = left_quiet.untouched.some in
             let next = body_instant c (a.t + 1) (a.t + 1) (pass_ms c q) b at_next in
             let there : a.t + ms ≡ r.t = omega (arith, some, next, t) in
-            let law = stretch c is a.t ms left.going left_goes left_quiet in
+            let law = uneventful_stretch c is a.t ms left.going left_goes left_quiet in
             let same : player_after c r.t ≡ glides c (ms - 1) (pass_ms c q) = ap (player_after c) (sym there) ∙ law.1 in
             let seen_there = subst (λ (p : Player). seen r (glides c (ms - 1) p).history ≡ glides c (ms - 1) p) at_next.same (glide next_timed (pass_ms c q).history) in
             record {

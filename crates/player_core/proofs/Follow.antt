@@ -248,6 +248,7 @@ rest_ready c is n from p b low now timed some still =
       idles = idle_ready c is n from p b now still;
       instant = omega (arith, here, low);
       runs = rest_of c is b.t b.download s.running (subst IsOpen (sym now.same) some) timed;
+      range = range_ready c from b s;
     }
 
 -- so many milliseconds can pass at once for it that do not take play past the end of what is loaded

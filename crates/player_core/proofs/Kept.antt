@@ -1,8 +1,8 @@
 -- Tests for abandonment that keep a download: where it is on the lowest rung or none is made, and where its rate is enough for its rung.
-use Rattle.std.proofs.Common.{◌≡◌, ◌∙◌, ℕ, zero, suc, ◌+◌, ◌-◌, ◌*◌, ◌/◌, ◌<◌, ◌≤◌, ◌⊎◌, inl, inr, ⊎_elim, Bool, true, false, ◌&&◌, cond, eqb, leb, ltb, Option, Some, None, IfSome, refl, sym, ap, ap₂, subst, add-one, lt-ltb, le-ltb, max, arith}
+use Rattle.std.proofs.Common.{◌≡◌, ◌∙◌, ℕ, zero, suc, ◌+◌, ◌-◌, ◌*◌, ◌<◌, ◌≤◌, ⊎_elim, Bool, true, false, ◌&&◌, leb, ltb, Some, None, sym, ap, ap₂, add-one, lt-ltb, le-ltb, arith}
 use Rattle.std.specs.Option.{option_map_or}
 use Rattle.std.proofs.lemmas.Grind.{div_ceil_times}
-use Rattle.std.proofs.lemmas.Bool.{and_left, and_right, cond-true, cond-false, cases_Bool, cases_lt, false_from_ne_true, leb-true, le-leb, true≢false}
+use Rattle.std.proofs.lemmas.Bool.{and_left, and_right, cond-true, cond-false, cases_Bool, cases_lt, le-leb, true≢false}
 use Rattle.lab_model.specs.Film.{Film, bitrate_of, rungs_of, size_of}
 use Rattle.lab_model.specs.Rates.{rate_of}
 use Rattle.lab_model.specs.Ladder.{greatest_rung}

@@ -1,21 +1,21 @@
 -- Quiet stretches: where nothing happens for so many milliseconds, the player at their end is what they make of it at once.
-use Rattle.std.proofs.Common.{◌≡◌, ◌∙◌, ℕ, zero, suc, ◌+◌, ◌-◌, ◌*◌, ◌/◌, ◌%◌, ◌<◌, ◌≤◌, ◌&&◌, ◌⊎◌, inl, inr, ⊎_elim, true, false, eqb, leb, ltb, ◌++◌, ◌∷◌, [], Option, Some, None, IfSome, is_some, option_map, refl, sym, ap, subst, lt-ltb, le-ltb, mul-le-mul_right, add-one, below_more, arith}
-use Rattle.std.proofs.lemmas.Bool.{and_from, and_left, and_right, cases_Bool, cases_lt, cond_both, cond-true, cond-false, false≢true, true≢false, false_from_ne_true, ne_eqb, and_parts}
-use Rattle.std.proofs.lemmas.Option.{cond_some}
+use Rattle.std.proofs.Common.{◌≡◌, ◌∙◌, ℕ, zero, suc, ◌+◌, ◌-◌, ◌*◌, ◌/◌, ◌%◌, ◌<◌, ◌≤◌, ◌&&◌, ◌⊎◌, inl, inr, ⊎_elim, true, false, eqb, ltb, ◌++◌, ◌∷◌, [], Option, Some, None, IfSome, is_some, option_map, refl, sym, ap, subst, lt-ltb, le-ltb, mul-le-mul_right, add-one, below_more, arith}
+use Rattle.std.proofs.lemmas.Bool.{and_from, and_left, and_right, cases_Bool, cases_lt, cond_both, cond-true, cond-false, false≢true, true≢false, false_from_ne_true, ne_eqb}
 use Rattle.std.proofs.lemmas.Nat.{div-add-mod'}
 use Rattle.lab_model.specs.Film.{segments_of}
 use Rattle.network_clock.specs.Network.{done_on}
-use Rattle.abandonment.specs.Test.{abandonment, is_better, is_due, is_late, target_of}
+use Rattle.abandonment.specs.Test.{abandonment}
 use Rattle.player_core.specs.declared.session.Event.TheVariants as event
 use Rattle.player_core.specs.Available.{available_at}
 use Rattle.player_core.specs.State.{Case, Download, Mode, Player, starting, playing, seeking, ended}
 use Rattle.player_core.specs.Parts.{abandon, arrives, asks, can_ask, finish, gives_up, gives_up_any, goes_on, instant, is_ended, is_playing, loads, pass_ms, passes_in, plays, progress_of, request, rung_for, seek, seek_at, seeks_to, stalls_on, takes, takes_any}
 use Rattle.player_core.specs.Session.{ends_at, player_after}
 use Rattle.player_core.specs.Sound.{IsCase, Runs, Sound, asked_size}
-use Rattle.player_core.specs.Quiet.{IsQuiet, IsUntouched, glides, is_due_ms, taken_ms}
-use Rattle.player_core.proofs.Soundness.{abandonment_lower, can_ask_true}
+use Rattle.player_core.specs.Quiet.{IsKeptAt, IsQuiet, IsUneventful, IsUntouched, glides, is_due_ms, running_at, taken_ms}
+use Rattle.player_core.proofs.Soundness.{can_ask_true}
 use Rattle.player_core.proofs.Players.{instant_sound, pass_t, passed_sound, player_next, player_sound}
 use Rattle.player_core.proofs.Waits.{IsInside, IsStill, instant_still, passes_passed, plays_x}
+use Rattle.player_core.proofs.Kept.{early_kept, lowest_kept, running_is}
 use Rattle.player_core.proofs.Glides.{IsSmooth, glides_next, glides_none, runs_open}
 
 -- ---- shorter stretches, and those of a player without seeks and abandonment
@@ -37,6 +37,21 @@ quiet_alone c q ms off none untouched arrives = record {
   seeks = λ m after low. ap (λ ss. seek_at ss m) none;
 }
 
+kept_any : (c : Case) (from until : ℕ) (o : Option Download) → IfSome o (λ d. (d.rung ≡ 0) ⊎ ((m : ℕ) → from < m → m < until → is_due_ms (m - d.asked) ≡ false))
+    → IfSome o (λ d. (m : ℕ) → from < m → m < until → IsKeptAt c m d)
+kept_any c from until None h = tt
+kept_any c from until (Some d) (inl lowest) = λ m after low. lowest_kept c.film d.segment d.rung (progress_of c.film m (running_at c m d)) lowest
+kept_any c from until (Some d) (inr none) = λ m after low. early_kept c.film d.segment d.rung (progress_of c.film m (running_at c m d)) (none m after low)
+
+-- where no download is looked at, none is given up
+pub quiet_uneventful : (c : Case) (q : Player) (ms : ℕ) → IsQuiet c q ms → IsUneventful c q ms
+quiet_uneventful c q ms quiet = record {
+  untouched = quiet.untouched;
+  arrives = quiet.arrives;
+  keeps = λ on. kept_any c q.t (q.t + ms) q.download (quiet.judges on);
+  seeks = quiet.seeks;
+}
+
 -- ---- an instant at which nothing happens
 
 -- nothing happens at the instant of the player
@@ -44,7 +59,7 @@ record IsIdle (c : Case) (p : Player) : Type 0 where
   goes : is_ended p.mode ≡ false
   inside : IsInside c p
   runs : IfSome p.download (λ d. p.t < done_on c.network d.asked (asked_size c d))
-  judges : c.setup.abandon ≡ true → IfSome p.download (λ d. (d.rung ≡ 0) ⊎ (is_due_ms (p.t - d.asked) ≡ false))
+  keeps : c.setup.abandon ≡ true → IfSome p.download (λ d. abandonment c.film d.segment d.rung (progress_of c.film p.t d) ≡ None)
   seeks : seek_at c.seeks p.t ≡ None
   asks : p.download ≡ None → p.k < segments_of c.film → (c.setup.buffer_ms < p.y - p.x + c.film.seg_ms) ⊎ (p.t < available_at c.film c.ahead p.k)
 
@@ -53,26 +68,11 @@ module _ (c : Case) (is : IsCase c) (p : Player) where
   idle_arrives None runs early = refl
   idle_arrives (Some d) runs early = cond-false (eqb d.job.left 0) (loads c p d) p (runs_open c is p.t d runs early)
 
-  idle_gives : (d : Download) (o : Option ℕ) → ((q : ℕ) → o ≡ Some q → ⊥) → gives_up c p d o ≡ p
-  idle_gives d None none = refl
-  idle_gives d (Some q) none = absurd (none q refl)
-
-  -- a download on the lowest rung, or at an instant at which none is looked at, isn't given up
-  idle_judged : (d : Download) → (d.rung ≡ 0) ⊎ (is_due_ms (p.t - d.asked) ≡ false) → (q : ℕ) → abandonment c.film d.segment d.rung (progress_of c.film p.t d) ≡ Some q → ⊥
-  idle_judged d (inl lowest) q e = let lower = abandonment_lower c p.t c.film d.segment d.rung (progress_of c.film p.t d) q e in absurd (omega (arith, lower, lowest))
-  idle_judged d (inr early) q e =
-      let g = progress_of c.film p.t d in
-      let parts = cond_some ((is_due g && is_late c.film d.segment d.rung g) && is_better c.film d.segment d.rung g) (target_of c.film g) q e in
-      let late = and_parts (is_due g && is_late c.film d.segment d.rung g) (is_better c.film d.segment d.rung g) parts.0 in
-      let due = and_parts (is_due g) (is_late c.film d.segment d.rung g) late.0 in
-      let looked = and_parts (is_due_ms g.elapsed_ms) (leb 1 g.bit_ms) due.0 in
-      true≢false (sym looked.0 ∙ early)
-
-  idle_gives_any : (o : Option Download) → IfSome o (λ d. (d.rung ≡ 0) ⊎ (is_due_ms (p.t - d.asked) ≡ false)) → gives_up_any c p o ≡ p
+  idle_gives_any : (o : Option Download) → IfSome o (λ d. abandonment c.film d.segment d.rung (progress_of c.film p.t d) ≡ None) → gives_up_any c p o ≡ p
   idle_gives_any None h = refl
-  idle_gives_any (Some d) h = idle_gives d (abandonment c.film d.segment d.rung (progress_of c.film p.t d)) (idle_judged d h)
+  idle_gives_any (Some d) h = ap (gives_up c p d) h
 
-  idle_abandon : (c.setup.abandon ≡ true → IfSome p.download (λ d. (d.rung ≡ 0) ⊎ (is_due_ms (p.t - d.asked) ≡ false))) → abandon c p ≡ p
+  idle_abandon : (c.setup.abandon ≡ true → IfSome p.download (λ d. abandonment c.film d.segment d.rung (progress_of c.film p.t d) ≡ None)) → abandon c p ≡ p
   idle_abandon h = cond_both c.setup.abandon (gives_up_any c p p.download) p (λ q. q ≡ p) (λ on. idle_gives_any p.download (h on)) (λ off. refl)
 
   idle_seek : seek_at c.seeks p.t ≡ None → seek c p ≡ p
@@ -93,7 +93,7 @@ module _ (c : Case) (is : IsCase c) (p : Player) where
   idle_instant from sound idle =
       ap (goes_on c) (ap (finish c) (idle_arrives p.download sound.running idle.runs) ∙ idle_finish idle.inside)
       ∙ cond-false (is_ended p.mode) p (request c (seek c (abandon c p))) idle.goes
-      ∙ ap (λ q. request c (seek c q)) (idle_abandon idle.judges) ∙ ap (request c) (idle_seek idle.seeks) ∙ idle_request idle.asks
+      ∙ ap (λ q. request c (seek c q)) (idle_abandon idle.keeps) ∙ ap (request c) (idle_seek idle.seeks) ∙ idle_request idle.asks
 
 -- ---- a millisecond after it
 
@@ -185,16 +185,13 @@ module _ (c : Case) (t ms until : ℕ) where
   glide_runs later None h = tt
   glide_runs later (Some d) h = h
 
-  any_judges : (from later : ℕ) (o : Option Download) → from < later → later < until → IfSome o (λ d. (d.rung ≡ 0) ⊎ ((m : ℕ) → from < m → m < until → is_due_ms (m - d.asked) ≡ false))
-      → IfSome (option_map (takes c t) o) (λ d. (d.rung ≡ 0) ⊎ (is_due_ms (later - d.asked) ≡ false))
-  any_judges from later None after low h = tt
-  any_judges from later (Some d) after low (inl lowest) = inl lowest
-  any_judges from later (Some d) after low (inr none) = inr (none later after low)
-
-  glide_judges : (later : ℕ) (o : Option Download) → IfSome o (λ d. (d.rung ≡ 0) ⊎ (is_due_ms (later - d.asked) ≡ false))
-      → IfSome (option_map (taken_ms c t ms) o) (λ d. (d.rung ≡ 0) ⊎ (is_due_ms (later - d.asked) ≡ false))
-  glide_judges later None h = tt
-  glide_judges later (Some d) h = h
+  -- what keeps a download until an instant keeps it there
+  glide_keeps : (from later s : ℕ) (o : Option Download) → from < later → later < until → IfSome o (λ d. (m : ℕ) → from < m → m < until → IsKeptAt c m d)
+      → IfSome (option_map (taken_ms c s ms) (option_map (takes c t) o)) (Runs c later)
+      → IfSome (option_map (taken_ms c s ms) (option_map (takes c t) o)) (λ d. abandonment c.film d.segment d.rung (progress_of c.film later d) ≡ None)
+  glide_keeps from later s None after low h runs = tt
+  glide_keeps from later s (Some d) after low h runs =
+      ap (λ e. abandonment c.film d.segment d.rung (progress_of c.film later e)) (running_is c later (taken_ms c s ms (takes c t d)) runs) ∙ h later after low
 
   any_none : (o : Option Download) → option_map (takes c t) o ≡ None → o ≡ None
   any_none None e = refl
@@ -204,7 +201,7 @@ module _ (c : Case) (t ms until : ℕ) where
   glide_none None e = refl
   glide_none (Some d) e = absurd (true≢false (ap is_some e))
 
-module _ (c : Case) (is : IsCase c) (from : ℕ) (q p : Player) (n : ℕ) (sound : Sound c from q) (goes : is_ended q.mode ≡ false) (still : IsStill c q) (quiet : IsQuiet c q n) (next : IsNext c q p) where
+module _ (c : Case) (is : IsCase c) (from : ℕ) (q p : Player) (n : ℕ) (sound : Sound c from q) (goes : is_ended q.mode ≡ false) (still : IsStill c q) (quiet : IsUneventful c q n) (next : IsNext c q p) where
   -- where the position moves, so many milliseconds are loaded ahead
   ahead_ms : is_playing q.mode ≡ true → q.x < q.y → q.x + n ≤ q.y
   ahead_ms on low =
@@ -213,8 +210,8 @@ module _ (c : Case) (is : IsCase c) (from : ℕ) (q p : Player) (n : ℕ) (sound
       omega (arith, most, end)
 
   -- and after the first of them as many fewer
-  pub next_ahead : is_playing p.mode ≡ true → p.x < p.y → p.x + (n - 1) ≤ p.y
-  next_ahead on low =
+  pub rests_ahead : is_playing p.mode ≡ true → p.x < p.y → p.x + (n - 1) ≤ p.y
+  rests_ahead on low =
       let plays : is_playing q.mode ≡ true = sym (ap is_playing next.mode) ∙ on in
       let y = next.y in
       ⊎_elim (λ (ahead : q.x < q.y). let x = (next.goes plays ahead).0 in let whole = ahead_ms plays ahead in let some = quiet.untouched.some in omega (arith, x, y, whole, some))
@@ -296,16 +293,16 @@ module _ (c : Case) (is : IsCase c) (from : ℕ) (q p : Player) (n : ℕ) (sound
       let t = next.t in
       subst (λ o. IfSome o (λ d. p.t + j < done_on c.network d.asked (asked_size c d))) (sym next.download) (any_runs c q.t 0 (q.t + n) (p.t + j) q.download (omega (arith, t, inside)) quiet.arrives)
 
-  rests_idle : (j : ℕ) → suc j < n → IsIdle c (glides c j p)
-  rests_idle j inside =
+  rests_idle : (j : ℕ) → suc j < n → IfSome (glides c j p).download (Runs c (p.t + j)) → IsIdle c (glides c j p)
+  rests_idle j inside runs =
       let t = next.t in
       record {
         goes = ap is_ended next.mode ∙ goes;
         inside = rests_inside j inside;
         runs = glide_runs c p.t j (q.t + n) (p.t + j) p.download (rests_runs j inside);
-        judges = λ on. glide_judges c p.t j (q.t + n) (p.t + j) p.download
-            (subst (λ o. IfSome o (λ d. (d.rung ≡ 0) ⊎ (is_due_ms ((p.t + j) - d.asked) ≡ false))) (sym next.download)
-            (any_judges c q.t 0 (q.t + n) q.t (p.t + j) q.download (omega (arith, t)) (omega (arith, t, inside)) (quiet.judges on)));
+        keeps = λ on. subst (λ o. IfSome (option_map (taken_ms c p.t j) o) (λ d. abandonment c.film d.segment d.rung (progress_of c.film (p.t + j) d) ≡ None)) (sym next.download)
+            (glide_keeps c q.t j (q.t + n) q.t (p.t + j) p.t q.download (omega (arith, t)) (omega (arith, t, inside)) (quiet.keeps on)
+            (subst (λ o. IfSome (option_map (taken_ms c p.t j) o) (Runs c (p.t + j))) next.download runs));
         seeks = quiet.seeks (p.t + j) (omega (arith, t)) (omega (arith, t, inside));
         asks = λ none low.
             let y = next.y in
@@ -317,7 +314,7 @@ module _ (c : Case) (is : IsCase c) (from : ℕ) (q p : Player) (n : ℕ) (sound
 
 -- ---- the law
 
-module _ (c : Case) (is : IsCase c) (t n : ℕ) (before : (k : ℕ) → k < t → ends_at c k ≡ false) (goes : ends_at c t ≡ false) (quiet : IsQuiet c (instant c (player_after c t)) n) where
+module _ (c : Case) (is : IsCase c) (t n : ℕ) (before : (k : ℕ) → k < t → ends_at c k ≡ false) (goes : ends_at c t ≡ false) (quiet : IsUneventful c (instant c (player_after c t)) n) where
   next_runs : IfSome (pass_ms c (instant c (player_after c t))).download (Runs c (pass_ms c (instant c (player_after c t))).t)
   next_runs =
       let start = player_sound c is t before in
@@ -330,9 +327,9 @@ module _ (c : Case) (is : IsCase c) (t n : ℕ) (before : (k : ℕ) → k < t �
       let q = instant c (player_after c t) in
       let start = player_sound c is t before in
       let both = instant_sound c is t (player_after c t) start.1 start.0 goes in
-      let sound = player_sound c is (t + suc j) here.0 in
-      idle_instant c is (glides c j (pass_ms c q)) (t + suc j) (subst (Sound c (t + suc j)) here.1 sound.0)
-      (rests_idle c is (t + 1) q (pass_ms c q) n both.0 goes (instant_still c (player_after c t) goes) quiet (pass_next c q goes) j low)
+      let sound = subst (Sound c (t + suc j)) here.1 (player_sound c is (t + suc j) here.0).0 in
+      idle_instant c is (glides c j (pass_ms c q)) (t + suc j) sound
+      (rests_idle c is (t + 1) q (pass_ms c q) n both.0 goes (instant_still c (player_after c t) goes) quiet (pass_next c q goes) j low sound.running)
 
   stretch_to : (j : ℕ) → j < n → ((k : ℕ) → k < t + suc j → ends_at c k ≡ false) × (player_after c (t + suc j) ≡ glides c j (pass_ms c (instant c (player_after c t))))
   stretch_to zero low =
@@ -359,18 +356,31 @@ module _ (c : Case) (is : IsCase c) (t n : ℕ) (before : (k : ℕ) → k < t �
       )
 
 -- after the whole stretch: none of its instants ends the session, and the player is what its milliseconds make of it at once
-pub stretch : (c : Case) → IsCase c → (t n : ℕ) → ((k : ℕ) → k < t → ends_at c k ≡ false) → ends_at c t ≡ false → IsQuiet c (instant c (player_after c t)) n
+pub uneventful_stretch : (c : Case) → IsCase c → (t n : ℕ) → ((k : ℕ) → k < t → ends_at c k ≡ false) → ends_at c t ≡ false → IsUneventful c (instant c (player_after c t)) n
     → ((k : ℕ) → k < t + n → ends_at c k ≡ false) × (player_after c (t + n) ≡ glides c (n - 1) (pass_ms c (instant c (player_after c t))))
-stretch c is t n before goes quiet =
+uneventful_stretch c is t n before goes quiet =
     let some = quiet.untouched.some in
     let last : t + suc (n - 1) ≡ t + n = omega (arith, some) in
     let there = stretch_to c is t n before goes quiet (n - 1) (omega (arith, some)) in
     ((λ k low. there.0 k (omega (arith, low, last))), ap (player_after c) (sym last) ∙ there.1)
+
+-- ---- the same of quiet stretches
+
+-- where the position moves, as many fewer milliseconds are loaded ahead after the first of a stretch
+pub next_ahead : (c : Case) → IsCase c → (from : ℕ) (q p : Player) (n : ℕ) → Sound c from q → is_ended q.mode ≡ false → IsStill c q → IsQuiet c q n → IsNext c q p
+    → is_playing p.mode ≡ true → p.x < p.y → p.x + (n - 1) ≤ p.y
+next_ahead c is from q p n sound goes still quiet next = rests_ahead c is from q p n sound goes still (quiet_uneventful c q n quiet) next
+
+-- the law
+pub stretch : (c : Case) → IsCase c → (t n : ℕ) → ((k : ℕ) → k < t → ends_at c k ≡ false) → ends_at c t ≡ false → IsQuiet c (instant c (player_after c t)) n
+    → ((k : ℕ) → k < t + n → ends_at c k ≡ false) × (player_after c (t + n) ≡ glides c (n - 1) (pass_ms c (instant c (player_after c t))))
+stretch c is t n before goes quiet = uneventful_stretch c is t n before goes (quiet_uneventful c _ n quiet)
 
 -- within the stretch each instant after the first leaves the player as it is
 pub stretch_idle : (c : Case) → IsCase c → (t n : ℕ) → ((k : ℕ) → k < t → ends_at c k ≡ false) → ends_at c t ≡ false → IsQuiet c (instant c (player_after c t)) n
     → (i : ℕ) → 1 ≤ i → i < n → instant c (player_after c (t + i)) ≡ player_after c (t + i)
 stretch_idle c is t n before goes quiet zero some low = absurd (omega arith)
 stretch_idle c is t n before goes quiet (suc j) some low =
-    let here = stretch_to c is t n before goes quiet j (omega arith) in
-    ap (instant c) here.1 ∙ stays c is t n before goes quiet j low here ∙ sym here.1
+    let calm = quiet_uneventful c (instant c (player_after c t)) n quiet in
+    let here = stretch_to c is t n before goes calm j (omega arith) in
+    ap (instant c) here.1 ∙ stays c is t n before goes calm j low here ∙ sym here.1

@@ -1,9 +1,8 @@
-use Rattle.std.proofs.Common.{◌≡◌, ◌∙◌, ℕ, ◌+◌, ◌-◌, ◌≤◌, ◌<◌, ◌⊎◌, false, None, Some, IfSome, inl, inr, option_map, ⊎_elim, sym, ap, subst, arith}
-use Rattle.lab_model.specs.declared.setup.Setup.{Setup}
+use Rattle.std.proofs.Common.{◌≡◌, ℕ, ◌+◌, ◌≤◌, ◌<◌, None, Some, IfSome, option_map, sym, ap, subst, arith}
 use Rattle.network_clock.specs.Network.{done_on}
 use Rattle.player_core.specs.Course.{case_on}
-use Rattle.player_core.specs.Sound.{asked_size}
-use Rattle.player_core.specs.Quiet.{is_due_ms}
+use Rattle.player_core.specs.Sound.{Runs, asked_size}
+use Rattle.player_core.specs.Quiet.{IsKeptAt}
 use Rattle.player_core.specs.Seen.{IsTimed, download_of, seen}
 use Rattle.player_core.proofs.Stretch.{untouched_less}
 use Rattle.player_core.proofs.body.Body.quiet_ms.Goals as goal
@@ -12,20 +11,21 @@ pub returns-in-Some-clause-some : goal.returns-in-Some-clause-some
 returns-in-Some-clause-some c = omega (arith, c.untouched_ms.ensures.some, c.seek_in.ensures.some, c.quiet_ms.ensures.some, c.min-own.ensures, c.min.ensures)
 
 pub returns-in-Some-clause-quiet : goal.returns-in-Some-clause-quiet
-returns-in-Some-clause-quiet c = λ knows kind history.
+returns-in-Some-clause-quiet c = λ knows kind history is running.
     let k = case_on c.args.course.now kind in
     let q = seen c.args.self.now history in
     let ms = c.min.result in
     let d = download_of c.in-Some.d in
     let some : 1 ≤ ms = returns-in-Some-clause-some c in
     let runs : Some d ≡ q.download = sym (ap (option_map download_of) c.in-Some.is) in
+    let run : Runs k q.t d = subst (λ o. IfSome o (Runs k q.t)) (sym runs) running in
     let done = (subst (IsTimed k.film k.network) c.in-Some.is knows).1 in
     let arrives : q.t + ms ≤ done_on k.network d.asked (asked_size k d) = omega (arith, done, c.quiet_ms.ensures.arrives, c.min.ensures) in
     record {
       untouched = untouched_less k q c.untouched_ms.result ms (c.untouched_ms.ensures.untouched kind history) some (omega (arith, c.min-own.ensures, c.min.ensures));
       arrives = subst (λ o. IfSome o (λ e. q.t + ms ≤ done_on k.network e.asked (asked_size k e))) runs arrives;
-      judges = λ on. subst (λ o. IfSome o (λ e. (e.rung ≡ 0) ⊎ ((m : ℕ) → q.t < m → m < q.t + ms → is_due_ms (m - e.asked) ≡ false))) runs
-          (⊎_elim (λ lowest. inl lowest) (λ none. inr (λ m after low. none m after (omega (arith, low, c.min.ensures)))) (c.quiet_ms.ensures.judges (ap (λ (s : Setup). s.abandon) c.setup.ensures.value ∙ on)));
+      keeps = λ on. subst (λ o. IfSome o (λ e. (m : ℕ) → q.t < m → m < q.t + ms → IsKeptAt k m e)) runs
+          (λ m after low. c.quiet_ms.ensures.keeps on kind is run m after (omega (arith, low, c.min.ensures)));
       seeks = λ m after low. c.seek_in.ensures.none_before m after (omega (arith, low, c.min-own.ensures, c.min.ensures));
     }
 
@@ -33,7 +33,7 @@ pub returns-in-None-clause-some : goal.returns-in-None-clause-some
 returns-in-None-clause-some c = omega (arith, c.untouched_ms.ensures.some, c.seek_in.ensures.some, c.min-own.ensures)
 
 pub returns-in-None-clause-quiet : goal.returns-in-None-clause-quiet
-returns-in-None-clause-quiet c = λ knows kind history.
+returns-in-None-clause-quiet c = λ knows kind history is running.
     let k = case_on c.args.course.now kind in
     let q = seen c.args.self.now history in
     let ms = c.min-own.result in
@@ -41,6 +41,6 @@ returns-in-None-clause-quiet c = λ knows kind history.
     record {
       untouched = untouched_less k q c.untouched_ms.result ms (c.untouched_ms.ensures.untouched kind history) (returns-in-None-clause-some c) (omega (arith, c.min-own.ensures));
       arrives = subst (λ o. IfSome o (λ e. q.t + ms ≤ done_on k.network e.asked (asked_size k e))) runs tt;
-      judges = λ on. subst (λ o. IfSome o (λ e. (e.rung ≡ 0) ⊎ ((m : ℕ) → q.t < m → m < q.t + ms → is_due_ms (m - e.asked) ≡ false))) runs tt;
+      keeps = λ on. subst (λ o. IfSome o (λ e. (m : ℕ) → q.t < m → m < q.t + ms → IsKeptAt k m e)) runs tt;
       seeks = λ m after low. c.seek_in.ensures.none_before m after (omega (arith, low, c.min-own.ensures));
     }

@@ -10,10 +10,10 @@ pass-requires c = pass_left _ c.requires.case c.args.self.now c.requires.left c.
 pub glide-requires : goal.glide-requires
 glide-requires c =
     glide_left _ c.requires.case c.args.self.now c.requires.left c.requires.goes c.pass.new.self (c.in_ok-pass.ensures c.requires.rule)
-    c.quiet_ms-quiet.result c.quiet_ms-quiet.ensures.limit (λ knows. c.quiet_ms-quiet.ensures.quiet knows c.requires.rule)
+    c.quiet_ms-quiet.result c.quiet_ms-quiet.ensures.limit (λ knows h. c.quiet_ms-quiet.ensures.quiet knows c.requires.rule h c.requires.case)
 
 pub returns : goal.returns
 returns c = λ kind is left.
     waits_left _ is c.args.self.now left c.requires.goes c.pass.new.self (c.in_ok-pass.ensures kind)
-    c.quiet_ms-quiet.result c.quiet_ms-quiet.ensures.limit (λ knows. c.quiet_ms-quiet.ensures.quiet knows kind)
+    c.quiet_ms-quiet.result c.quiet_ms-quiet.ensures.limit (λ knows h. c.quiet_ms-quiet.ensures.quiet knows kind h is)
     c.glide.new.self (λ knows. c.glide.ensures.glides knows kind) c.glide.ensures.instant c.glide.ensures.timed

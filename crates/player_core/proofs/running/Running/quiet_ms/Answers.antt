@@ -1,4 +1,4 @@
-use Rattle.std.proofs.Common.{◌≡◌, ◌∙◌, ℕ, ◌+◌, ◌-◌, ◌<◌, ◌≤◌, sym, ap, subst, arith}
+use Rattle.std.proofs.Common.{ℕ, ◌+◌, ◌≤◌, subst, arith}
 use Rattle.lab_model.specs.Film.{Film}
 use Rattle.lab_model.specs.Rates.{rate_of}
 use Rattle.player_core.specs.Course.{case_on}
