@@ -6,7 +6,7 @@ ghost use Rattle.lab_model.specs.Rates.{rate_of};
 ghost use Rattle.lab_model.specs.Rules.{RuleKind};
 ghost use Rattle.network_clock.specs.Network.{first_at, spends};
 ghost use Rattle.abandonment.specs.Test.{abandonment};
-ghost use Rattle.player_core.specs.Limits.{judged_from, latest_answer, longest_elapsed, most_bits, most_bits_in_ms};
+ghost use Rattle.player_core.specs.Limits.{judged_each, judged_from, latest_answer, longest_elapsed, most_bits, most_bits_in_ms};
 ghost use Rattle.player_core.specs.State.{Case};
 ghost use Rattle.player_core.specs.Course.{case_on};
 ghost use Rattle.player_core.specs.Parts.{bit_ms_of, got_of, progress_of, sample_of, takes_in};
@@ -46,7 +46,7 @@ pub struct Running {
 fn due_in(elapsed: u64) -> u64
     requires { elapsed ≤ longest_elapsed }
     ensures some { 1 ≤ result }
-    ensures limit { result ≤ judged_from }
+    ensures limit { result ≤ judged_from + judged_each }
     ensures none_before { (m : ℕ) → elapsed < m → m < elapsed + result → is_due_ms m ≡ false }
 {
     let next = (elapsed / JUDGED_EACH_MS + 1) * JUDGED_EACH_MS;
