@@ -4,7 +4,6 @@ use Rattle.std.specs.Option.{option_map_or}
 use Rattle.std.proofs.lemmas.Grind.{div_ceil_times}
 use Rattle.std.proofs.lemmas.Bool.{and_left, and_right, cond-true, cond-false, cases_Bool, cases_lt, le-leb, true≢false}
 use Rattle.lab_model.specs.Film.{Film, bitrate_of, rungs_of, size_of}
-use Rattle.lab_model.specs.Rates.{rate_of}
 use Rattle.lab_model.specs.Ladder.{greatest_rung}
 use Rattle.lab_model.proofs.Rungs.{greatest_more}
 use Rattle.network_clock.specs.declared.job.Job.{Job}
@@ -15,7 +14,7 @@ use Rattle.abandonment.specs.Test.{abandonment, is_better, is_due, is_late, left
 use Rattle.player_core.specs.State.{Case, Download}
 use Rattle.player_core.specs.Parts.{bit_ms_of, got_of, progress_of}
 use Rattle.player_core.specs.Sound.{IsCase, Runs, asked_size}
-use Rattle.player_core.specs.Quiet.{IsEnough, IsKeptAt, is_due_ms, running_at}
+use Rattle.player_core.specs.Quiet.{IsEnough, IsHeldFrom, IsKeptAt, is_due_ms, running_at}
 use Rattle.player_core.proofs.Runs.{bit_ms_is}
 
 -- a rung that passes is at most the greatest that does
@@ -50,9 +49,21 @@ module _ (f : Film) (segment rung : ℕ) (p : Progress) where
   pub lowest_kept : rung ≡ 0 → abandonment f segment rung p ≡ None
   lowest_kept lowest = not_lower (omega (arith, lowest))
 
-  -- a rate that is enough for the rung keeps it
-  pub enough_kept : rung < rungs_of f → IsEnough f rung (rate_now p) → abandonment f segment rung p ≡ None
-  enough_kept low enough = not_lower (greatest_least (λ q. leb (10000 * bitrate_of f q) (9 * rate_now p)) rung (rungs_of f) (le-leb _ _ enough) low)
+  -- a target keeps it below which all rungs are as large as what is still to come
+  pub held_kept : (got from : ℕ) → IsHeldFrom f segment rung got from → got ≤ p.got → from ≤ target_of f p → abandonment f segment rung p ≡ None
+  held_kept got from holds more reached =
+      ⊎_elim
+      (λ (lower : target_of f p < rung).
+      let large = holds (target_of f p) reached lower in
+      cond-false ((is_due p && is_late f segment rung p) && is_better f segment rung p) (Some (target_of f p)) None
+      (and_right (is_due p && is_late f segment rung p) (is_better f segment rung p)
+      (and_right (ltb (target_of f p) rung) (ltb (size_of f segment (target_of f p)) (left_of f segment rung p)) (le-ltb (size_of f segment (target_of f p)) (left_of f segment rung p) (omega (arith, large, more))))))
+      (λ (same : rung ≤ target_of f p). not_lower same)
+      (cases_lt (target_of f p) rung)
+
+  -- a rate that is enough for a rung has no lower target
+  pub enough_reaches : (q : ℕ) → q < rungs_of f → IsEnough f q (rate_now p) → q ≤ target_of f p
+  enough_reaches q low enough = greatest_least (λ r. leb (10000 * bitrate_of f r) (9 * rate_now p)) q (rungs_of f) (le-leb _ _ enough) low
 
   -- a download that isn't looked at is kept
   pub early_kept : is_due_ms p.elapsed_ms ≡ false → abandonment f segment rung p ≡ None
@@ -92,22 +103,18 @@ module _ (c : Case) (is : IsCase c) (t m : ℕ) (d : Download) (runs : Runs c t 
 pub running_is : (c : Case) (t : ℕ) (d : Download) → Runs c t d → d ≡ running_at c t d
 running_is c t d runs = ap₂ (λ j o. record d { job = j; first = o }) runs.job runs.first
 
--- where the bits that have come are enough for so many milliseconds more, no test in them gives a download up, and where none is due later, none does later
+-- where no test gives a download up for so many milliseconds, whatever bits come, and where none is due for some after them, it is kept
 pub kept_until : (c : Case) → IsCase c → (t kept due : ℕ) (d : Download) → Runs c t d
-    → ((more ms : ℕ) → got_of c.film d ≤ more → 1 ≤ ms → ms ≤ bit_ms_of t d + kept → 1 ≤ kept → IsEnough c.film d.rung (rate_of more ms))
+    → ((p : Progress) → got_of c.film d ≤ p.got → p.bit_ms ≤ bit_ms_of t d + kept → 1 ≤ kept → abandonment c.film d.segment d.rung p ≡ None)
     → ((n : ℕ) → (t + kept) - d.asked < n → n < ((t + kept) - d.asked) + due → is_due_ms n ≡ false)
     → (m : ℕ) → t < m → m < t + (kept + due) → IsKeptAt c m d
-kept_until c is t kept due d runs enough early m after before =
+kept_until c is t kept due d runs keeps early m after before =
     let p = progress_of c.film m (running_at c m d) in
     let asked = runs.asked in
     ⊎_elim
     (λ (late : t + kept < m). early_kept c.film d.segment d.rung p (early (m - d.asked) (omega (arith, late, asked)) (omega (arith, late, before, asked))))
     (λ (soon : m ≤ t + kept).
-    ⊎_elim
-    (λ (some : 0 < p.bit_ms).
     let got = got_later c is t m d runs (omega (arith, after)) in
     let bits = bit_ms_later c is t m d runs (omega (arith, after)) in
-    enough_kept c.film d.segment d.rung p runs.rung (enough p.got p.bit_ms got (omega (arith, some)) (omega (arith, bits, soon, after)) (omega (arith, soon, after))))
-    (λ (none : p.bit_ms ≤ 0). waiting_kept c.film d.segment d.rung p (omega (arith, none)))
-    (cases_lt 0 p.bit_ms))
+    keeps p got (omega (arith, bits, soon, after)) (omega (arith, soon, after)))
     (cases_lt (t + kept) m)

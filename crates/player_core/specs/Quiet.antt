@@ -1,7 +1,7 @@
 -- Not part of the model: what the proofs keep.
 -- Quiet stretches: milliseconds in which nothing begins and nothing happens, and what so many of them make of the player at once.
 use Rattle.std.specs.Prelude.{◌≡◌, ℕ, ◌+◌, ◌-◌, ◌*◌, ◌%◌, ◌≤◌, ◌<◌, ◌==◌, ◌&&◌, ◌⊎◌, Bool, true, false, not, nat_le, nat_lt, Some, None, IfSome, option_map, if◌then◌else◌}
-use Rattle.lab_model.specs.Film.{Film, bitrate_of, segments_of}
+use Rattle.lab_model.specs.Film.{Film, bitrate_of, segments_of, size_of}
 use Rattle.network_clock.specs.Network.{done_on, first_on, job_on, start_job}
 use Rattle.abandonment.specs.Test.{abandonment}
 use Rattle.player_core.specs.Limits.{judged_each, judged_from}
@@ -72,6 +72,10 @@ pub record IsQuiet (c : Case) (q : Player) (ms : ℕ) : Type 0 where
 -- a rate is enough for a rung: nine tenths of it are its bitrate or more
 abbrev pub IsEnough : Film → ℕ → ℕ → Type 0
 IsEnough f rung rate = 10000 * bitrate_of f rung ≤ 9 * rate
+
+-- where so many bits of a segment on a rung have come, no rung from another on below its own is smaller than what is still to come
+abbrev pub IsHeldFrom : Film → ℕ → ℕ → ℕ → ℕ → Type 0
+IsHeldFrom f segment rung got from = (q : ℕ) → from ≤ q → q < rung → size_of f segment rung - got ≤ size_of f segment q
 
 -- what a download is at an instant, from its request on
 abbrev pub running_at : Case → ℕ → Download → Download

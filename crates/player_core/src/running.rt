@@ -5,12 +5,13 @@ ghost use Rattle.lab_model.specs.Film.{rungs_of, segments_of, size_of};
 ghost use Rattle.lab_model.specs.Rates.{rate_of};
 ghost use Rattle.lab_model.specs.Rules.{RuleKind};
 ghost use Rattle.network_clock.specs.Network.{first_at, spends};
+ghost use Rattle.abandonment.specs.declared.Progress.{Progress};
 ghost use Rattle.abandonment.specs.Test.{abandonment};
 ghost use Rattle.player_core.specs.Limits.{judged_each, judged_from, latest_answer, longest_elapsed, most_bits, most_bits_in_ms};
 ghost use Rattle.player_core.specs.State.{Case};
 ghost use Rattle.player_core.specs.Course.{case_on};
 ghost use Rattle.player_core.specs.Parts.{bit_ms_of, got_of, progress_of, sample_of, takes_in};
-ghost use Rattle.player_core.specs.Quiet.{IsEnough, IsKeptAt, is_due_ms, taken_ms};
+ghost use Rattle.player_core.specs.Quiet.{IsEnough, IsHeldFrom, IsKeptAt, is_due_ms, taken_ms};
 ghost use Rattle.player_core.specs.Ready.{CanJudge};
 ghost use Rattle.player_core.specs.Seen.{CanTake, IsRunningOf, SameRequest, download_of};
 ghost use Rattle.player_core.specs.Sound.{IsCase, Runs};
@@ -113,17 +114,38 @@ impl Running {
         abandon_to(m, self.segment, self.rung, &now)
     }
 
-    /// The milliseconds after an instant, before the arrival, in which the bits that have come are enough for the rung, if no more come.
+    /// The least rung of which no rung from it on below the download's own is smaller than what is still to come: a target from it on gives
+    /// nothing up.
+    fn holding_rung(&self, m: &Manifest) -> u8
+        requires segment { self.now.segment < segments_of m.now }
+        requires rung { self.now.rung < rungs_of m.now }
+        ensures rung { result ≤ self.now.rung }
+        ensures holds { IsHeldFrom m.now self.now.segment self.now.rung
+            (got_of m.now (download_of self.now)) result }
+    {
+        let left = m.size(self.segment, self.rung) - self.got(m);
+        let mut rung = self.rung;
+        while rung > 0 && m.size(self.segment, rung - 1) >= left {
+            rung -= 1;
+        }
+        rung
+    }
+
+    /// The milliseconds after an instant, before the arrival, in which no test gives the download up, whatever bits come.
     fn kept_ms(&self, m: &Manifest, t: u64) -> u64
         requires segment { self.now.segment < segments_of m.now }
         requires rung { self.now.rung < rungs_of m.now }
         requires running { t < self.now.done }
         ensures limit { t + result ≤ self.now.done }
-        ensures keeps { (more ms : ℕ) → got_of m.now (download_of self.now) ≤ more → 1 ≤ ms
-            → ms ≤ bit_ms_of t (download_of self.now) + result → 1 ≤ result
-            → IsEnough m.now self.now.rung (rate_of more ms) }
+        ensures keeps { (p : Progress) → got_of m.now (download_of self.now) ≤ p.got
+            → p.bit_ms ≤ bit_ms_of t (download_of self.now) + result → 1 ≤ result
+            → abandonment m.now self.now.segment self.now.rung p ≡ None }
     {
-        let enough = enough_ms(m, self.rung, self.got(m));
+        let rung = self.holding_rung(m);
+        if rung == 0 {
+            return self.done - t;
+        }
+        let enough = enough_ms(m, rung, self.got(m));
         enough.saturating_sub(self.bit_ms(t)).min(self.done - t)
     }
 
