@@ -15,7 +15,7 @@ use Rattle.player_core.specs.State.{Case, Player}
 use Rattle.player_core.specs.Sound.{IsCase, Runs, Sound, asked_size}
 use Rattle.player_core.specs.Seen.{CanGlide, CanIdle, CanRest, CanTake, IsTimed, SameRequest, StandsFor, Step, download_of, seen, IsRunningOf, CanArrive}
 use Rattle.player_core.specs.Available.{available_at}
-use Rattle.player_core.specs.Parts.{is_playing}
+use Rattle.player_core.specs.Parts.{bit_ms_of, is_playing}
 use Rattle.player_core.specs.Ready.{CanJudge, CanLoad, CanPass, CanRequest}
 use Rattle.player_core.proofs.Bounds.{end_most, loaded_most, stalls_most, wasted_small}
 use Rattle.player_core.proofs.Runs.{asked_within, bit_ms_is, bit_ms_short, done_soon, runs_begun, runs_on, runs_pace, runs_short}
@@ -223,6 +223,10 @@ rest_of c is t (Some r) runs some timed =
     let soon = done_soon c is t d runs in
     (runs.asked, omega (arith, done, early), omega (arith, done, soon, is.short))
 
+waited_of : (c : Case) → IsCase c → (t : ℕ) (o : Option Running) → IfSome (option_map download_of o) (Runs c t) → IfSome o (λ r. bit_ms_of t (download_of r) ≤ longest_elapsed)
+waited_of c is t None runs = tt
+waited_of c is t (Some r) runs = let bits = bit_ms_short c is t (download_of r) runs in let short = runs_short c is t (download_of r) runs in omega (arith, bits, short)
+
 -- where it has no cause to ask, the milliseconds can be counted in which it asks for nothing and nothing begins
 pub idle_ready : (c : Case) → IsCase c → (n from : ℕ) (p : Player) (b : Body) → Now c n from p b → IsStill c p → CanIdle c.film c.setup c.ahead b
 idle_ready c is n from p b now still =
@@ -249,6 +253,7 @@ rest_ready c is n from p b low now timed some still =
       instant = omega (arith, here, low);
       runs = rest_of c is b.t b.download s.running (subst IsOpen (sym now.same) some) timed;
       range = range_ready c from b s;
+      waited = waited_of c is b.t b.download s.running;
     }
 
 -- so many milliseconds can pass at once for it that do not take play past the end of what is loaded

@@ -1,9 +1,12 @@
 -- Tests for abandonment that keep a download: where it is on the lowest rung or none is made, and where its rate is enough for its rung.
-use Rattle.std.proofs.Common.{◌≡◌, ◌∙◌, ℕ, zero, suc, ◌+◌, ◌-◌, ◌*◌, ◌<◌, ◌≤◌, ⊎_elim, Bool, true, false, ◌&&◌, leb, ltb, Some, None, sym, ap, ap₂, add-one, lt-ltb, le-ltb, arith}
+use Rattle.std.proofs.Common.{◌≡◌, ◌∙◌, ℕ, zero, suc, ◌+◌, ◌-◌, ◌*◌, ◌/◌, ◌<◌, ◌≤◌, ⊎_elim, Bool, true, false, ◌&&◌, leb, ltb, Some, None, sym, ap, ap₂, subst, mul-le-mul_right, add-one, lt-ltb, le-ltb, arith}
 use Rattle.std.specs.Option.{option_map_or}
 use Rattle.std.proofs.lemmas.Grind.{div_ceil_times}
 use Rattle.std.proofs.lemmas.Bool.{and_left, and_right, cond-true, cond-false, cases_Bool, cases_lt, le-leb, true≢false}
+use Rattle.std.proofs.Math.Nat.{div-mul-le_self}
+use Rattle.std.proofs.lemmas.Nat.{le-div}
 use Rattle.lab_model.specs.Film.{Film, bitrate_of, rungs_of, size_of}
+use Rattle.lab_model.specs.Rates.{rate_of}
 use Rattle.lab_model.specs.Ladder.{greatest_rung}
 use Rattle.lab_model.proofs.Rungs.{greatest_more}
 use Rattle.network_clock.specs.declared.job.Job.{Job}
@@ -65,6 +68,12 @@ module _ (f : Film) (segment rung : ℕ) (p : Progress) where
   pub enough_reaches : (q : ℕ) → q < rungs_of f → IsEnough f q (rate_now p) → q ≤ target_of f p
   enough_reaches q low enough = greatest_least (λ r. leb (10000 * bitrate_of f r) (9 * rate_now p)) q (rungs_of f) (le-leb _ _ enough) low
 
+  -- nor is a download given up that is not late
+  pub on_time_kept : is_late f segment rung p ≡ false → abandonment f segment rung p ≡ None
+  on_time_kept off =
+      cond-false ((is_due p && is_late f segment rung p) && is_better f segment rung p) (Some (target_of f p)) None
+      (and_left (is_due p && is_late f segment rung p) (is_better f segment rung p) (and_right (is_due p) (is_late f segment rung p) off))
+
   -- a download that isn't looked at is kept
   pub early_kept : is_due_ms p.elapsed_ms ≡ false → abandonment f segment rung p ≡ None
   early_kept early = not_due (and_left (is_due_ms p.elapsed_ms) (leb 1 p.bit_ms) early)
@@ -72,6 +81,42 @@ module _ (f : Film) (segment rung : ℕ) (p : Progress) where
   -- nor one of which no millisecond was spent on bits
   pub waiting_kept : p.bit_ms ≡ 0 → abandonment f segment rung p ≡ None
   waiting_kept none = not_due (and_right (is_due_ms p.elapsed_ms) (leb 1 p.bit_ms) (ap (leb 1) none))
+
+-- no fewer bits in no more milliseconds have no lower rate
+rate_least : (got more ms most : ℕ) → got ≤ more → 1 ≤ ms → ms ≤ most → 1000 * got / most ≤ rate_of more ms
+rate_least got more ms most low some few =
+    let rate = 1000 * got / most in
+    let whole = div-mul-le_self (1000 * got) most in
+    let fewer : ms * rate ≤ most * rate = mul-le-mul_right rate few in
+    let there : rate ≤ 1000 * more / ms = le-div rate (1000 * more) ms some (omega (arith, whole, fewer, low)) in
+    omega (arith, there)
+
+-- what is spared at a rate is enough for what is left, and so it is at a greater one
+spared_more : (spent k later left less low rate : ℕ) → 5000 * left < k * low → later ≤ spent → less ≤ left → low ≤ rate → later * rate + 5000 * less ≤ (spent + k) * rate
+spared_more spent k later left less low rate enough early fewer more =
+    let one : later * rate ≤ spent * rate = mul-le-mul_right rate early in
+    let two : low * k ≤ rate * k = mul-le-mul_right k more in
+    omega (arith, one, two, enough, fewer)
+
+spared_from : (all spent later left less low rate : ℕ) → 5000 * left < (all - spent) * low → later ≤ spent → less ≤ left → low ≤ rate → later * rate + 5000 * less ≤ all * rate
+spared_from all spent later left less low rate enough early fewer more =
+    ⊎_elim
+    (λ (past : all < spent). let none : all - spent ≡ 0 = omega (arith, past) in let zero_left = ap (λ n. n * low) none in absurd (omega (arith, enough, zero_left)))
+    (λ (within : spent ≤ all). let whole : spent + (all - spent) ≡ all = omega (arith, within) in subst (λ n. later * rate + 5000 * less ≤ n * rate) whole (spared_more spent (all - spent) later left less low rate enough early fewer more))
+    (cases_lt all spent)
+
+-- a download is not late where at the end of so many milliseconds the bits that have come would keep it from that
+pub on_time_within : (f : Film) (segment rung got bit_ms elapsed : ℕ) (p : Progress) → 5000 * (size_of f segment rung - got) < (9 * f.seg_ms - 5 * elapsed) * (1000 * got / bit_ms) → got ≤ p.got → p.bit_ms ≤ bit_ms → p.elapsed_ms ≤ elapsed
+    → abandonment f segment rung p ≡ None
+on_time_within f segment rung got bit_ms elapsed p enough more few soon =
+    ⊎_elim
+    (λ (begun : 0 < p.bit_ms).
+    let rate = rate_now p in
+    let low = rate_least got p.got p.bit_ms bit_ms more (omega (arith, begun)) few in
+    let spared = spared_from (9 * f.seg_ms) (5 * elapsed) (5 * p.elapsed_ms) (size_of f segment rung - got) (left_of f segment rung p) (1000 * got / bit_ms) rate enough (omega (arith, soon)) (omega (arith, more)) low in
+    on_time_kept f segment rung p (le-ltb (9 * f.seg_ms * rate) (5 * (p.elapsed_ms * rate + 1000 * left_of f segment rung p)) (omega (arith, spared))))
+    (λ (none : p.bit_ms ≤ 0). waiting_kept f segment rung p (omega (arith, none)))
+    (cases_lt 0 p.bit_ms)
 
 -- a download that runs has no fewer bits later, and one millisecond on bits more for each at most
 module _ (c : Case) (is : IsCase c) (t m : ℕ) (d : Download) (runs : Runs c t d) (later : t ≤ m) where
@@ -105,7 +150,7 @@ running_is c t d runs = ap₂ (λ j o. record d { job = j; first = o }) runs.job
 
 -- where no test gives a download up for so many milliseconds, whatever bits come, and where none is due for some after them, it is kept
 pub kept_until : (c : Case) → IsCase c → (t kept due : ℕ) (d : Download) → Runs c t d
-    → ((p : Progress) → got_of c.film d ≤ p.got → p.bit_ms ≤ bit_ms_of t d + kept → 1 ≤ kept → abandonment c.film d.segment d.rung p ≡ None)
+    → ((p : Progress) → got_of c.film d ≤ p.got → p.bit_ms ≤ bit_ms_of t d + kept → p.elapsed_ms ≤ t - d.asked + kept → 1 ≤ kept → abandonment c.film d.segment d.rung p ≡ None)
     → ((n : ℕ) → (t + kept) - d.asked < n → n < ((t + kept) - d.asked) + due → is_due_ms n ≡ false)
     → (m : ℕ) → t < m → m < t + (kept + due) → IsKeptAt c m d
 kept_until c is t kept due d runs keeps early m after before =
@@ -116,5 +161,5 @@ kept_until c is t kept due d runs keeps early m after before =
     (λ (soon : m ≤ t + kept).
     let got = got_later c is t m d runs (omega (arith, after)) in
     let bits = bit_ms_later c is t m d runs (omega (arith, after)) in
-    keeps p got (omega (arith, bits, soon, after)) (omega (arith, soon, after)))
+    keeps p got (omega (arith, bits, soon, after)) (omega (arith, soon, after, asked)) (omega (arith, soon, after)))
     (cases_lt (t + kept) m)

@@ -15,7 +15,7 @@ use Rattle.player_core.specs.Limits.{latest_answer, latest_ms, longest_elapsed, 
 use Rattle.player_core.specs.Course.{case_on}
 use Rattle.player_core.specs.State.{Case, Download, Mode, Player, starting, playing, seeking, ended}
 use Rattle.player_core.specs.Available.{available_at}
-use Rattle.player_core.specs.Parts.{gone_on, instant, is_ended, is_playing}
+use Rattle.player_core.specs.Parts.{bit_ms_of, gone_on, instant, is_ended, is_playing}
 use Rattle.player_core.specs.Session.{ends_at, player_after}
 use Rattle.player_core.specs.Sound.{IsCase}
 use Rattle.player_core.specs.Ready.{CanLoad}
@@ -163,6 +163,7 @@ pub record CanRest (f : Film) (set : Setup) (ahead : ℕ) (b : Body) : Type 0 wh
   pub instant : b.t < latest_ms
   pub runs : IfSome b.download (λ r. (r.asked ≤ b.t) × (b.t < r.done) × (r.done ≤ r.asked + longest_elapsed))
   pub range : IfSome b.download (IsRunningOf f)
+  pub waited : IfSome b.download (λ r. bit_ms_of b.t (download_of r) ≤ longest_elapsed)
 
 -- so many milliseconds of the mode can pass at once
 pub record CanMove (b : Body) (ms : ℕ) : Type 0 where

@@ -17,7 +17,7 @@ ghost use Rattle.player_core.specs.Seen.{CanTake, IsRunningOf, SameRequest, down
 ghost use Rattle.player_core.specs.Sound.{IsCase, Runs};
 
 use crate::course::Course;
-use crate::limits::{JUDGED_EACH_MS, JUDGED_FROM_MS};
+use crate::limits::{JUDGED_EACH_MS, JUDGED_FROM_MS, LATEST_MS};
 use abandonment::{Progress, abandon_to};
 use lab_model::{Manifest, Period, Sample};
 use network_clock::Job;
@@ -131,22 +131,96 @@ impl Running {
         rung
     }
 
-    /// The milliseconds after an instant, before the arrival, in which no test gives the download up, whatever bits come.
-    fn kept_ms(&self, m: &Manifest, t: u64) -> u64
+    /// The milliseconds after an instant in which the bits that have come are enough for a rung that holds the download.
+    fn held_ms(&self, m: &Manifest, t: u64) -> u64
         requires segment { self.now.segment < segments_of m.now }
         requires rung { self.now.rung < rungs_of m.now }
-        requires running { t < self.now.done }
-        ensures limit { t + result ≤ self.now.done }
         ensures keeps { (p : Progress) → got_of m.now (download_of self.now) ≤ p.got
             → p.bit_ms ≤ bit_ms_of t (download_of self.now) + result → 1 ≤ result
             → abandonment m.now self.now.segment self.now.rung p ≡ None }
     {
         let rung = self.holding_rung(m);
         if rung == 0 {
-            return self.done - t;
+            return LATEST_MS;
         }
         let enough = enough_ms(m, rung, self.got(m));
-        enough.saturating_sub(self.bit_ms(t)).min(self.done - t)
+        enough.saturating_sub(self.bit_ms(t))
+    }
+
+    /// The milliseconds after an instant for which the bits that have come would keep the download from being late if rates were not
+    /// rounded down.
+    fn hopeful_ms(&self, m: &Manifest, t: u64) -> u64
+        requires segment { self.now.segment < segments_of m.now }
+        requires rung { self.now.rung < rungs_of m.now }
+        requires asked { self.now.asked ≤ t }
+        requires short { t ≤ self.now.asked + longest_elapsed }
+        ensures limit { result ≤ longest_elapsed }
+    {
+        let size = m.size(self.segment, self.rung) as u64;
+        let got = self.got(m) as u64;
+        let spare = (9 * m.seg_ms() as u64).saturating_sub(5 * (t - self.asked));
+        let lost = 5 * (size - got) as u128 * self.bit_ms(t) as u128;
+        let ms = ((spare * got) as u128).saturating_sub(lost) / (5 * size) as u128;
+        ms as u64
+    }
+
+    /// Whether so many milliseconds after an instant the bits that have come would still keep the download from being late.
+    fn stays_on_time(&self, m: &Manifest, t: u64, ms: u64) -> bool
+        requires segment { self.now.segment < segments_of m.now }
+        requires rung { self.now.rung < rungs_of m.now }
+        requires asked { self.now.asked ≤ t }
+        requires short { t ≤ self.now.asked + longest_elapsed }
+        requires waited { bit_ms_of t (download_of self.now) ≤ longest_elapsed }
+        requires limit { ms ≤ longest_elapsed }
+        ensures keeps { result ≡ true → (p : Progress)
+            → got_of m.now (download_of self.now) ≤ p.got
+            → p.bit_ms ≤ bit_ms_of t (download_of self.now) + ms
+            → p.elapsed_ms ≤ t - self.now.asked + ms
+            → abandonment m.now self.now.segment self.now.rung p ≡ None }
+    {
+        let got = self.got(m);
+        let left = (m.size(self.segment, self.rung) - got) as u64;
+        let spare = (9 * m.seg_ms() as u64).saturating_sub(5 * (t - self.asked + ms));
+        let rate = 1000 * got as u64 / (self.bit_ms(t) + ms).max(1);
+        5000 * left < spare * rate
+    }
+
+    /// The milliseconds after an instant in which the bits that have come keep the download from being late.
+    fn on_time_ms(&self, m: &Manifest, t: u64) -> u64
+        requires segment { self.now.segment < segments_of m.now }
+        requires rung { self.now.rung < rungs_of m.now }
+        requires asked { self.now.asked ≤ t }
+        requires short { t ≤ self.now.asked + longest_elapsed }
+        requires waited { bit_ms_of t (download_of self.now) ≤ longest_elapsed }
+        ensures keeps { (p : Progress) → got_of m.now (download_of self.now) ≤ p.got
+            → p.bit_ms ≤ bit_ms_of t (download_of self.now) + result
+            → p.elapsed_ms ≤ t - self.now.asked + result → 1 ≤ result
+            → abandonment m.now self.now.segment self.now.rung p ≡ None }
+    {
+        let ms = self.hopeful_ms(m, t);
+        if self.stays_on_time(m, t, ms) { ms } else { 0 }
+    }
+
+    /// The milliseconds after an instant, before the arrival, in which no test gives the download up, whatever bits come.
+    fn kept_ms(&self, m: &Manifest, t: u64) -> u64
+        requires segment { self.now.segment < segments_of m.now }
+        requires rung { self.now.rung < rungs_of m.now }
+        requires asked { self.now.asked ≤ t }
+        requires short { t ≤ self.now.asked + longest_elapsed }
+        requires waited { bit_ms_of t (download_of self.now) ≤ longest_elapsed }
+        requires running { t < self.now.done }
+        ensures limit { t + result ≤ self.now.done }
+        ensures keeps { (p : Progress) → got_of m.now (download_of self.now) ≤ p.got
+            → p.bit_ms ≤ bit_ms_of t (download_of self.now) + result
+            → p.elapsed_ms ≤ t - self.now.asked + result → 1 ≤ result
+            → abandonment m.now self.now.segment self.now.rung p ≡ None }
+    {
+        let left = self.done - t;
+        let held = self.held_ms(m, t);
+        if held > 0 {
+            return held.min(left);
+        }
+        self.on_time_ms(m, t).min(left)
     }
 
     /// The milliseconds from an instant to the arrival, or to the next instant at which the download may be given up.
@@ -155,6 +229,7 @@ impl Running {
         requires asked { self.now.asked ≤ t }
         requires running { t < self.now.done }
         requires short { self.now.done ≤ self.now.asked + longest_elapsed }
+        requires waited { bit_ms_of t (download_of self.now) ≤ longest_elapsed }
         ensures some { 1 ≤ result }
         ensures arrives { t + result ≤ self.now.done }
         ensures keeps { course.now.scene.now.setup.abandon ≡ true → (kind : RuleKind)
