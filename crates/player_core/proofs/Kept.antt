@@ -1,4 +1,4 @@
--- Tests for abandonment that keep a download: where it is on the lowest rung or none is made, and where its rate is enough for its rung.
+-- Tests for abandonment that keep a download: on the lowest rung, where none is due, where no target is smaller than what is left, and where it is not late.
 use Rattle.std.proofs.Common.{◌≡◌, ◌∙◌, ℕ, zero, suc, ◌+◌, ◌-◌, ◌*◌, ◌/◌, ◌<◌, ◌≤◌, ⊎_elim, Bool, true, false, ◌&&◌, leb, ltb, Some, None, sym, ap, ap₂, subst, mul-le-mul_right, add-one, lt-ltb, le-ltb, arith}
 use Rattle.std.specs.Option.{option_map_or}
 use Rattle.std.proofs.lemmas.Grind.{div_ceil_times}
