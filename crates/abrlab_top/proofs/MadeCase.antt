@@ -84,7 +84,7 @@ plan_put score z y labels old new r e h x =
 
 -- the plan's line is the one of the task
 plan_said : (g : Task) (p : Plan) (budget : ℕ) (score : ℤ) → score ≡ p.score → IsPlanOf exact g (frontier g) budget p p.score → demo_plan score p.labels ≡ demo_plan (certificate_on None g).score (labels_on None g)
-plan_said g p budget score e h = ap (λ s. demo_plan s p.labels) e ∙ ap (λ (c : CertificateParts). demo_plan c.score p.labels) h.parts ∙ ap (demo_plan (certificate_on None g).score) h.labels
+plan_said g p budget score e h = ap (λ s. demo_plan s p.labels) e ∙ ap (λ (c : CertificateParts). demo_plan c.score p.labels) h.parts ∙ ap (demo_plan (certificate_on None g).score) h.list.labels
 
 -- the line of the plan did not go out
 pub plan_cut : (g : Task) (p : Plan) (budget : ℕ) (score : ℤ) (old new : Seen) (r q : Result (Unit {0}) PutErr) (e : PutErr) → score ≡ p.score → IsPlanOf exact g (frontier g) budget p p.score → r ≡ Err e → IsErrAnd q (λ y. y ≡ e)

@@ -1,5 +1,5 @@
 -- What `plan` answers, from what the planner gave.
-use Rattle.std.proofs.Common.{◌≡◌, ◌∙◌, ◌-◌, ◌≤◌, ◌==◌, ℕ, suc, Bool, List, [], Option, Some, None, IfSome, IfOk, Ok, Err, Result, if◌then◌else◌, ap, sym, refl, subst, arith}
+use Rattle.std.proofs.Common.{◌≡◌, ◌∙◌, ◌-◌, ◌≤◌, ◌==◌, ℕ, suc, Bool, true, false, List, [], Option, Some, None, IfSome, IfOk, Ok, Err, Result, if◌then◌else◌, ap, sym, refl, subst, arith}
 use Rattle.std.specs.Prelude.{ℤ, nat_lt}
 use Rattle.std.specs.List.{slice_get}
 use Rattle.std.proofs.lemmas.Bool.{le-ltb, lt-ltb}
@@ -12,14 +12,17 @@ use Rattle.lab_inputs.specs.Inputs.{InputValues}
 use Rattle.lab_inputs.specs.Settings.{settled}
 use Rattle.labels.specs.declared.label.Grid.{Grid}
 use Rattle.labels.specs.declared.plans.Plan.{Plan}
+use Rattle.frontier_planner.specs.declared.plans.BoundedList.{BoundedList}
 use Rattle.frontier_planner.specs.declared.plans.CoarsePlan.{CoarsePlan}
 use Rattle.frontier_planner.specs.declared.plans.PlanErr.{PlanErr}
 use Rattle.frontier_planner.specs.declared.plans.PlanErr.TheVariants as planned
 use Rattle.labels.specs.Grid.{IsGrid, exact}
 use Rattle.player_core.specs.Scene.{Task, task_of}
 use Rattle.labels.specs.Parts.{CertificateParts, plan_parts}
-use Rattle.frontier_planner.specs.Planned.{CoarseAnswer, ExactAnswer, IsPlanOf}
-use Rattle.labels.specs.Read.{SpentAt, labels_before, labels_in}
+use Rattle.frontier_planner.specs.Planned.{CoarseAnswer, ExactAnswer, IsListOf, IsPlanOf, ListAnswer}
+use Rattle.labels.specs.Frontier.{frontier}
+use Rattle.labels.specs.Grown.{grown}
+use Rattle.labels.specs.Read.{SpentAt, labels_before, labels_in, list_of_plan}
 use Rattle.labels.proofs.Counted.{before_beyond}
 use Rattle.labels.proofs.Rounds.{exact_fits}
 use Rattle.certificate_text.specs.Form.{IsGapCertificate}
@@ -28,7 +31,7 @@ use Rattle.abrlab_top.specs.declared.ending.Ending.TheVariants as ending
 use Rattle.abrlab_top.specs.Ahead.{ahead_of}
 use Rattle.abrlab_top.specs.Answer.{printed}
 use Rattle.abrlab_top.specs.Ending.{after_plan}
-use Rattle.abrlab_top.specs.Plan.{IsPlanned, PlanAsked, bound_on, chains_on, labels_on, parts_text, plan, plan_on, planned_on, spent_on, steps_of, task_on, unless_spent}
+use Rattle.abrlab_top.specs.Plan.{IsListed, IsPlanned, PlanAsked, bound_on, certificate_lines, certificate_on, chains_on, labels_on, list_lines, parts_text, plan, plan_on, planned_on, spent_on, steps_of, task_on, unless_spent}
 use Rattle.abrlab_top.specs.Stages.{Writes, at_the_end}
 use Rattle.abrlab_top.proofs.Finds.{found_from, none_from}
 use Rattle.abrlab_top.proofs.Whole.{wanting}
@@ -49,6 +52,11 @@ planned_by None g budget (Err planned.Memory) coarse exactly own = tt
 planned_by (Some d) g budget (Ok c) coarse exactly own = coarse
 planned_by (Some d) g budget (Err (planned.BudgetSpent s)) coarse exactly own = coarse
 planned_by (Some d) g budget (Err planned.Memory) coarse exactly own = tt
+
+-- and of a list
+pub listed_by : (grid : Option Grid) (g : Task) (budget : ℕ) (r : Result BoundedList PlanErr) → ListAnswer (steps_of grid) g (grown (steps_of grid) g) budget r → (steps_of grid ≡ exact → ListAnswer exact g (frontier g) budget r) → IsListed grid g budget r
+listed_by None g budget r coarse exactly = exactly refl
+listed_by (Some d) g budget r coarse exactly = coarse
 
 -- ---- the budget
 
@@ -82,42 +90,62 @@ unfolding plan
 plan_stopped o i n why e h = rw (e, h) refl
 
 -- what `plan` answers on the network
-pub one_planned : (o : PlanAsked) (i : InputValues) (n : Text × List Period) → slice_get i.networks 0 ≡ Some n → settled i ≡ Ok i → plan o i ≡ planned_on o (task_on i n.1)
+one_planned : (o : PlanAsked) (i : InputValues) (n : Text × List Period) → slice_get i.networks 0 ≡ Some n → settled i ≡ Ok i → plan o i ≡ planned_on o (task_on i n.1)
 unfolding plan
 one_planned o i n e h = rw (e, h) refl
 
--- the text of the plan of a task
-said : (o : PlanAsked) (g : Task) (c : CoarsePlan) → IsPlanOf (steps_of o.grid) g (chains_on o.grid g) o.budget c.plan c.bound
-    → planned_on o g ≡ Ok (printed (parts_text o.grid o.as_certificate (plan_parts g.film c.plan) c.bound c.plan.labels))
-said o g c of =
+-- and by the clock of the network
+pub planned_there : (o : PlanAsked) (i : InputValues) (n : Text × List Period) (clock : List Period) → slice_get i.networks 0 ≡ Some n → settled i ≡ Ok i → clock ≡ n.1 → plan o i ≡ planned_on o (task_on i clock)
+planned_there o i n clock e h p = one_planned o i n e h ∙ ap (λ (periods : List Period). planned_on o (task_on i periods)) (sym p)
+
+-- the text of the list of a task
+pub list_said : (o : PlanAsked) (g : Task) (b : BoundedList) → o.as_certificate ≡ false → IsListOf (steps_of o.grid) g (chains_on o.grid g) o.budget b → planned_on o g ≡ Ok (printed (list_lines o.grid b.score b.bound b.labels b.rungs.items))
+list_said o g b lines of =
     let never = never_spent o.grid g o.budget (let most = of.within in let counted = of.labels in omega (arith, most, counted)) in
-    let text = ap (λ (q : CertificateParts). parts_text o.grid o.as_certificate q (bound_on o.grid g) (labels_on o.grid g)) (sym of.parts)
-    ∙ ap (λ (b : ℤ). parts_text o.grid o.as_certificate (plan_parts g.film c.plan) b (labels_on o.grid g)) (sym of.bound)
-    ∙ ap (parts_text o.grid o.as_certificate (plan_parts g.film c.plan) c.bound) (sym of.labels) in
+    let list = list_of_plan (steps_of o.grid) g (chains_on o.grid g) in
+    let text = ap (λ (whole : Bool). parts_text o.grid whole (certificate_on o.grid g) (bound_on o.grid g) (labels_on o.grid g)) lines
+    ∙ ap (λ (v : ℤ). list_lines o.grid v (bound_on o.grid g) (labels_on o.grid g) list) (sym of.score)
+    ∙ ap (λ (v : ℤ). list_lines o.grid b.score v (labels_on o.grid g) list) (sym of.bound)
+    ∙ ap (λ (n : ℕ). list_lines o.grid b.score b.bound n list) (sym of.labels)
+    ∙ ap (list_lines o.grid b.score b.bound b.labels) (sym of.rungs) in
     ap (unless_spent o g) never ∙ ap (λ t. Ok (printed t)) text
 
--- the plan has a certificate's text, and is what the command answers
-pub planned_whole : (o : PlanAsked) (i : InputValues) (n : Text × List Period) (film : Film) (g : Task) (c : CoarsePlan) → slice_get i.networks 0 ≡ Some n → settled i ≡ Ok i → g ≡ task_on i n.1 → film ≡ i.film
-    → IsPlanOf (steps_of o.grid) g (chains_on o.grid g) o.budget c.plan c.bound → IsGapCertificate (plan_gap film c) × (plan o i ≡ Ok (printed (parts_text o.grid o.as_certificate (plan_parts film c.plan) c.bound c.plan.labels)))
-planned_whole o i n film g c e h same f of =
-    let own : IsPlanOf (steps_of o.grid) (task_on i n.1) (chains_on o.grid (task_on i n.1)) o.budget c.plan c.bound = subst (λ t. IsPlanOf (steps_of o.grid) t (chains_on o.grid t) o.budget c.plan c.bound) same of in
-    rw f (record { bound = own.short; inner = own.form }, one_planned o i n e h ∙ said o (task_on i n.1) c own)
+-- the text of the certificate of a task
+pub certificate_said : (o : PlanAsked) (g : Task) (c : CoarsePlan) → o.as_certificate ≡ true → IsPlanOf (steps_of o.grid) g (chains_on o.grid g) o.budget c.plan c.bound
+    → planned_on o g ≡ Ok (printed (certificate_lines o.grid (plan_parts g.film c.plan) c.bound))
+certificate_said o g c whole of =
+    let never = never_spent o.grid g o.budget (let most = of.list.within in let counted = of.list.labels in omega (arith, most, counted)) in
+    let text = ap (λ (w : Bool). parts_text o.grid w (certificate_on o.grid g) (bound_on o.grid g) (labels_on o.grid g)) whole
+    ∙ ap (λ (q : CertificateParts). certificate_lines o.grid q (bound_on o.grid g)) (sym of.parts)
+    ∙ ap (certificate_lines o.grid (plan_parts g.film c.plan)) (sym of.list.bound) in
+    ap (unless_spent o g) never ∙ ap (λ t. Ok (printed t)) text
+
+-- the plan of a task has a certificate's text
+pub plan_has_form : (o : PlanAsked) (g : Task) (c : CoarsePlan) → IsPlanOf (steps_of o.grid) g (chains_on o.grid g) o.budget c.plan c.bound → IsGapCertificate (plan_gap g.film c)
+plan_has_form o g c of = record { bound = of.short; inner = of.form }
 
 -- the chains spend the budget
-planned_spent : (o : PlanAsked) (i : InputValues) (n : Text × List Period) (g : Task) (s : ℕ) → slice_get i.networks 0 ≡ Some n → settled i ≡ Ok i → g ≡ task_on i n.1 → SpentAt g (chains_on o.grid g) o.budget s → plan o i ≡ Err (ending.Spent None s)
-planned_spent o i n g s e h same at =
-    one_planned o i n e h ∙ ap (unless_spent o (task_on i n.1)) (spent_at o.grid (task_on i n.1) o.budget s (subst (λ t. SpentAt t (chains_on o.grid t) o.budget s) same at))
+task_spent : (o : PlanAsked) (g : Task) (s : ℕ) → SpentAt g (chains_on o.grid g) o.budget s → planned_on o g ≡ Err (ending.Spent None s)
+task_spent o g s at = ap (unless_spent o g) (spent_at o.grid g o.budget s at)
 
 -- the task is the one on the network
 pub task_is : (i : InputValues) (periods clock : List Period) (film : Film) (setup : Setup) (ahead : ℕ) → film ≡ i.film → clock ≡ periods → setup ≡ i.setup → ahead ≡ ahead_of i.live → task_of film clock setup ahead ≡ task_on i periods
 task_is i periods clock film setup ahead f p q a = rw (f, p, q, a) refl
 
 -- planning failed
-pub plan_failed : (o : PlanAsked) (i : InputValues) (n : Text × List Period) (g : Task) (old : Seen) (r : Result CoarsePlan PlanErr) (e : PlanErr) → slice_get i.networks 0 ≡ Some n → settled i ≡ Ok i → g ≡ task_on i n.1 → r ≡ Err e → IsPlanned o.grid g o.budget r
-    → Writes at_the_end (plan o i) old (after_plan e) old
-plan_failed o i n g old r (planned.BudgetSpent s) e h same k x = let y : SpentAt g (chains_on o.grid g) o.budget s = rw k at x in (planned_spent o i n g s e h same y, refl)
-plan_failed o i n g old r planned.Memory e h same k x = wanting at_the_end (plan o i) old
+pub plan_failed : (o : PlanAsked) (g : Task) (old : Seen) (r : Result CoarsePlan PlanErr) (e : PlanErr) → r ≡ Err e → IsPlanned o.grid g o.budget r → Writes at_the_end (planned_on o g) old (after_plan e) old
+plan_failed o g old r (planned.BudgetSpent s) k x = let y : SpentAt g (chains_on o.grid g) o.budget s = rw k at x in (task_spent o g s y, refl)
+plan_failed o g old r planned.Memory k x = wanting at_the_end (planned_on o g) old
+
+-- finding the list failed
+pub list_failed : (o : PlanAsked) (g : Task) (old : Seen) (r : Result BoundedList PlanErr) (e : PlanErr) → r ≡ Err e → IsListed o.grid g o.budget r → Writes at_the_end (planned_on o g) old (after_plan e) old
+list_failed o g old r (planned.BudgetSpent s) k x = let y : SpentAt g (chains_on o.grid g) o.budget s = rw k at x in (task_spent o g s y, refl)
+list_failed o g old r planned.Memory k x = wanting at_the_end (planned_on o g) old
 
 -- planning gave a plan
 pub plan_given : (o : PlanAsked) (g : Task) (r : Result CoarsePlan PlanErr) (c : CoarsePlan) → r ≡ Ok c → IsPlanned o.grid g o.budget r → IsPlanOf (steps_of o.grid) g (chains_on o.grid g) o.budget c.plan c.bound
 plan_given o g r c e x = rw e at x
+
+-- and a list
+pub list_given : (o : PlanAsked) (g : Task) (r : Result BoundedList PlanErr) (b : BoundedList) → r ≡ Ok b → IsListed o.grid g o.budget r → IsListOf (steps_of o.grid) g (chains_on o.grid g) o.budget b
+list_given o g r b e x = rw e at x

@@ -1,5 +1,5 @@
 -- What `compare --regret` plays, plans and writes, network by network and rule by rule.
-use Rattle.std.proofs.Common.{◌≡◌, ◌∙◌, ◌+◌, ◌<◌, ◌≤◌, ◌++◌, ◌∷◌, [], ℕ, List, Option, Some, None, Result, Ok, Err, Vec, length, map, take, drop, get_or, string_bytes, ap, sym, refl, subst, arith, add-one, drop-cons, take-suc}
+use Rattle.std.proofs.Common.{◌≡◌, ◌∙◌, ◌+◌, false, ◌<◌, ◌≤◌, ◌++◌, ◌∷◌, [], ℕ, List, Option, Some, None, Result, Ok, Err, Vec, length, map, take, drop, get_or, string_bytes, ap, sym, refl, subst, arith, add-one, drop-cons, take-suc}
 use Rattle.std.specs.Prelude.{ℤ, pos, option_map, slice_index_or}
 use Rattle.std.specs.Global.{Global}
 use Rattle.std.specs.List.{All, flat_map}
@@ -25,13 +25,13 @@ use Rattle.lab_inputs.specs.Settings.{settled}
 use Rattle.lab_inputs.specs.Stages.{network_of}
 use Rattle.player_core.specs.Scene.{IsTask, Task, task_of}
 use Rattle.labels.specs.declared.label.Grid.{Grid}
-use Rattle.frontier_planner.specs.declared.plans.CoarsePlan.{CoarsePlan}
+use Rattle.frontier_planner.specs.declared.plans.BoundedList.{BoundedList}
 use Rattle.frontier_planner.specs.declared.plans.PlanErr.TheVariants as planned
 use Rattle.labels.specs.Frontier.{frontier}
 use Rattle.labels.specs.Grid.{exact}
 use Rattle.labels.specs.Parts.{CertificateParts}
 use Rattle.labels.specs.Read.{SpentAt}
-use Rattle.frontier_planner.specs.Planned.{IsPlanOf}
+use Rattle.frontier_planner.specs.Planned.{IsListOf}
 use Rattle.session_report.specs.Regret.{AreScores, Scores, IsTotalOf, sums_line, top_line, total_of}
 use Rattle.session_report.specs.declared.regret.Top.{Top}
 use Rattle.session_report.specs.declared.regret.Top.TheVariants as top
@@ -43,7 +43,7 @@ use Rattle.abrlab_top.specs.declared.regret.Scored.{Scored}
 use Rattle.abrlab_top.specs.Answer.{printed}
 use Rattle.abrlab_top.specs.Ahead.{ahead_of}
 use Rattle.abrlab_top.specs.Choice.{AreBounds, IsBound}
-use Rattle.abrlab_top.specs.Plan.{IsPlanned, task_on}
+use Rattle.abrlab_top.specs.Plan.{IsListed, PlanAsked, task_on}
 use Rattle.abrlab_top.specs.Regret.{AreCompared, AreRanked, AreScored, AreTops, CanRank, IsTop, RankingValue, SpentBy, Unspent, best_on, first_spent, near_regret, network_rows, networks_rows, ranked_row, ranked_text, regret, regret_text, rows_of, score_on, scored_on, scores_at, scores_over, seen_scored, spent_there, sums_row, tops_of, unless_any_spent}
 use Rattle.abrlab_top.specs.Stages.{Writes, at_the_end}
 use Rattle.abrlab_top.proofs.Behind.{are_scores, best_bounds}
@@ -70,25 +70,19 @@ map_more f xs k x lt e = ap (map f) (rw (add-one, take-suc xs k x lt, ← e) ref
 pub task_seen : (i seen : InputValues) (clock : List Period) (film : Film) (setup : Setup) (ahead : ℕ) → seen ≡ i → film ≡ seen.film → setup ≡ seen.setup → ahead ≡ ahead_of seen.live → task_of film clock setup ahead ≡ task_on i clock
 task_seen i seen clock film setup ahead e f p a = task_is seen clock clock film setup ahead f refl p a ∙ ap (λ (v : InputValues). task_on v clock) e
 
--- the plan gives the best score, and no budget is spent
-pub best_planned : (i : InputValues) (periods : List Period) (budget place limit : ℕ) (grid : Option Grid) (g : Task) (c : CoarsePlan) → grid ≡ None → limit ≡ budget → g ≡ task_on i periods → IsPlanned grid g limit (Ok c)
-    → (spent_there i (Some budget) place periods ≡ None) × (c.plan.score ≡ best_on i periods)
-best_planned i periods budget place limit grid g c none same on of =
-    let exactly : IsPlanned None g limit (Ok c) = subst (λ (d : Option Grid). IsPlanned d g limit (Ok c)) none of in
-    let plan : IsPlanOf exact (task_on i periods) (frontier (task_on i periods)) budget c.plan c.bound =
-    subst (λ b. IsPlanOf exact (task_on i periods) (frontier (task_on i periods)) b c.plan c.bound) same (subst (λ t. IsPlanOf exact t (frontier t) limit c.plan c.bound) on exactly)
-    in
-    let few = never_spent None (task_on i periods) budget (let most = plan.within in let counted = plan.labels in omega (arith, most, counted)) in
-    (ap (option_map (λ segment. (place, segment))) few, ap (λ (p : CertificateParts). p.score) plan.parts)
+-- the list has the best score, and no budget is spent
+pub best_listed : (i : InputValues) (periods : List Period) (budget place : ℕ) (o : PlanAsked) (b : BoundedList) → o ≡ record { grid = None; budget = budget; as_certificate = false } → IsListed o.grid (task_on i periods) o.budget (Ok b)
+    → (spent_there i (Some budget) place periods ≡ None) × (b.score ≡ best_on i periods)
+best_listed i periods budget place o b asked of =
+    let list : IsListOf exact (task_on i periods) (frontier (task_on i periods)) budget b = subst (λ (a : PlanAsked). IsListed a.grid (task_on i periods) a.budget (Ok b)) asked of in
+    let few = never_spent None (task_on i periods) budget (let most = list.within in let counted = list.labels in omega (arith, most, counted)) in
+    (ap (option_map (λ segment. (place, segment))) few, list.score)
 
 -- the budget is spent there
-pub best_spent : (i : InputValues) (periods : List Period) (budget place limit segment : ℕ) (grid : Option Grid) (g : Task) → grid ≡ None → limit ≡ budget → g ≡ task_on i periods → IsPlanned grid g limit (Err (planned.BudgetSpent segment))
+pub best_spent : (i : InputValues) (periods : List Period) (budget place segment : ℕ) (o : PlanAsked) → o ≡ record { grid = None; budget = budget; as_certificate = false } → IsListed o.grid (task_on i periods) o.budget (Err (planned.BudgetSpent segment))
     → spent_there i (Some budget) place periods ≡ Some (place, segment)
-best_spent i periods budget place limit segment grid g none same on of =
-    let exactly : IsPlanned None g limit (Err (planned.BudgetSpent segment)) = subst (λ (d : Option Grid). IsPlanned d g limit (Err (planned.BudgetSpent segment))) none of in
-    let spent : SpentAt (task_on i periods) (frontier (task_on i periods)) budget segment =
-    subst (λ b. SpentAt (task_on i periods) (frontier (task_on i periods)) b segment) same (subst (λ t. SpentAt t (frontier t) limit segment) on exactly)
-    in
+best_spent i periods budget place segment o asked of =
+    let spent : SpentAt (task_on i periods) (frontier (task_on i periods)) budget segment = subst (λ (a : PlanAsked). IsListed a.grid (task_on i periods) a.budget (Err (planned.BudgetSpent segment))) asked of in
     ap (option_map (λ segment. (place, segment))) (spent_at None (task_on i periods) budget segment spent)
 
 -- a top of a network under a budget, or without one, is a bound there

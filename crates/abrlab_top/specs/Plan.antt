@@ -19,10 +19,11 @@ use Rattle.labels.specs.Grown.{grown}
 use Rattle.player_core.specs.Scene.{Task, task_of}
 use Rattle.labels.specs.Parts.{CertificateParts}
 use Rattle.labels.specs.Read.{Chains, SpentAt, bound_of, certificate_from, labels_before, labels_in}
+use Rattle.frontier_planner.specs.declared.plans.BoundedList.{BoundedList}
 use Rattle.frontier_planner.specs.declared.plans.CoarsePlan.{CoarsePlan}
 use Rattle.frontier_planner.specs.declared.plans.PlanErr.{PlanErr}
 use Rattle.frontier_planner.specs.declared.plans.PlanErr.TheVariants as planned
-use Rattle.frontier_planner.specs.Planned.{IsPlanOf}
+use Rattle.frontier_planner.specs.Planned.{IsPlanOf, ListAnswer}
 use Rattle.certificate_text.specs.Spelling.{gap_spelling, spelling}
 use Rattle.abrlab_top.specs.declared.ending.Ending.TheVariants as ending
 use Rattle.abrlab_top.specs.Ahead.{ahead_of}
@@ -81,6 +82,10 @@ IsPlanned grid g budget (Ok c) = IsPlanOf (steps_of grid) g (chains_on grid g) b
 IsPlanned grid g budget (Err (planned.BudgetSpent segment)) = SpentAt g (chains_on grid g) budget segment
 IsPlanned grid g budget (Err planned.Memory) = Unit {0}
 
+-- the same of the list alone, without what certifies it
+abbrev pub IsListed : Option Grid → Task → ℕ → Result BoundedList PlanErr → Type 0
+IsListed grid g budget r = ListAnswer (steps_of grid) g (chains_on grid g) budget r
+
 -- ---- texts
 
 -- the three lines of a plan with this score, so many labels and this rung list
@@ -99,11 +104,20 @@ coarse_lines score bound labels rungs =
     fields_line (codes "score" ∷ signed_decimal score ∷ [])
     ++ (bound_line bound ++ (fields_line (codes "labels" ∷ decimal labels ∷ []) ++ fields_line (codes "plan" ∷ map decimal rungs)))
 
+-- the lines of a list with this score, this bound and so many labels
+abbrev pub list_lines : Option Grid → ℤ → ℤ → ℕ → List ℕ → Text
+list_lines None score bound labels rungs = plan_lines score labels rungs
+list_lines (Some d) score bound labels rungs = coarse_lines score bound labels rungs
+
+-- the text of a certificate with this bound
+abbrev pub certificate_lines : Option Grid → CertificateParts → ℤ → Text
+certificate_lines None p bound = spelling p
+certificate_lines (Some d) p bound = gap_spelling (record { bound = bound; inner = p })
+
 -- the text of a certificate, or of the plan in it, with this bound and so many labels
 abbrev pub parts_text : Option Grid → Bool → CertificateParts → ℤ → ℕ → Text
-parts_text None as_certificate p bound labels = if as_certificate then spelling p else plan_lines p.score labels p.plan
-parts_text (Some d) as_certificate p bound labels =
-    if as_certificate then gap_spelling (record { bound = bound; inner = p }) else coarse_lines p.score bound labels p.plan
+parts_text grid as_certificate p bound labels =
+    if as_certificate then certificate_lines grid p bound else list_lines grid p.score bound labels p.plan
 
 -- the text of the plan of a task, or of its certificate
 abbrev pub plan_text : PlanAsked → Task → Text

@@ -1,20 +1,19 @@
 //! `plan`: the best rung list that the network allowed, or on a grid one with a bound; or its certificate.
 
-ghost use Rattle.std.specs.Prelude.{◌≡◌, ◌≤◌, ◌∷◌, [], IfSome, None, Some, codes};
+ghost use Rattle.std.specs.Prelude.{◌≡◌, ◌∷◌, [], IfSome, codes, false, true};
 ghost use Rattle.std.specs.Fmt.{decimal};
 ghost use Rattle.lab_io.specs.Piece.{fields_line};
 ghost use Rattle.lab_io.specs.Sink.{Puts};
 ghost use Rattle.lab_model.specs.Fit.{SetupFits};
-ghost use Rattle.player_core.specs.Scene.{IsTask, task_of};
+ghost use Rattle.player_core.specs.Scene.{IsTask};
 ghost use Rattle.labels.specs.Parts.{plan_parts};
 ghost use Rattle.labels.specs.Grid.{IsGrid};
-ghost use Rattle.labels.specs.declared.label.Grid.{Grid};
 ghost use Rattle.certificate_text.specs.Form.{IsGapCertificate};
 ghost use Rattle.gap_plan.specs.Gap.{plan_gap};
 ghost use Rattle.lab_inputs.specs.Roles.{film_files};
 ghost use Rattle.abrlab_top.specs.Ending.{ended};
 ghost use Rattle.abrlab_top.specs.Outcome.{about};
-ghost use Rattle.abrlab_top.specs.Plan.{IsPlanned, bound_line, coarse_lines, parts_text, plan, plan_lines, steps_of};
+ghost use Rattle.abrlab_top.specs.Plan.{IsListed, IsPlanned, bound_line, certificate_lines, coarse_lines, list_lines, plan, plan_lines, planned_on, steps_of, task_on};
 ghost use Rattle.abrlab_top.specs.Runs.{Ends};
 ghost use Rattle.abrlab_top.specs.Stages.{Writes, at_the_end};
 
@@ -22,12 +21,12 @@ use crate::ahead::media_ahead;
 use crate::ending::Ending;
 use crate::request::PlanOptions;
 use certificate_text::{put_plan, put_score, write_certificate};
-use frontier_planner::{CoarsePlan, Grid, Plan, PlanErr, plan_from};
+use frontier_planner::{BoundedList, CoarsePlan, Grid, PlanErr, list_from, plan_from};
 use gap_plan::write_gap;
 use lab_inputs::{FilmWords, Inputs, read_inputs};
 use lab_io::Piece::{Number, Word};
 use lab_io::{PutErr, Shelf, Sink, put_fields};
-use lab_model::{Manifest, Setup};
+use lab_model::Manifest;
 use network_clock::Clock;
 use std::alloc::Global;
 
@@ -54,14 +53,14 @@ fn put_labels<O: Sink>(out: &mut O, labels: u32) -> Result<(), PutErr>
     put_fields(out, &[Word("labels"), Number(labels as i128)])
 }
 
-/// Writes the three lines of a plan.
-fn put_lines<O: Sink>(out: &mut O, plan: &Plan) -> Result<(), PutErr>
-    ensures { Puts (O.seen out.old) (plan_lines plan.now.score plan.now.labels plan.now.rungs.items)
+/// Writes the three lines of a list without a grid.
+fn put_lines<O: Sink>(out: &mut O, list: &BoundedList) -> Result<(), PutErr>
+    ensures { Puts (O.seen out.old) (plan_lines list.now.score list.now.labels list.now.rungs.items)
         (O.seen out.new) result }
 {
-    put_score(out, plan.score)?;
-    put_labels(out, plan.labels)?;
-    put_plan(out, &plan.rungs)
+    put_score(out, list.score)?;
+    put_labels(out, list.labels)?;
+    put_plan(out, &list.rungs)
 }
 
 /// Writes the line of a bound.
@@ -71,95 +70,116 @@ pub(crate) fn put_bound<O: Sink>(out: &mut O, bound: i128) -> Result<(), PutErr>
     put_fields(out, &[Word("bound"), Number(bound)])
 }
 
-/// Writes the four lines of a plan on a grid.
-fn put_coarse_lines<O: Sink>(out: &mut O, coarse: &CoarsePlan) -> Result<(), PutErr>
-    ensures { Puts (O.seen out.old) (coarse_lines coarse.now.plan.score coarse.now.bound
-        coarse.now.plan.labels coarse.now.plan.rungs.items) (O.seen out.new) result }
+/// Writes the four lines of a list on a grid.
+fn put_coarse_lines<O: Sink>(out: &mut O, list: &BoundedList) -> Result<(), PutErr>
+    ensures { Puts (O.seen out.old) (coarse_lines list.now.score list.now.bound
+        list.now.labels list.now.rungs.items) (O.seen out.new) result }
 {
-    put_score(out, coarse.plan.score)?;
-    put_bound(out, coarse.bound)?;
-    put_labels(out, coarse.plan.labels)?;
-    put_plan(out, &coarse.plan.rungs)
+    put_score(out, list.score)?;
+    put_bound(out, list.bound)?;
+    put_labels(out, list.labels)?;
+    put_plan(out, &list.rungs)
 }
 
-/// Writes a plan without a grid, or its certificate.
-fn put_exact<O: Sink>(
+/// Writes the lines of a list, which has a bound of its own on a grid.
+fn put_list<O: Sink>(
+    out: &mut O,
+    grid: Option<Grid>,
+    list: &BoundedList,
+) -> Result<(), PutErr>
+    ensures { Puts (O.seen out.old)
+        (list_lines grid list.now.score list.now.bound list.now.labels list.now.rungs.items)
+        (O.seen out.new) result }
+{
+    match grid {
+        Some(_) => put_coarse_lines(out, list),
+        None => put_lines(out, list),
+    }
+}
+
+/// Writes the certificate of a plan, on a grid its gap certificate.
+fn put_certificate<O: Sink>(
     out: &mut O,
     m: &Manifest,
+    grid: Option<Grid>,
     planned: &CoarsePlan,
-    as_certificate: bool,
 ) -> Result<(), PutErr>
     requires form { IsGapCertificate (plan_gap m.now planned.now) }
     ensures { Puts (O.seen out.old)
-        (parts_text None as_certificate (plan_parts m.now planned.now.plan)
-        planned.now.bound planned.now.plan.labels)
+        (certificate_lines grid (plan_parts m.now planned.now.plan) planned.now.bound)
         (O.seen out.new) result }
 {
-    if as_certificate {
-        write_certificate(m, &planned.plan, out)
-    } else {
-        put_lines(out, &planned.plan)
+    match grid {
+        Some(_) => write_gap(m, planned, out),
+        None => write_certificate(m, &planned.plan, out),
     }
 }
 
-/// Writes a plan on a grid, or its gap certificate.
-fn put_coarse<O: Sink>(
-    out: &mut O,
-    m: &Manifest,
-    planned: &CoarsePlan,
-    as_certificate: bool,
-) -> Result<(), PutErr>
-    requires form { IsGapCertificate (plan_gap m.now planned.now) }
-    ensures { (d : Grid) → Puts (O.seen out.old)
-        (parts_text (Some d) as_certificate (plan_parts m.now planned.now.plan)
-        planned.now.bound planned.now.plan.labels)
-        (O.seen out.new) result }
-{
-    if as_certificate {
-        write_gap(m, planned, out)
-    } else {
-        put_coarse_lines(out, planned)
-    }
-}
-
-/// Writes what is asked for of a plan.
-fn put_answer<O: Sink>(
-    out: &mut O,
-    m: &Manifest,
-    planned: &CoarsePlan,
-    options: PlanOptions,
-) -> Result<(), PutErr>
-    requires form { IsGapCertificate (plan_gap m.now planned.now) }
-    ensures { Puts (O.seen out.old)
-        (parts_text options.grid options.as_certificate (plan_parts m.now planned.now.plan)
-        planned.now.bound planned.now.plan.labels)
-        (O.seen out.new) result }
-{
-    let as_certificate = options.as_certificate();
-    match options.grid() {
-        Some(_) => put_coarse(out, m, planned, as_certificate),
-        None => put_exact(out, m, planned, as_certificate),
-    }
-}
-
-/// The plan where so much media is ahead.
-pub(crate) fn plan_on(
+/// The list of a plan on a network, without what certifies it.
+pub(crate) fn list_on(
     alloc: Global,
-    m: &Manifest,
+    inputs: &Inputs,
     clock: &Clock,
-    set: &Setup,
-    ahead: u32,
+    options: PlanOptions,
+) -> Result<BoundedList, PlanErr>
+    requires fits { SetupFits inputs.now.setup inputs.now.film }
+    ensures answer { IsListed options.grid (task_on inputs.now clock.now)
+        options.budget result }
+    ensures task { IsTask (task_on inputs.now clock.now) }
+{
+    let (film, setup) = (inputs.manifest(), inputs.setup());
+    prove!(film.segments() > 0 && setup.weights.count() > 0 && !clock.periods().is_empty());
+    let (ahead, steps) = (media_ahead(inputs), steps_of(options.grid()));
+    list_from(alloc, film, clock, setup, ahead, steps, options.budget())
+}
+
+/// The plan on a network.
+fn plan_on(
+    alloc: Global,
+    inputs: &Inputs,
+    clock: &Clock,
     options: PlanOptions,
 ) -> Result<CoarsePlan, PlanErr>
-    requires setup { SetupFits set.now m.now }
-    requires ahead { ahead ≤ 120000000 }
-    ensures answer { IsPlanned options.grid (task_of m.now clock.now set.now ahead)
-        options.budget result }
-    ensures task { IsTask (task_of m.now clock.now set.now ahead) }
+    requires fits { SetupFits inputs.now.setup inputs.now.film }
+    ensures { IsPlanned options.grid (task_on inputs.now clock.now) options.budget result }
 {
-    prove!(m.segments() > 0 && set.weights.count() > 0 && !clock.periods().is_empty());
-    let steps = steps_of(options.grid());
-    plan_from(alloc, m, clock, set, ahead, steps, options.budget())
+    let (film, setup) = (inputs.manifest(), inputs.setup());
+    let (ahead, steps) = (media_ahead(inputs), steps_of(options.grid()));
+    plan_from(alloc, film, clock, setup, ahead, steps, options.budget())
+}
+
+/// Plans on a network and writes the list.
+fn write_list<O: Sink>(
+    alloc: Global,
+    inputs: &Inputs,
+    clock: &Clock,
+    options: PlanOptions,
+    out: &mut O,
+) -> Result<(), Ending>
+    requires fits { SetupFits inputs.now.setup inputs.now.film }
+    requires list { options.as_certificate ≡ false }
+    ensures { Writes at_the_end (planned_on options (task_on inputs.now clock.now))
+        (O.seen out.old) (ended result) (O.seen out.new) }
+{
+    let list = list_on(alloc, inputs, clock, options)?;
+    Ok(put_list(out, options.grid(), &list)?)
+}
+
+/// Plans on a network and writes the certificate.
+fn write_proof<O: Sink>(
+    alloc: Global,
+    inputs: &Inputs,
+    clock: &Clock,
+    options: PlanOptions,
+    out: &mut O,
+) -> Result<(), Ending>
+    requires fits { SetupFits inputs.now.setup inputs.now.film }
+    requires certificate { options.as_certificate ≡ true }
+    ensures { Writes at_the_end (planned_on options (task_on inputs.now clock.now))
+        (O.seen out.old) (ended result) (O.seen out.new) }
+{
+    let planned = plan_on(alloc, inputs, clock, options)?;
+    Ok(put_certificate(out, inputs.manifest(), options.grid(), &planned)?)
 }
 
 /// Plans and writes the plan, or its certificate.
@@ -177,9 +197,11 @@ fn write_plan<O: Sink>(
     };
     inputs.fit()?;
     let clock = Clock::new(alloc, &network.trace)?;
-    let (film, setup) = (inputs.manifest(), inputs.setup());
-    let planned = plan_on(alloc, film, &clock, setup, media_ahead(inputs), options)?;
-    Ok(put_answer(out, film, &planned, options)?)
+    if options.as_certificate() {
+        write_proof(alloc, inputs, &clock, options, out)
+    } else {
+        write_list(alloc, inputs, &clock, options, out)
+    }
 }
 
 /// Reads the files, plans and writes the plan.

@@ -23,7 +23,7 @@ ghost use Rattle.abrlab_top.specs.Stages.{Writes, at_the_end};
 
 use crate::ahead::media_ahead;
 use crate::ending::Ending;
-use crate::plan::plan_on;
+use crate::plan::list_on;
 use crate::request::{PlanOptions, RegretWords};
 use crate::rule::any_rule;
 use frontier_planner::PlanErr;
@@ -145,10 +145,8 @@ impl<'a> Ranking<'a> {
         ensures can { CanRank self.now.inputs }
     {
         let inputs = self.inputs();
-        let (film, setup) = (inputs.manifest(), inputs.setup());
-        let ahead = media_ahead(inputs);
-        match plan_on(alloc, film, clock, setup, ahead, PlanOptions::exact(budget)) {
-            Ok(planned) => Ok(planned.plan.score),
+        match list_on(alloc, inputs, clock, PlanOptions::exact(budget)) {
+            Ok(list) => Ok(list.score),
             Err(PlanErr::BudgetSpent { segment }) => Err(Ending::Spent {
                 trace: Some(place),
                 segment,
