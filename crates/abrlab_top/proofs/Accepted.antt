@@ -5,7 +5,6 @@ use Rattle.std.specs.Prelude.{nat_lt}
 use Rattle.std.proofs.lemmas.Bool.Decides.{nat_tests}
 use Rattle.lab_io.specs.Sink.{Text}
 use Rattle.lab_model.specs.declared.trace.Period.{Period}
-use Rattle.lab_model.specs.Rules.{RuleKind}
 use Rattle.lab_words.specs.declared.Verb.TheVariants.{Plan, Check}
 use Rattle.lab_words.specs.Command.{CommandWords}
 use Rattle.lab_words.specs.Limits.{HasFilm}
@@ -19,15 +18,15 @@ use Rattle.lab_inputs.specs.Settings.{misfit, settled}
 use Rattle.lab_inputs.specs.Stages.{Tells}
 use Rattle.lab_inputs.proofs.Steps.{inputs_one_more, ok_same}
 use Rattle.lab_inputs.proofs.Within.{inputs_counted, inputs_held, is_ready, settled_fits}
-use Rattle.player_core.specs.Scene.{IsTask, Task, task_of}
+use Rattle.player_core.specs.Scene.{IsTask, Task}
 use Rattle.labels.specs.declared.label.Grid.{Grid}
 use Rattle.labels.specs.Grid.{IsGrid}
 use Rattle.certificate_text.specs.Form.{GapParts, IsGapCertificate}
 use Rattle.certificate_check.specs.declared.verdict.Verdict.TheVariants.{Yes}
 use Rattle.certificate_check.specs.Verdict.{verdict_of}
 use Rattle.abrlab_top.specs.declared.ending.Ending.{Ending}
-use Rattle.abrlab_top.specs.Accepts.{ChecksText, PlansCertificate, ReadAlike, RunsAreAccepted, without_certificate}
-use Rattle.abrlab_top.specs.Answer.{Answer, Outcome, ending_in, printed, text_in}
+use Rattle.abrlab_top.specs.Accepts.{PlansCertificate, RunsAreAccepted, without_certificate}
+use Rattle.abrlab_top.specs.Answer.{Answer, Outcome, printed, text_in}
 use Rattle.abrlab_top.specs.Choice.{Choice, no_choice}
 use Rattle.abrlab_top.specs.Check.{check, check_on, told_verdict, verdict_text}
 use Rattle.abrlab_top.specs.Claim.{claim_of, claim_text}

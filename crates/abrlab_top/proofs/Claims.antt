@@ -1,11 +1,11 @@
 -- Claims: what is claimed has a form and a text, which a file may hold, and the text claims just this.
-use Rattle.std.proofs.Common.{◌≡◌, ◌∙◌, ◌≤◌, Bool, true, false, Ok, length, ap, sym, refl, arith}
+use Rattle.std.proofs.Common.{◌≡◌, ◌∙◌, ◌≤◌, Bool, true, false, Ok, length, ap, sym, refl}
 use Rattle.lab_io.specs.Sink.{Text}
 use Rattle.lab_model.proofs.Steps.{map_ok-ok}
 use Rattle.lab_model.specs.Steps.{map_ok}
 use Rattle.labels.specs.Form.{IsCertificate}
 use Rattle.certificate_text.specs.Form.{GapParts, IsGapCertificate}
-use Rattle.certificate_text.specs.Reading.{certificate_of, gap_of}
+use Rattle.certificate_text.specs.Reading.{certificate_of}
 use Rattle.certificate_text.proofs.GapLaws.{gap_again, gap_takes}
 use Rattle.certificate_text.proofs.HeadLaws.{certificate_again, certificate_takes}
 use Rattle.certificate_text.proofs.Length.{gap_fits, spelling_fits}

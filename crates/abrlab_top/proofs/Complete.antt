@@ -1,5 +1,5 @@
 -- What a run leaves of the shelf, and completeness: by how it ended.
-use Rattle.std.proofs.Common.{◌≡◌, ◌⊎◌, ℕ, ◌<◌, ◌^◌, ◌-◌, ◌==◌, ◌++◌, List, [], ◌∷◌, Bool, true, false, Option, Some, None, Result, Ok, Err, IsSome, ap, sym, ◌∙◌, refl, arith, inl, inr, subst}
+use Rattle.std.proofs.Common.{◌≡◌, ℕ, ◌<◌, ◌^◌, ◌-◌, ◌==◌, ◌++◌, List, [], ◌∷◌, false, Option, Some, None, Err, IsSome, ap, sym, ◌∙◌, refl, arith, inl, inr}
 use Rattle.std.specs.List.{Contains, list_any}
 use Rattle.std.proofs.lemmas.List.Elements.{Contains-append_right}
 use Rattle.lab_io.specs.Shelf.{Shelved}
@@ -15,7 +15,7 @@ use Rattle.lab_inputs.specs.declared.stop.Stop.{Stop}
 use Rattle.lab_inputs.specs.declared.stop.Stop.TheVariants as stop
 use Rattle.lab_inputs.specs.Files.{AreAccepted, Files}
 use Rattle.lab_inputs.specs.Inputs.{InputValues, contents_of, inputs_of}
-use Rattle.lab_inputs.specs.Roles.{NamedFile, files_of, later_files}
+use Rattle.lab_inputs.specs.Roles.{NamedFile, later_files}
 use Rattle.lab_inputs.specs.Stages.{Asks, AsksFor, AsksSome, AsksUpTo, StopsAt, Tells}
 use Rattle.lab_inputs.proofs.Files.{asks_all, asks_none}
 use Rattle.lab_inputs.proofs.Steps.{lacking, named_film, on_film, stops_some}
@@ -24,10 +24,10 @@ use Rattle.abrlab_top.specs.declared.ending.Ending.TheVariants as ending
 use Rattle.abrlab_top.specs.Answer.{Outcome, ending_in}
 use Rattle.abrlab_top.specs.Choice.{Choice, no_choice}
 use Rattle.abrlab_top.specs.Ending.{status_of, stop_status}
-use Rattle.abrlab_top.specs.Outcome.{about, answer_by, answer_of, manner_in, named_by, named_files, outcome, outcome_by, status}
+use Rattle.abrlab_top.specs.Outcome.{about, answer_by, manner_in, named_by, named_files, outcome, outcome_by}
 use Rattle.abrlab_top.specs.Runs.{Ends, Runs, TellsNamed, World}
 use Rattle.abrlab_top.specs.Stages.{OutFails}
-use Rattle.abrlab_top.specs.Statuses.{IsAmong, IsComplete, IsStatus, IsSure, LeavesShelf, RunsAreComplete, RunsLeaveTheShelf}
+use Rattle.abrlab_top.specs.Statuses.{IsAmong, IsStatus, IsSure, LeavesShelf, RunsAreComplete, RunsLeaveTheShelf}
 use Rattle.abrlab_top.proofs.Choices.{same_ending}
 use Rattle.abrlab_top.proofs.Statuses.{tells_named}
 

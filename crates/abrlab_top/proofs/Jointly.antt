@@ -20,7 +20,7 @@ use Rattle.lab_words.specs.Command.{CommandWords, named}
 use Rattle.lab_words.specs.Rules.{spoken}
 use Rattle.lab_inputs.specs.declared.stop.Stop.{Stop}
 use Rattle.lab_inputs.specs.Inputs.{AreFor, InputValues}
-use Rattle.lab_inputs.specs.Roles.{film_files, files_of}
+use Rattle.lab_inputs.specs.Roles.{film_files}
 use Rattle.lab_inputs.specs.Settings.{settled}
 use Rattle.player_core.specs.declared.session.Session.{Session}
 use Rattle.player_core.specs.Session.{Shown, shown}

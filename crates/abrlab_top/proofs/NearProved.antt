@@ -1,6 +1,5 @@
 -- What `plan --near` and `check --near` prove, from a run that answered 0; and that the one says yes to what the other printed.
-use Rattle.std.proofs.Common.{◌≡◌, ◌∙◌, ℕ, ◌≤◌, Bool, true, false, List, [], ◌∷◌, length, Option, Some, None, Result, Ok, Err, ap, sym, refl, subst}
-use Rattle.std.specs.Prelude.{ℤ}
+use Rattle.std.proofs.Common.{◌≡◌, ◌∙◌, ℕ, ◌≤◌, Bool, true, List, [], ◌∷◌, length, Some, Ok, ap, sym, refl, subst}
 use Rattle.std.specs.List.{slice_get}
 use Rattle.lab_io.specs.Sink.{Grew, Text}
 use Rattle.lab_model.proofs.Steps.{then_ok}
@@ -23,14 +22,13 @@ use Rattle.price_bounds.specs.Verdict.{PriceParts, verdict_of}
 use Rattle.price_bounds.specs.declared.verdict.PriceVerdict.{PriceVerdict}
 use Rattle.price_bounds.specs.declared.verdict.PriceVerdict.TheVariants as said
 use Rattle.price_bounds.proofs.Verdicts.{valid_settles, valid_yes, yes_valid}
-use Rattle.price_text.specs.Form.{IsPrices}
 use Rattle.price_text.specs.Reading.{prices_of}
 use Rattle.price_text.specs.Spelling.{prices_text}
 use Rattle.price_text.proofs.Length.{prices_fit}
 use Rattle.price_text.proofs.PriceLaws.{prices_again, prices_take}
 use Rattle.abrlab_top.specs.declared.ending.Ending.{Ending}
 use Rattle.abrlab_top.specs.declared.ending.Ending.TheVariants as ending
-use Rattle.abrlab_top.specs.Accepts.{ChecksPrices, NearRunsAreAccepted, PlansPrices}
+use Rattle.abrlab_top.specs.Accepts.{NearRunsAreAccepted}
 use Rattle.abrlab_top.specs.Answer.{Answer, printed, text_in, unless_stopped}
 use Rattle.abrlab_top.specs.Choice.{Choice, ChosenBy, IsNearBest, no_choice}
 use Rattle.abrlab_top.specs.Ending.{status_of}

@@ -1,5 +1,5 @@
 -- The networks of `compare`, each with its line and its rows.
-use Rattle.std.proofs.Common.{◌≡◌, ℕ, ◌+◌, ◌++◌, List, [], ◌∷◌, map, Result, Ok, Err, ap, ◌∙◌, sym, refl, arith, subst}
+use Rattle.std.proofs.Common.{◌≡◌, List, [], ◌∷◌, map, Result, Ok, Err, ap, ◌∙◌, sym, refl, arith, subst}
 use Rattle.std.specs.Prelude.{codes}
 use Rattle.std.specs.List.{All, flat_map}
 use Rattle.std.specs.Result.{IsErrAnd}
@@ -18,7 +18,7 @@ use Rattle.lab_words.specs.Limits.{IsRuleWithin}
 use Rattle.lab_words.specs.Rules.{spoken}
 use Rattle.lab_inputs.specs.declared.stop.Stop.{Stop}
 use Rattle.lab_inputs.specs.Inputs.{InputValues}
-use Rattle.lab_inputs.specs.Settings.{Fits, settled}
+use Rattle.lab_inputs.specs.Settings.{settled}
 use Rattle.abrlab_top.specs.declared.ending.Ending.TheVariants as ending
 use Rattle.abrlab_top.specs.Answer.{printed}
 use Rattle.abrlab_top.specs.Compare.{bench_on, compare, network_rows}

@@ -1,5 +1,5 @@
 -- What `plan` answers, from what the planner gave.
-use Rattle.std.proofs.Common.{◌≡◌, ◌∙◌, ◌-◌, ◌≤◌, ◌==◌, ℕ, suc, Bool, true, false, List, [], Option, Some, None, IfSome, IfOk, Ok, Err, Result, if◌then◌else◌, ap, sym, refl, subst, arith}
+use Rattle.std.proofs.Common.{◌≡◌, ◌∙◌, ◌-◌, ◌≤◌, ℕ, suc, Bool, true, false, List, [], Option, Some, None, IfSome, IfOk, Ok, Err, Result, ap, sym, refl, subst, arith}
 use Rattle.std.specs.Prelude.{ℤ, nat_lt}
 use Rattle.std.specs.List.{slice_get}
 use Rattle.std.proofs.lemmas.Bool.{le-ltb, lt-ltb}
@@ -11,7 +11,6 @@ use Rattle.lab_inputs.specs.declared.stop.Stop.{Stop}
 use Rattle.lab_inputs.specs.Inputs.{InputValues}
 use Rattle.lab_inputs.specs.Settings.{settled}
 use Rattle.labels.specs.declared.label.Grid.{Grid}
-use Rattle.labels.specs.declared.plans.Plan.{Plan}
 use Rattle.frontier_planner.specs.declared.plans.BoundedList.{BoundedList}
 use Rattle.frontier_planner.specs.declared.plans.CoarsePlan.{CoarsePlan}
 use Rattle.frontier_planner.specs.declared.plans.PlanErr.{PlanErr}

@@ -1,44 +1,37 @@
 -- What `plan --near` and `check --near` come to, and what they prove.
-use Rattle.std.proofs.Common.{◌≡◌, ◌∙◌, ◌+◌, ◌*◌, ◌-◌, ◌^◌, ◌<◌, ◌≤◌, ◌++◌, ℕ, Bool, true, false, List, [], ◌∷◌, length, Option, Some, None, Result, Ok, Err, ap, sym, refl, subst, arith}
-use Rattle.std.specs.Prelude.{ℤ, pos, ◌-ℤ◌, ◌≤ℤ◌, ◌<ℤ◌}
-use Rattle.std.specs.List.{All, slice_get}
+use Rattle.std.proofs.Common.{◌≡◌, ◌∙◌, ◌^◌, ◌<◌, ◌≤◌, ℕ, Bool, List, [], Some, None, Result, Ok, Err, ap, sym, refl, subst, arith}
+use Rattle.std.specs.Prelude.{ℤ}
+use Rattle.std.specs.List.{slice_get}
 use Rattle.std.proofs.lemmas.Int.{ints}
 use Rattle.std.proofs.lemmas.List.Elements.{All-weaker}
 use Rattle.lab_io.specs.declared.PutErr.{PutErr}
-use Rattle.lab_io.specs.Sink.{Grew, Puts, Seen, Text}
-use Rattle.lab_model.proofs.Steps.{then_ok}
+use Rattle.lab_io.specs.Sink.{Puts, Seen, Text}
 use Rattle.lab_model.specs.Film.{IsWithin, rungs_of, segments_of}
 use Rattle.lab_model.specs.Number.{IsNear}
 use Rattle.lab_model.specs.Reading.{Gives}
-use Rattle.lab_model.specs.Steps.{◌>>=◌}
 use Rattle.lab_model.specs.declared.fault.InputFault.{InputFault}
 use Rattle.lab_model.specs.declared.fault.InputFault.TheVariants.{Memory, Refused}
 use Rattle.lab_model.specs.declared.trace.Period.{Period}
 use Rattle.lab_inputs.specs.declared.role.Role.TheVariants as role
-use Rattle.lab_inputs.specs.declared.stop.FileFault.TheVariants as fault
 use Rattle.lab_inputs.specs.declared.stop.Stop.{Stop}
-use Rattle.lab_inputs.specs.declared.stop.Stop.TheVariants as stop
 use Rattle.lab_inputs.specs.Inputs.{InputValues}
 use Rattle.lab_inputs.specs.Settings.{misfit, settled}
-use Rattle.lab_inputs.proofs.Steps.{ok_same}
 use Rattle.player_core.specs.Scene.{IsTask, Task}
 use Rattle.labels.specs.Form.{HasDigits, HasSignedDigits, rung_digits, score_digits}
 use Rattle.price_bounds.specs.Bound.{bound_of}
 use Rattle.price_bounds.specs.Verdict.{IsValid, PriceParts, price_parts, verdict_of}
 use Rattle.price_bounds.specs.Windows.{IsWindow}
-use Rattle.price_bounds.specs.declared.certificate.PriceCertificate.{PriceCertificate}
 use Rattle.price_bounds.specs.declared.verdict.PriceVerdict.{PriceVerdict}
 use Rattle.price_bounds.specs.declared.verdict.PriceVerdict.TheVariants as said
 use Rattle.price_bounds.specs.declared.window.Window.{Window}
-use Rattle.price_bounds.proofs.Verdicts.{valid_settles, valid_yes}
+use Rattle.price_bounds.proofs.Verdicts.{valid_settles}
 use Rattle.price_text.specs.Form.{IsPrices, IsSpelledWindow}
 use Rattle.price_text.specs.Reading.{prices_of}
-use Rattle.abrlab_top.specs.declared.ending.Ending.{Ending}
 use Rattle.abrlab_top.specs.declared.ending.Ending.TheVariants as ending
-use Rattle.abrlab_top.specs.Answer.{Answer, printed, unless_stopped}
+use Rattle.abrlab_top.specs.Answer.{printed}
 use Rattle.abrlab_top.specs.Choice.{IsBound, IsNearBest}
 use Rattle.abrlab_top.specs.Ending.{IsWhole, after_put}
-use Rattle.abrlab_top.specs.Near.{near_check, near_check_on, near_plan, near_plan_on, near_text, price_ending, price_verdict_text, prices_in, told_prices}
+use Rattle.abrlab_top.specs.Near.{near_check, near_check_on, near_plan, near_plan_on, near_text, price_ending, price_verdict_text, told_prices}
 use Rattle.abrlab_top.specs.Plan.{task_on}
 use Rattle.abrlab_top.specs.Stages.{Writes, bad_line, of_a_price_check}
 use Rattle.abrlab_top.proofs.Whole.{late_setting, put_failed, wanting}

@@ -18,7 +18,7 @@ use Rattle.lab_inputs.specs.declared.role.Role.TheVariants as role
 use Rattle.lab_inputs.specs.declared.stop.Stop.{Stop}
 use Rattle.lab_model.specs.Steps.{◌>>=◌}
 use Rattle.lab_model.proofs.Steps.{then_ok}
-use Rattle.lab_inputs.specs.Files.{Files, at_role, read_as}
+use Rattle.lab_inputs.specs.Files.{Files, read_as}
 use Rattle.lab_inputs.specs.Inputs.{InputValues, inputs_of}
 use Rattle.lab_inputs.specs.Settings.{ready_of, settled}
 use Rattle.lab_inputs.specs.Stages.{Tells}
@@ -49,9 +49,9 @@ use Rattle.abrlab_top.specs.Ending.{status_of}
 use Rattle.abrlab_top.specs.Outcome.{about, answer_by, answer_of, checking, comparison, manner_in, named_files, outcome, outcome_by, planning}
 use Rattle.abrlab_top.specs.Plan.{PlanAsked, bound_on, certificate_on, chains_on, grid_in, labels_on, options_of, plan, plan_on, plan_text, planned_on, spent_on, task_on, unless_spent}
 use Rattle.abrlab_top.specs.Players.{simulate_by}
-use Rattle.abrlab_top.specs.Proves.{Headline, IsBest, IsPlain, IsSession, IsYes, PlansTheBest, Proves, SaysYesSoundly, Simulates}
+use Rattle.abrlab_top.specs.Proves.{Headline, IsBest, IsSession, IsYes, PlansTheBest, Proves, SaysYesSoundly, Simulates}
 use Rattle.abrlab_top.specs.Runs.{Ends, Runs, World}
-use Rattle.abrlab_top.specs.Simulate.{case_on, session_on, simulate, simulate_on}
+use Rattle.abrlab_top.specs.Simulate.{session_on, simulate, simulate_on}
 use Rattle.abrlab_top.proofs.Certified.{bound_holds, has_text, own_score, within_budget}
 use Rattle.abrlab_top.proofs.Claims.{claim_fits, claim_form, own_claim}
 use Rattle.abrlab_top.proofs.Options.{grid_fits, no_grid}

@@ -8,7 +8,6 @@ use Rattle.std.specs.Result.{IsErrAnd}
 use Rattle.std.proofs.lemmas.Result.{err_from_is_err_and}
 use Rattle.std.proofs.lemmas.List.{drop_all, get_or-map, get_or_default, length-take-le, length-map, map-append, take_all}
 use Rattle.std.proofs.lemmas.List.Elements.{All-map}
-use Rattle.std.proofs.lemmas.Simd.{map-map}
 use Rattle.lab_io.specs.Sink.{Text, Seen}
 use Rattle.lab_model.specs.declared.trace.Period.{Period}
 use Rattle.lab_model.specs.declared.setup.Setup.{Setup}
@@ -23,13 +22,11 @@ use Rattle.lab_inputs.specs.declared.stop.Stop.{Stop}
 use Rattle.lab_inputs.specs.Inputs.{InputValues}
 use Rattle.lab_inputs.specs.Settings.{settled}
 use Rattle.lab_inputs.specs.Stages.{network_of}
-use Rattle.player_core.specs.Scene.{IsTask, Task, task_of}
-use Rattle.labels.specs.declared.label.Grid.{Grid}
+use Rattle.player_core.specs.Scene.{IsTask, task_of}
 use Rattle.frontier_planner.specs.declared.plans.BoundedList.{BoundedList}
 use Rattle.frontier_planner.specs.declared.plans.PlanErr.TheVariants as planned
 use Rattle.labels.specs.Frontier.{frontier}
 use Rattle.labels.specs.Grid.{exact}
-use Rattle.labels.specs.Parts.{CertificateParts}
 use Rattle.labels.specs.Read.{SpentAt}
 use Rattle.frontier_planner.specs.Planned.{IsListOf}
 use Rattle.session_report.specs.Regret.{AreScores, Scores, IsTotalOf, sums_line, top_line, total_of}
@@ -44,7 +41,7 @@ use Rattle.abrlab_top.specs.Answer.{printed}
 use Rattle.abrlab_top.specs.Ahead.{ahead_of}
 use Rattle.abrlab_top.specs.Choice.{AreBounds, IsBound}
 use Rattle.abrlab_top.specs.Plan.{IsListed, PlanAsked, task_on}
-use Rattle.abrlab_top.specs.Regret.{AreCompared, AreRanked, AreScored, AreTops, CanRank, IsTop, RankingValue, SpentBy, Unspent, best_on, first_spent, near_regret, network_rows, networks_rows, ranked_row, ranked_text, regret, regret_text, rows_of, score_on, scored_on, scores_at, scores_over, seen_scored, spent_there, sums_row, tops_of, unless_any_spent}
+use Rattle.abrlab_top.specs.Regret.{AreCompared, AreRanked, AreTops, CanRank, IsTop, RankingValue, SpentBy, Unspent, best_on, first_spent, near_regret, network_rows, networks_rows, ranked_row, ranked_text, regret, regret_text, rows_of, score_on, scored_on, scores_at, scores_over, seen_scored, spent_there, sums_row, tops_of, unless_any_spent}
 use Rattle.abrlab_top.specs.Stages.{Writes, at_the_end}
 use Rattle.abrlab_top.proofs.Behind.{are_scores, best_bounds}
 use Rattle.abrlab_top.proofs.Networks.{all_mapped, rules_within}

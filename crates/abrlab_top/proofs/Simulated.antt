@@ -1,5 +1,5 @@
 -- What `simulate` answers, by what was played.
-use Rattle.std.proofs.Common.{◌≡◌, ◌∙◌, ℕ, List, [], ◌∷◌, arith, subst, Option, Some, None, Ok, Err, ap, sym, refl}
+use Rattle.std.proofs.Common.{◌≡◌, ◌∙◌, ℕ, List, [], ◌∷◌, arith, subst, Option, Some, None, Ok, Err, ap, refl}
 use Rattle.std.specs.List.{All, slice_get}
 use Rattle.lab_io.specs.Sink.{Text}
 use Rattle.lab_model.specs.declared.context.Seek.{Seek}

@@ -1,33 +1,26 @@
 -- What each status has for a cause, what is left of the shelf, and completeness: by how a run ended.
-use Rattle.std.proofs.Common.{◌≡◌, ◌⊎◌, ℕ, ◌<◌, ◌≤◌, ◌^◌, ◌-◌, ◌==◌, ◌||◌, ◌++◌, List, [], ◌∷◌, Bool, true, false, Option, Some, None, Result, Ok, Err, IsSome, ap, sym, ◌∙◌, refl, arith, inl, inr, subst}
-use Rattle.std.specs.List.{Contains, list_any}
-use Rattle.std.proofs.lemmas.List.Elements.{Contains-append_right}
+use Rattle.std.proofs.Common.{◌≡◌, ◌⊎◌, ℕ, ◌≤◌, ◌==◌, ◌||◌, List, [], ◌∷◌, Bool, true, false, Option, Some, None, Ok, Err, ap, refl, arith, inl, inr, subst}
 use Rattle.lab_io.specs.Shelf.{Shelved}
-use Rattle.lab_io.specs.Sink.{Text, Rose}
+use Rattle.lab_io.specs.Sink.{Text}
 use Rattle.lab_words.specs.declared.Verb.{Verb}
 use Rattle.lab_words.specs.declared.Verb.TheVariants as verb
-use Rattle.lab_words.specs.Limits.{HasFilm}
 use Rattle.lab_words.specs.Command.{CommandWords}
 use Rattle.lab_words.specs.Words.{begins_with_verb, command_of}
 use Rattle.lab_inputs.specs.declared.role.Role.{Role}
 use Rattle.lab_inputs.specs.declared.stop.FileFault.TheVariants as fault
 use Rattle.lab_inputs.specs.declared.stop.Stop.{Stop}
 use Rattle.lab_inputs.specs.declared.stop.Stop.TheVariants as stop
-use Rattle.lab_inputs.specs.Files.{AreAccepted, Files}
-use Rattle.lab_inputs.specs.Inputs.{InputValues, contents_of, inputs_of, inputs_on}
-use Rattle.lab_inputs.specs.Roles.{NamedFile, later_files}
-use Rattle.lab_inputs.specs.Stages.{Asks, AsksFor, AsksSome, AsksUpTo, StopsAt, Tells}
-use Rattle.lab_inputs.proofs.Files.{asks_all, asks_none}
-use Rattle.lab_inputs.proofs.Steps.{lacking, named_film, on_film, stops_some}
+use Rattle.lab_inputs.specs.Files.{Files}
+use Rattle.lab_inputs.specs.Roles.{NamedFile}
+use Rattle.lab_inputs.specs.Stages.{StopsAt, Tells}
 use Rattle.abrlab_top.specs.declared.ending.Ending.{Ending}
 use Rattle.abrlab_top.specs.declared.ending.Ending.TheVariants as ending
-use Rattle.abrlab_top.specs.Answer.{Answer, Outcome, ending_in}
+use Rattle.abrlab_top.specs.Answer.{Answer, Outcome}
 use Rattle.abrlab_top.specs.Choice.{Choice, no_choice}
-use Rattle.abrlab_top.specs.Ending.{IsWhole, status_of, stop_status}
-use Rattle.abrlab_top.specs.Outcome.{checks_by, comparing, manner_in, named_by, named_files, outcome, outcome_by, status}
+use Rattle.abrlab_top.specs.Ending.{status_of, stop_status}
+use Rattle.abrlab_top.specs.Outcome.{checks_by, comparing, manner_in, named_files, outcome}
 use Rattle.abrlab_top.specs.Runs.{Admits, Ends, Runs, TellsNamed, World}
-use Rattle.abrlab_top.specs.Stages.{Answers, OutFails}
-use Rattle.abrlab_top.specs.Statuses.{HasCause, IsAmong, IsComplete, IsStatus, LeavesShelf, RunsAreComplete, RunsLeaveTheShelf, StatusesHaveCauses, answers_to}
+use Rattle.abrlab_top.specs.Statuses.{IsAmong, StatusesHaveCauses, answers_to}
 use Rattle.abrlab_top.proofs.Choices.{same_answers}
 use Rattle.abrlab_top.proofs.Words.{begins}
 

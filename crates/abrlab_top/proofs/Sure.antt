@@ -1,21 +1,19 @@
 -- A run over files and sinks in memory, of which none fails.
-use Rattle.std.proofs.Common.{◌≡◌, ◌∙◌, ◌++◌, ◌⊎◌, ◌<◌, ℕ, List, [], Option, Some, Result, Ok, Err, inl, inr, ap, subst, sym, refl, append-nil, arith}
+use Rattle.std.proofs.Common.{◌≡◌, ◌∙◌, ◌++◌, ◌⊎◌, ◌<◌, ℕ, List, [], Some, Result, Ok, Err, inl, inr, ap, subst, sym, refl, arith}
 use Rattle.lab_io.specs.declared.PutErr.{PutErr}
 use Rattle.lab_io.specs.declared.PutErr.TheVariants as put
 use Rattle.lab_io.specs.Memory.{MemFiles, SureText, file_of, mem_shelved, sure_seen}
 use Rattle.lab_io.specs.Shelf.{Shelved}
 use Rattle.lab_io.specs.Sink.{Answered, Grew, GrewPart, Rose, Seen, Text}
 use Rattle.lab_words.specs.Words.{command_of}
-use Rattle.lab_inputs.specs.Files.{Files}
 use Rattle.abrlab_top.specs.declared.ending.Ending.{Ending}
 use Rattle.abrlab_top.specs.declared.ending.Ending.TheVariants as ending
 use Rattle.abrlab_top.specs.Answer.{ending_in, text_in}
 use Rattle.abrlab_top.specs.Choice.{Choice, HasText, no_choice}
-use Rattle.abrlab_top.specs.Ending.{IsWhole, Says, Told, note_of, status_of}
+use Rattle.abrlab_top.specs.Ending.{Says, Told, note_of, status_of}
 use Rattle.abrlab_top.specs.Memory.{BeginsWith, HasPrinted, IsPrinted, Took}
 use Rattle.abrlab_top.specs.Outcome.{manner_in, named_files, note, outcome, status}
-use Rattle.abrlab_top.specs.Runs.{Ends, Runs, World, world}
-use Rattle.abrlab_top.specs.Stages.{Answers}
+use Rattle.abrlab_top.specs.Runs.{Ends, Runs, world}
 use Rattle.abrlab_top.specs.Statuses.{IsSure}
 use Rattle.abrlab_top.proofs.Choices.{same_ending}
 use Rattle.abrlab_top.proofs.Complete.{stopped_outcome, sure_out, sure_shelf}

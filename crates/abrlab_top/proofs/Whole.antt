@@ -14,7 +14,6 @@ use Rattle.lab_words.specs.Command.{CommandWords}
 use Rattle.lab_words.specs.Words.{begins_with_verb, command_of}
 use Rattle.lab_inputs.specs.declared.role.Role.{Role}
 use Rattle.lab_inputs.specs.declared.role.Role.TheVariants as role
-use Rattle.lab_inputs.specs.declared.stop.FileFault.{FileFault}
 use Rattle.lab_inputs.specs.declared.stop.FileFault.TheVariants as fault
 use Rattle.lab_inputs.specs.declared.stop.Halt.{Halt}
 use Rattle.lab_inputs.specs.declared.stop.Halt.TheVariants as halt
@@ -24,20 +23,19 @@ use Rattle.lab_inputs.specs.declared.stop.Stop.TheVariants as stop
 use Rattle.lab_model.specs.Steps.{◌>>=◌}
 use Rattle.lab_inputs.specs.Files.{Files}
 use Rattle.lab_inputs.specs.Inputs.{InputValues, inputs_of}
-use Rattle.lab_inputs.specs.Roles.{NamedFile, certificate_role, film_files, files_by, files_of, optional_file, trace_files}
+use Rattle.lab_inputs.specs.Roles.{NamedFile, certificate_role, film_files, files_by, optional_file, trace_files}
 use Rattle.lab_inputs.specs.Settings.{Fits, misfit, settled, unless_misfit}
-use Rattle.lab_inputs.specs.Stages.{Asks, AsksFor, AsksSome, AsksUpTo, Comes, IsSettled, Means, StopsAt, Tells}
+use Rattle.lab_inputs.specs.Stages.{Asks, AsksFor, AsksUpTo, Comes, IsSettled, StopsAt, Tells}
 use Rattle.lab_inputs.proofs.Files.{asks_all, asks_none}
 use Rattle.abrlab_top.specs.declared.ending.Ending.{Ending}
 use Rattle.abrlab_top.specs.declared.ending.Ending.TheVariants as ending
 use Rattle.abrlab_top.specs.Answer.{Answer, Outcome, printed, text_in, unless_stopped}
 use Rattle.abrlab_top.specs.Choice.{AreBounds, Choice, ChosenBy, HasText, IsNearBest, no_choice}
-use Rattle.abrlab_top.specs.Demo.{demo}
 use Rattle.abrlab_top.specs.Ending.{IsWhole, after_halt, after_put, ended}
 use Rattle.abrlab_top.specs.Outcome.{about, answer_by, checking, checks_by, comparing, comparison, manner_by, named_files, outcome, planning}
 use Rattle.abrlab_top.specs.Plan.{options_of, task_on}
 use Rattle.abrlab_top.specs.Runs.{Admits, ComesTo, Ends, EndsBy}
-use Rattle.abrlab_top.specs.Stages.{Answers, IsLate, Manner, OutFails, Writes, at_the_end, of_a_check, of_a_price_check, refusing}
+use Rattle.abrlab_top.specs.Stages.{IsLate, Manner, Writes, at_the_end, of_a_check, of_a_price_check}
 
 same_written : (w : Option Text) → Grew w [] w
 same_written None = refl

@@ -1,5 +1,5 @@
 -- The certificate that a run of `plan` printed, on demand or live, plain or with a gap, is one that a run of `check` says yes to.
-use Rattle.std.specs.Prelude.{◌≡◌, ℕ, true, false, Bool, List, [], ◌∷◌, Option, Some, None, Ok, is_some}
+use Rattle.std.specs.Prelude.{◌≡◌, true, false, Bool, List, [], ◌∷◌, Option, Some, None, Ok, is_some}
 use Rattle.lab_io.specs.Sink.{Text}
 use Rattle.lab_model.specs.declared.trace.Period.{Period}
 use Rattle.lab_words.specs.declared.Verb.TheVariants.{Plan, Check}

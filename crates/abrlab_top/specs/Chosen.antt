@@ -1,5 +1,5 @@
 -- What commands with a choice gave: what they chose, and how they ended by it.
-use Rattle.std.specs.Prelude.{◌≡◌, ℤ, Bool, List, Option, Some, Ok}
+use Rattle.std.specs.Prelude.{◌≡◌, ℤ, Bool, List, Some, Ok}
 use Rattle.std.specs.List.{slice_get}
 use Rattle.lab_io.specs.Shelf.{Shelved}
 use Rattle.lab_io.specs.Sink.{Seen, Text}

@@ -1,12 +1,12 @@
 -- What `plan` answers: the best rung list that a network allowed, or on a grid one with a bound; or its certificate, unless its frontiers
 -- spend the budget.
-use Rattle.std.specs.Prelude.{ℕ, ℤ, suc, ◌==◌, Bool, List, [], ◌∷◌, ◌++◌, map, Option, Some, None, IfSome, unwrap_or, Result, Ok, Err, codes, nat_lt, if◌then◌else◌}
+use Rattle.std.specs.Prelude.{ℕ, ℤ, suc, ◌==◌, Bool, List, [], ◌∷◌, ◌++◌, map, Option, Some, None, unwrap_or, Result, Ok, Err, codes, nat_lt, if◌then◌else◌}
 use Rattle.std.specs.List.{find, slice_get}
 use Rattle.std.specs.Fmt.{decimal, signed_decimal}
 use Rattle.lab_io.specs.Piece.{fields_line}
 use Rattle.lab_io.specs.Sink.{Text}
 use Rattle.lab_model.specs.declared.trace.Period.{Period}
-use Rattle.lab_model.specs.Film.{IsWithin, segments_of}
+use Rattle.lab_model.specs.Film.{segments_of}
 use Rattle.lab_model.specs.Ladder.{rungs_below}
 use Rattle.lab_model.specs.Steps.{◌>>=◌}
 use Rattle.lab_words.specs.Command.{CommandWords}
@@ -14,7 +14,7 @@ use Rattle.lab_inputs.specs.Inputs.{InputValues}
 use Rattle.lab_inputs.specs.Settings.{settled}
 use Rattle.labels.specs.declared.label.Grid.{Grid}
 use Rattle.labels.specs.Frontier.{frontier}
-use Rattle.labels.specs.Grid.{IsGrid, exact}
+use Rattle.labels.specs.Grid.{exact}
 use Rattle.labels.specs.Grown.{grown}
 use Rattle.player_core.specs.Scene.{Task, task_of}
 use Rattle.labels.specs.Parts.{CertificateParts}

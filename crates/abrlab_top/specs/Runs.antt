@@ -1,5 +1,5 @@
 -- A run as one relation: what the shelf was asked, what became of `out` and what `err` was told, by how the run ended.
-use Rattle.std.specs.Prelude.{◌≡◌, ◌⊎◌, true, false, List, [], ◌∷◌, Option, Some, None, IsSome, Ok, Err}
+use Rattle.std.specs.Prelude.{◌≡◌, ◌⊎◌, true, false, List, [], ◌∷◌, Option, Some, None, IsSome, Err}
 use Rattle.lab_io.specs.Shelf.{Shelved}
 use Rattle.lab_io.specs.Sink.{Text, Seen, Rose, Grew, GrewPart}
 use Rattle.lab_words.specs.Command.{CommandWords}
@@ -9,7 +9,7 @@ use Rattle.lab_inputs.specs.Roles.{NamedFile}
 use Rattle.lab_inputs.specs.Stages.{Asks, AsksFor, AsksSome, StopsAt, Tells}
 use Rattle.abrlab_top.specs.declared.ending.Ending.{Ending}
 use Rattle.abrlab_top.specs.declared.ending.Ending.TheVariants as ending
-use Rattle.abrlab_top.specs.Answer.{Answer, Outcome, text_in}
+use Rattle.abrlab_top.specs.Answer.{Outcome, text_in}
 use Rattle.abrlab_top.specs.Choice.{Choice, Chosen}
 use Rattle.abrlab_top.specs.Ending.{IsWhole, Told}
 use Rattle.abrlab_top.specs.Outcome.{manner_in, named_by, outcome_by}

@@ -82,11 +82,7 @@ fn put_coarse_lines<O: Sink>(out: &mut O, list: &BoundedList) -> Result<(), PutE
 }
 
 /// Writes the lines of a list, which has a bound of its own on a grid.
-fn put_list<O: Sink>(
-    out: &mut O,
-    grid: Option<Grid>,
-    list: &BoundedList,
-) -> Result<(), PutErr>
+fn put_list<O: Sink>(out: &mut O, grid: Option<Grid>, list: &BoundedList) -> Result<(), PutErr>
     ensures { Puts (O.seen out.old)
         (list_lines grid list.now.score list.now.bound list.now.labels list.now.rungs.items)
         (O.seen out.new) result }

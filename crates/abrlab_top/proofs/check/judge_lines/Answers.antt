@@ -1,5 +1,4 @@
 use Rattle.std.proofs.Common.{◌∙◌, Err, rules, subst, sym}
-use mir.Val.{SFits}
 use Rattle.std.specs.Int.{w128}
 use Rattle.std.proofs.lemmas.Int.{to_z-of_z}
 use Rattle.lab_inputs.specs.Stages.{network_of}

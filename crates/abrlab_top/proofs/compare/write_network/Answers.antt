@@ -1,4 +1,4 @@
-use Rattle.std.proofs.Common.{◌∙◌, ap, refl}
+use Rattle.std.proofs.Common.{◌∙◌, ap}
 use Rattle.lab_inputs.specs.Stages.{network_of}
 use Rattle.abrlab_top.specs.Rows.{BenchValue}
 use Rattle.abrlab_top.proofs.Networks.{bench_is, network_failed, network_written, rules_fit, rules_within}

@@ -1,4 +1,4 @@
-use Rattle.std.proofs.Common.{◌∙◌, ap, map, refl, string_bytes, subst, sym}
+use Rattle.std.proofs.Common.{◌∙◌, ap, map, string_bytes, subst}
 use Rattle.lab_io.specs.Memory.{MemFiles, SureText, file_of, mem_shelved}
 use Rattle.abrlab_top.specs.Ending.{status_of}
 use Rattle.abrlab_top.specs.Memory.{IsPrinted}

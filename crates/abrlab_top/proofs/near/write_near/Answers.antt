@@ -1,4 +1,4 @@
-use Rattle.std.proofs.Common.{◌≡◌, Some, sym}
+use Rattle.std.proofs.Common.{◌≡◌, Some}
 use Rattle.std.specs.List.{slice_get}
 use Rattle.lab_inputs.specs.Stages.{network_of}
 use Rattle.price_bounds.specs.Verdict.{price_parts}

@@ -1,5 +1,5 @@
 use Rattle.std.proofs.Common.{◌≡◌, ℕ, Option, refl, subst}
-use Rattle.player_core.specs.Scene.{IsTask, Task}
+use Rattle.player_core.specs.Scene.{Task}
 use Rattle.labels.specs.declared.label.Grid.{Grid}
 use Rattle.labels.specs.Frontier.{frontier}
 use Rattle.labels.specs.Grid.{exact}

@@ -5,7 +5,7 @@ use Rattle.abrlab_top.specs.Plan.{plan}
 use Rattle.abrlab_top.specs.Ending.{ended}
 use Rattle.abrlab_top.specs.Stages.{Writes, at_the_end}
 use Rattle.abrlab_top.proofs.Plans.{no_network, plan_stopped, planned_there}
-use Rattle.abrlab_top.proofs.Whole.{all_settled, exit, none_there, nothing_printed, put_done, put_failed, settings_stop, some_there, unsettled, wanting}
+use Rattle.abrlab_top.proofs.Whole.{all_settled, exit, none_there, nothing_printed, settings_stop, some_there, unsettled, wanting}
 use Rattle.abrlab_top.proofs.plan.write_plan.Goals as goal
 
 pub returns-in_default : goal.returns-in_default

@@ -4,7 +4,7 @@ use Rattle.labels.specs.declared.label.Grid.{Grid}
 use Rattle.labels.specs.Parts.{plan_parts}
 use Rattle.abrlab_top.specs.Plan.{certificate_lines, planned_on, task_on}
 use Rattle.abrlab_top.specs.Stages.{at_the_end}
-use Rattle.abrlab_top.proofs.Plans.{certificate_said, plan_failed, plan_given, plan_has_form}
+use Rattle.abrlab_top.proofs.Plans.{certificate_said, plan_failed, plan_given}
 use Rattle.abrlab_top.proofs.Whole.{exit, put_done, put_failed}
 use Rattle.abrlab_top.proofs.plan.write_proof.Goals as goal
 

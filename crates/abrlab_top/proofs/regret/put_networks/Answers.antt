@@ -1,6 +1,5 @@
 use Rattle.std.proofs.Common.{◌<◌, ap, refl, subst, sym}
 use Rattle.lab_io.proofs.Puts.{puts_as, puts_failed, puts_more, puts_none}
-use Rattle.lab_inputs.specs.Stages.{network_of}
 use Rattle.abrlab_top.specs.Regret.{networks_rows, tops_of}
 use Rattle.abrlab_top.proofs.Regrets.{at_place, networks_next, networks_over, ranked_at, table_count}
 use Rattle.abrlab_top.proofs.regret.put_networks.Goals as goal

@@ -1,4 +1,4 @@
-use Rattle.std.proofs.Common.{[], None, subst, sym}
+use Rattle.std.proofs.Common.{[], None}
 use Rattle.abrlab_top.specs.declared.ending.Ending.TheVariants as ending
 use Rattle.abrlab_top.specs.Answer.{printed}
 use Rattle.abrlab_top.specs.Regret.{first_spent, near_regret, ranked_text, tops_of}

@@ -1,4 +1,4 @@
-use Rattle.std.proofs.Common.{◌≡◌, ◌∙◌, Ok, Some, ap, sym}
+use Rattle.std.proofs.Common.{◌≡◌, Some}
 use Rattle.std.specs.List.{slice_get}
 use Rattle.lab_io.proofs.Puts.{puts_as}
 use Rattle.lab_words.specs.Command.{named}
@@ -6,7 +6,6 @@ use Rattle.lab_words.specs.Rules.{spoken}
 use Rattle.player_core.specs.Session.{shown}
 use Rattle.abrlab_top.specs.Answer.{printed}
 use Rattle.abrlab_top.specs.Rules.{kind_of}
-use Rattle.lab_inputs.specs.Settings.{settled}
 use Rattle.lab_inputs.specs.Stages.{network_of}
 use Rattle.abrlab_top.specs.Simulate.{session_on, simulate}
 use Rattle.abrlab_top.specs.Stages.{at_the_end}

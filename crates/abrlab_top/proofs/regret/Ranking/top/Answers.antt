@@ -1,1 +1,0 @@
-use Rattle.abrlab_top.proofs.regret.Ranking.top.Goals as goal
