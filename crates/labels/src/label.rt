@@ -6,7 +6,7 @@ ghost use Rattle.lab_model.specs.Film.{rungs_of, segments_of};
 ghost use Rattle.lab_model.specs.Fit.{SetupFits};
 ghost use Rattle.player_core.specs.Available.{all_ahead};
 ghost use Rattle.labels.specs.Grid.{IsGrid, multiple_above, multiple_below, rounded};
-ghost use Rattle.labels.specs.Labels.{Dominates, dominates, next_label, next_value, request_at, start_label, value_at_end};
+ghost use Rattle.labels.specs.Labels.{Dominates, came_at, dominates, next_label, next_value, request_at, start_label, value_at_end};
 ghost use Rattle.player_core.specs.Scene.{IsTask, task_of};
 ghost use Rattle.labels.specs.Near.{CanFollow};
 
@@ -77,6 +77,45 @@ pub fn value_on(scene: &Scene<'_>, segment: u16, old_rung: u8, v: i64, rung: u8)
     value_after(v, gain, loss)
 }
 
+/// The instant at which a segment on a rung is done that is asked for at an instant, at most 2 * 10^15.
+pub fn done_on(scene: &Scene<'_>, request: u64, segment: u16, rung: u8) -> u64
+    requires request { request ≤ 2000000000000000 }
+    requires segment { segment < segments_of scene.now.film }
+    requires rung { rung < rungs_of scene.now.film }
+    ensures { result ≡ came_at scene.now request segment rung }
+{
+    let size = scene.film().size(segment, rung);
+    scene.clock().finish(request, size).done
+}
+
+/// The successor, to segment `segment` on `rung`, of a label of the segment before on `old_rung`, where that segment is
+/// done at the instant `done`. The times of the old label are at most 10^15, and its value lies within 10^18 of 0.
+pub fn successor_done(
+    scene: &Scene<'_>,
+    segment: u16,
+    old_rung: u8,
+    old: Label,
+    rung: u8,
+    done: u64,
+) -> Label
+    requires segment { (1 ≤ segment) × (segment < segments_of scene.now.film) }
+    requires old_rung { old_rung < rungs_of scene.now.film }
+    requires rung { rung < rungs_of scene.now.film }
+    requires old { CanFollow old }
+    requires done { done ≡ came_at scene.now (request_at scene.now segment old) segment rung }
+    ensures label { result ≡ next_label scene.now segment old_rung old rung }
+    ensures task { IsTask scene.now }
+{
+    let film = scene.film();
+    prove!(film.segments() <= 2000);
+    let played_from = done.saturating_sub(segment as u64 * film.seg_ms() as u64);
+    Label {
+        t: done,
+        p: old.p.max(played_from),
+        v: value_on(scene, segment, old_rung, old.v, rung),
+    }
+}
+
 /// The successor, to segment `segment` on `rung`, of a label of the segment before on `old_rung`. The times of the old
 /// label are at most 10^15, and its value lies within 10^18 of 0.
 pub fn next_on(scene: &Scene<'_>, segment: u16, old_rung: u8, old: Label, rung: u8) -> Label
@@ -87,15 +126,9 @@ pub fn next_on(scene: &Scene<'_>, segment: u16, old_rung: u8, old: Label, rung: 
     ensures label { result ≡ next_label scene.now segment old_rung old rung }
     ensures task { IsTask scene.now }
 {
-    let film = scene.film();
     let request = request_on(scene, segment, old);
-    let t = scene.clock().finish(request, film.size(segment, rung)).done;
-    let played_from = t.saturating_sub(segment as u64 * film.seg_ms() as u64);
-    Label {
-        t,
-        p: old.p.max(played_from),
-        v: value_on(scene, segment, old_rung, old.v, rung),
-    }
+    let done = done_on(scene, request, segment, rung);
+    successor_done(scene, segment, old_rung, old, rung, done)
 }
 
 /// The label of segment 0 on a rung, where `ahead` milliseconds of media, at most 120000000, are there at

@@ -8,8 +8,8 @@ mod plans;
 mod values;
 
 pub use label::{
-    Grid, dominates, end_value, next_from, next_label, next_on, request_on, round_label,
-    start_from, start_label, start_on, value_on,
+    Grid, dominates, done_on, end_value, next_from, next_label, next_on, request_on, round_label,
+    start_from, start_label, start_on, successor_done, value_on,
 };
 pub use laws::{
     dominance_is_inherited, frontiers_grow, plans_are_accepted, plans_are_best,
