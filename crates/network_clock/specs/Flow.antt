@@ -88,3 +88,8 @@ pub record Opens (ps : List Period) (from credit instant : ℕ) : Type 0 where
   pub waits : (left k : ℕ) → from + k < instant → is_spent ps (from + k) (job_after ps from k (record { credit = credit; left = left })) ≡ true → ⊥
   pub spends : (left : ℕ) → is_spent ps instant (job_after ps from (instant - from) (record { credit = credit; left = left })) ≡ true
   pub uses : flow used_in ps from + credit ≤ flow used_in ps (instant + 1)
+
+-- what is seen of a request: the trace and the instant
+pub record RequestValue : Type 0 where
+  pub periods : List Period
+  pub start : ℕ

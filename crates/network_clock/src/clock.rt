@@ -132,6 +132,42 @@ impl Clock {
         Ok(Clock { delay, bits })
     }
 
+    /// Where a download of `bits` lands that is asked for at `start` and begins to take bits at this moment.
+    fn land(&self, start: u64, first: Moment, bits: u32) -> Landing
+        requires start { start ≤ 2000000000000000 }
+        requires bits { (1 ≤ bits) × (bits ≤ 200000000) }
+        requires opens { Opens self.now start 100000000 first.instant }
+        requires place { Touches self.now first.place first.instant }
+        ensures first { result.first ≡ first_at self.now start bits }
+        ensures done { result.done ≡ done_at self.now start bits }
+        ensures delays { (start ≤ result.first) × (result.first ≤ start + 10000) }
+        ensures carries { result.first < result.done }
+        ensures ends { result.done < start + 410000000 }
+        ensures ordered { (later more : ℕ)
+            → start ≤ later
+            → bits ≤ more
+            → more ≤ 200000000
+            → result.done ≤ done_at self.now later more }
+        ensures trace { IsTrace self.now }
+    {
+        let carried = self.bits.carried_since(first.place, first.instant) + 1000 * bits as u64;
+        let done = self.bits.reach_from(first.place, carried);
+        Landing {
+            first: first.instant,
+            done: done.instant,
+        }
+    }
+
+    /// The least instant from `start` on, at most 2 * 10^15, whose millisecond is spent on the bits of a download that is
+    /// asked for then, however large it is.
+    fn opening(&self, start: u64) -> Moment
+        requires start { start ≤ 2000000000000000 }
+        ensures opens { Opens self.now start 100000000 result.instant }
+        ensures place { Touches self.now result.place result.instant }
+    {
+        first_from(&self.delay, &self.bits, start, 100_000_000)
+    }
+
     /// When a download of `bits`, 1 to 200000000, begins to take bits, and when it is done, if it is asked
     /// for at `start`, at most 2 * 10^15. No download that is asked for later, and is no smaller, is done
     /// earlier.
@@ -150,12 +186,19 @@ impl Clock {
             → result.done ≤ done_at self.now later more }
         ensures trace { IsTrace self.now }
     {
-        let first = first_from(&self.delay, &self.bits, start, 100_000_000);
-        let carried = self.bits.carried_since(first.place, first.instant) + 1000 * bits as u64;
-        let done = self.bits.reach_from(first.place, carried);
-        Landing {
-            first: first.instant,
-            done: done.instant,
+        self.land(start, self.opening(start), bits)
+    }
+
+    /// A request at an instant, at most 2 * 10^15, before it is known how much is asked for.
+    pub fn request(&self, start: u64) -> Request<'_>
+        requires start { start ≤ 2000000000000000 }
+        ensures periods { result.periods ≡ self.now }
+        ensures start { result.start ≡ start }
+    {
+        Request {
+            clock: self,
+            start,
+            first: self.opening(start),
         }
     }
 
@@ -208,5 +251,36 @@ impl Clock {
         ensures value { result.now ≡ delay_of self.now }
     {
         &self.delay
+    }
+}
+
+/// A request on a recorded network: where bits begin to flow is found once for downloads of all sizes.
+#[derive(Drop)]
+pub struct Request<'a> {
+    clock: &'a Clock,
+    start: u64,
+    first: Moment,
+}
+
+impl<'a> Model for Request<'a> {
+    ghost use Rattle.std.specs.Prelude.{◌≡◌, ◌≤◌};
+    ghost use Rattle.network_clock.specs.Flow.{Opens, RequestValue, Touches};
+
+    ghost Value = { RequestValue };
+
+    ghost view = { λ r. record { periods = r.clock.now; start = r.start } };
+
+    ghost invariant = { λ r. (r.start ≤ 2000000000000000)
+        × Opens r.clock.now r.start 100000000 r.first.instant
+        × Touches r.clock.now r.first.place r.first.instant };
+}
+
+impl<'a> Request<'a> {
+    /// When a download of `bits`, 1 to 200000000, is done that is asked for by this request.
+    pub fn done(&self, bits: u32) -> u64
+        requires { (1 ≤ bits) × (bits ≤ 200000000) }
+        ensures { result ≡ done_at self.now.periods self.now.start bits }
+    {
+        self.clock.land(self.start, self.first, bits).done
     }
 }

@@ -8,7 +8,7 @@ mod link;
 mod meter;
 mod plain;
 
-pub use clock::Clock;
+pub use clock::{Clock, Request};
 pub use job::{Job, Landing};
 pub use link::{Link, share_of};
 

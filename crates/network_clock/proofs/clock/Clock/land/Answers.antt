@@ -1,38 +1,41 @@
 use Rattle.std.proofs.Common.{◌≡◌, ◌+◌, ◌*◌, arith}
 use Rattle.lab_model.specs.Cycle.{IsTrace, cycle_bits}
-use Rattle.network_clock.specs.Flow.{Reaches, carried_in, flow}
+use Rattle.network_clock.specs.Flow.{Opens, Reaches, carried_in, flow}
 use Rattle.network_clock.specs.Network.{done_at, first_at, period_at}
 use Rattle.network_clock.proofs.Downloads.{done_found, first_before_done}
 use Rattle.network_clock.proofs.Flows.{carries_enough, trace_flows}
 use Rattle.network_clock.proofs.Openings.{done_reached, first_opens}
 use Rattle.network_clock.proofs.Order.{first_in_first_out}
 use Rattle.network_clock.proofs.Sums.{sum_below_grows}
-use Rattle.network_clock.proofs.clock.Clock.finish.Goals as goal
-use Rattle.network_clock.proofs.clock.Clock.finish.Goals.{After-reach_from-done}
+use Rattle.network_clock.proofs.clock.Clock.land.Goals as goal
+use Rattle.network_clock.proofs.clock.Clock.land.Goals.{After-reach_from-done}
 
 pub reach_from-done-requires-clause-soon : goal.reach_from-done-requires-clause-soon
 reach_from-done-requires-clause-soon c =
     let ps = c.self.inside.bits in
-    let first = c.first_from-first.result.instant in
-    let soon = c.first_from-first.ensures.opens.soon in
+    let first = c.args.first.instant in
+    let soon = c.requires.opens.soon in
     let enough = carries_enough ps c.self.invariant.0 first 300000000 (omega arith) in
     let grows = sum_below_grows (λ i. carried_in (period_at ps i)) (first + 300000000) 3000000000000000 (omega (arith, soon)) in
     omega (arith, enough, grows, c.carried_since.ensures.value)
 
+opens : (c : After-reach_from-done) → Opens c.self.inside.bits c.args.start 100000000 c.args.first.instant
+opens c = rw (← c.self.view_is) at c.requires.opens
+
 trace : (c : After-reach_from-done) → IsTrace c.args.self.now
 trace c = rw (← c.self.view_is) c.self.invariant.0
 
-first : (c : After-reach_from-done) → c.first_from-first.result.instant ≡ first_at c.args.self.now c.args.start c.args.bits
-first c = rw (← c.self.view_is) (first_opens c.self.inside.bits c.args.start c.args.bits c.first_from-first.result.instant c.first_from-first.ensures.opens)
+first : (c : After-reach_from-done) → c.args.first.instant ≡ first_at c.args.self.now c.args.start c.args.bits
+first c = rw (← c.self.view_is) (first_opens c.self.inside.bits c.args.start c.args.bits c.args.first.instant (opens c))
 
 done : (c : After-reach_from-done) → c.reach_from-done.result.instant ≡ done_at c.args.self.now c.args.start c.args.bits
 done c =
     let ps = c.self.inside.bits in
-    let first = c.first_from-first.result.instant in
-    let before = c.first_from-first.result.place.cycles * cycle_bits ps in
+    let first = c.args.first.instant in
+    let before = c.args.first.place.cycles * cycle_bits ps in
     let wanted : before + (c.carried_since.result + 1000 * c.args.bits) ≡ flow carried_in ps first + 1000 * c.args.bits = omega (arith, c.carried_since.ensures.value) in
     let r : Reaches ps (flow carried_in ps first + 1000 * c.args.bits) c.reach_from-done.result.instant = rw (← wanted) c.reach_from-done.ensures.reaches in
-    rw (← c.self.view_is) (done_reached ps c.self.invariant.0 c.args.start c.args.bits first c.reach_from-done.result.instant c.requires.bits.0 c.requires.bits.1 c.first_from-first.ensures.opens r)
+    rw (← c.self.view_is) (done_reached ps c.self.invariant.0 c.args.start c.args.bits first c.reach_from-done.result.instant c.requires.bits.0 c.requires.bits.1 (opens c) r)
 
 pub returns-clause-first : goal.returns-clause-first
 returns-clause-first c = first c
