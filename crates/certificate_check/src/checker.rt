@@ -3,7 +3,7 @@
 ghost use Rattle.std.specs.Prelude.{◌≡◌, ◌+◌, ◌<◌, ◌≤◌, [], int_le, length};
 ghost use Rattle.lab_model.specs.Film.{rungs_of, segments_of};
 ghost use Rattle.lab_model.specs.Fit.{SetupFits};
-ghost use Rattle.labels.specs.Labels.{AreRungs, end_value, next_label, start_label};
+ghost use Rattle.labels.specs.Labels.{AreRungs, end_value, next_label, request_at, start_label};
 ghost use Rattle.player_core.specs.Scene.{IsTask, Task, task_of};
 ghost use Rattle.labels.specs.Near.{CanFollow};
 ghost use Rattle.labels.specs.Parts.{chain_parts};
@@ -19,8 +19,8 @@ use crate::ranges::{
 };
 use crate::verdict::Verdict;
 use lab_model::{Label, Manifest, Setup};
-use labels::{Chain, dominates, end_value, next_on, start_on};
-use network_clock::Clock;
+use labels::{Chain, dominates, end_value, request_on, start_on, successor_done};
+use network_clock::{Clock, Request};
 use player_core::Scene;
 use std::marker::Model;
 
@@ -67,6 +67,41 @@ impl<'a> Checker<'a> {
         start_on(&self.scene, rung)
     }
 
+    /// The request for the next segment after a label.
+    fn request(&self, segment: u16, old: Label) -> Request<'_>
+        requires segment { segment + 1 < segments_of self.now.film }
+        requires old { CanFollow old }
+        ensures periods { result.periods ≡ self.now.periods }
+        ensures start { result.start ≡ request_at self.now (segment + 1) old }
+    {
+        prove!(self.scene.film().segments() <= 2000);
+        let start = request_on(&self.scene, segment + 1, old);
+        self.scene.clock().request(start)
+    }
+
+    /// The successor on a rung of the next segment, by the request for that one.
+    fn successor_by(
+        &self,
+        request: &Request<'_>,
+        segment: u16,
+        rung: u8,
+        old: Label,
+        next_rung: u8,
+    ) -> Label
+        requires periods { request.now.periods ≡ self.now.periods }
+        requires start { request.now.start ≡ request_at self.now (segment + 1) old }
+        requires segment { segment + 1 < segments_of self.now.film }
+        requires rung { rung < rungs_of self.now.film }
+        requires old { CanFollow old }
+        requires next_rung { next_rung < rungs_of self.now.film }
+        ensures { result ≡ next_label self.now (segment + 1) rung old next_rung }
+    {
+        let film = self.scene.film();
+        prove!(film.segments() <= 2000);
+        let done = request.done(film.size(segment + 1, next_rung));
+        successor_done(&self.scene, segment + 1, rung, old, next_rung, done)
+    }
+
     /// The successor on a rung of the next segment.
     fn successor(&self, segment: u16, rung: u8, old: Label, next_rung: u8) -> Label
         requires segment { segment + 1 < segments_of self.now.film }
@@ -75,8 +110,7 @@ impl<'a> Checker<'a> {
         requires next_rung { next_rung < rungs_of self.now.film }
         ensures { result ≡ next_label self.now (segment + 1) rung old next_rung }
     {
-        prove!(self.scene.film().segments() <= 2000);
-        next_on(&self.scene, segment + 1, rung, old, next_rung)
+        self.successor_by(&self.request(segment, old), segment, rung, old, next_rung)
     }
 
     /// The end value of a label.
@@ -144,10 +178,11 @@ impl<'a> Checker<'a> {
             (chain_parts chain.now) (chains_by_rung next.now) place }
     {
         let label = label_of(chain, place);
+        let request = self.request(segment, label);
         for (next_rung, next_chain) in next.iter().enumerate() {
             let name = name_of(next.len(), chain, place, next_rung);
             let named = label_of(next_chain, name);
-            let successor = self.successor(segment, rung, label, next_rung as u8);
+            let successor = self.successor_by(&request, segment, rung, label, next_rung as u8);
             test(4, segment, rung, place as u32, dominates(named, successor))?;
         }
         Ok(())

@@ -115,6 +115,7 @@ fn agrees(rt: &impl Abort, alloc: Global, rows: &[(u32, u64, u32)]) -> Result<()
     let clock = Clock::new(alloc, &trace)?;
     let periods = trace.periods();
     for start in 0..24u64 {
+        let request = clock.request(start);
         for bits in 1..30u32 {
             let landing = Landing {
                 first: plain::first_at(periods, start, bits),
@@ -125,6 +126,7 @@ fn agrees(rt: &impl Abort, alloc: Global, rows: &[(u32, u64, u32)]) -> Result<()
                 landing,
                 "from {start}, {bits} bits"
             );
+            assert_eq!(rt; request.done(bits), landing.done);
         }
         for eighths in 0..9u32 {
             let job = Job {

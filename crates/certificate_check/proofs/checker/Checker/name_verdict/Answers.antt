@@ -9,6 +9,11 @@ use Rattle.certificate_check.proofs.InRange.{follows, name_in_range}
 use Rattle.certificate_check.proofs.Scheme.{first_fails, first_more, first_none}
 use Rattle.certificate_check.proofs.checker.Checker.name_verdict.Goals as goal
 
+pub request-request-requires-clause-old : goal.request-request-requires-clause-old
+request-request-requires-clause-old c =
+    subst CanFollow (sym c.label_of-label.ensures)
+    (follows (length c.args.next.now) c.args.segment c.args.rung (chain_parts c.args.chain.now) (chains_by_rung c.args.next.now) c.args.place c.requires.can.form c.requires.place c.requires.range)
+
 pub loop-next_rung-init : goal.loop-next_rung-init
 loop-next_rung-init c = first_none _
 
@@ -20,8 +25,8 @@ label_of-named-requires c =
     subst (λ n. n < count_of (chain_parts c.index-next-next_rung.result)) (sym c.name_of-name.ensures)
     (subst (λ x. name_of (length c.args.next.now) (chain_parts c.args.chain.now) c.args.place r < count_of x) (sym chain) named)
 
-pub successor-successor-requires-clause-old : goal.successor-successor-requires-clause-old
-successor-successor-requires-clause-old c =
+pub successor_by-successor-requires-clause-old : goal.successor_by-successor-requires-clause-old
+successor_by-successor-requires-clause-old c =
     subst CanFollow (sym c.label_of-label.ensures)
     (follows (length c.args.next.now) c.args.segment c.args.rung (chain_parts c.args.chain.now) (chains_by_rung c.args.next.now) c.args.place c.requires.can.form c.requires.place c.requires.range)
 
@@ -29,10 +34,10 @@ pub loop-next_rung-preserved : goal.loop-next_rung-preserved
 loop-next_rung-preserved c =
     let r = c.loop-next_rung.next_rung in
     let chain = layer_read c.args.next.now r c.index-next-next_rung.result c.loop-next_rung-test.true c.index-next-next_rung.is in
-    first_more _ _ c.loop-next_rung.invariant (c.in_ok-test.ensures ∙ ap (tested 4 c.args.segment c.args.rung c.args.place) (c.dominates.ensures ∙ ap₂ dominates (c.label_of-named.ensures ∙ ap₂ label_of chain c.name_of-name.ensures) (c.successor-successor.ensures ∙ ap (λ l. next_label c.args.self.now (c.args.segment + 1) c.args.rung l r) c.label_of-label.ensures)))
+    first_more _ _ c.loop-next_rung.invariant (c.in_ok-test.ensures ∙ ap (tested 4 c.args.segment c.args.rung c.args.place) (c.dominates.ensures ∙ ap₂ dominates (c.label_of-named.ensures ∙ ap₂ label_of chain c.name_of-name.ensures) (c.successor_by-successor.ensures ∙ ap (λ l. next_label c.args.self.now (c.args.segment + 1) c.args.rung l r) c.label_of-label.ensures)))
 
 pub returns-in_err-test : goal.returns-in_err-test
 returns-in_err-test c =
     let r = c.loop-next_rung.next_rung in
     let chain = layer_read c.args.next.now r c.index-next-next_rung.result c.loop-next_rung-test.true c.index-next-next_rung.is in
-    first_fails _ _ _ c.from_residual.result c.in_err-test.field-0.0 c.loop-next_rung-test.true c.loop-next_rung.invariant (c.in_err-test.ensures ∙ ap (tested 4 c.args.segment c.args.rung c.args.place) (c.dominates.ensures ∙ ap₂ dominates (c.label_of-named.ensures ∙ ap₂ label_of chain c.name_of-name.ensures) (c.successor-successor.ensures ∙ ap (λ l. next_label c.args.self.now (c.args.segment + 1) c.args.rung l r) c.label_of-label.ensures))) c.from_residual.ensures.1
+    first_fails _ _ _ c.from_residual.result c.in_err-test.field-0.0 c.loop-next_rung-test.true c.loop-next_rung.invariant (c.in_err-test.ensures ∙ ap (tested 4 c.args.segment c.args.rung c.args.place) (c.dominates.ensures ∙ ap₂ dominates (c.label_of-named.ensures ∙ ap₂ label_of chain c.name_of-name.ensures) (c.successor_by-successor.ensures ∙ ap (λ l. next_label c.args.self.now (c.args.segment + 1) c.args.rung l r) c.label_of-label.ensures))) c.from_residual.ensures.1
