@@ -1,7 +1,7 @@
--- What the planner answers: a plan with all that makes it the best, or the segment at which the budget is spent.
-use Rattle.std.specs.Prelude.{◌≡◌, ℕ, ◌≤◌, ℤ, Result, Ok, Err, length}
-use Rattle.lab_model.specs.Film.{segments_of}
+-- What the planner answers: a list with its bound, or a plan with all that makes it the best, or the segment at which the budget is spent.
+use Rattle.std.specs.Prelude.{◌≡◌, ℕ, ◌≤◌, ℤ, Result, Ok, Err}
 use Rattle.labels.specs.declared.label.Grid.{Grid}
+use Rattle.frontier_planner.specs.declared.plans.BoundedList.{BoundedList}
 use Rattle.frontier_planner.specs.declared.plans.CoarsePlan.{CoarsePlan}
 use Rattle.labels.specs.declared.plans.Plan.{Plan}
 use Rattle.frontier_planner.specs.declared.plans.PlanErr.{PlanErr}
@@ -12,23 +12,41 @@ use Rattle.labels.specs.Grid.{exact}
 use Rattle.labels.specs.Grown.{grown}
 use Rattle.labels.specs.Parts.{plan_parts}
 use Rattle.labels.specs.Form.{HasSignedDigits, IsCertificate, score_digits}
-use Rattle.labels.specs.Read.{Chains, SpentAt, bound_of, certificate_from, end_of_plan, labels_in, list_of_plan}
-use Rattle.frontier_planner.specs.Layers.{HoldAll}
-use Rattle.frontier_planner.specs.declared.planner.Reading.{Reading}
+use Rattle.labels.specs.Read.{Chains, SpentAt, bound_of, certificate_from, end_of_plan, labels_in, list_of_plan, list_value}
+use Rattle.frontier_planner.specs.Linked.{HoldsAll}
+use Rattle.frontier_planner.specs.declared.planner.Ending.{Ending}
+use Rattle.frontier_planner.specs.declared.planner.Outline.{Outline}
 use Rattle.labels.specs.Valid.{IsValid}
 use Rattle.labels.specs.Best.{Settles}
 
+-- the list that is read off these chains of a task on a grid, within a budget, with its score and a bound for all rung lists
+pub record IsListOf (d : Grid) (g : Task) (chains : Chains) (budget : ℕ) (b : BoundedList) : Type 0 where
+  -- it is read backwards off the chains, and the score is what its labels end at
+  pub rungs : b.rungs.items ≡ list_of_plan d g chains
+  pub score : b.score ≡ list_value g (list_of_plan d g chains)
+  -- the chains have so many labels, and no more than the budget
+  pub labels : b.labels ≡ labels_in g chains
+  pub within : b.labels ≤ budget
+  -- the bound is the greatest end value
+  pub bound : b.bound ≡ bound_of g chains
+  -- the list's value is the score, and no list's value is above the bound
+  pub settles : Settles g b.rungs.items b.score b.bound
+
+-- what is answered of a list: the one that is read off these chains, or the segment at whose end they spend the budget
+abbrev pub ListAnswer : Grid → Task → Chains → ℕ → Result BoundedList PlanErr → Type 0
+ListAnswer d g chains budget (Ok b) = IsListOf d g chains budget b
+ListAnswer d g chains budget (Err (fault.BudgetSpent segment)) = SpentAt g chains budget segment
+ListAnswer d g chains budget (Err fault.Memory) = Unit {0}
+
+-- the list of a plan, with a bound
+abbrev pub list_in : Plan → ℤ → BoundedList
+list_in p most = record { rungs = p.rungs; score = p.score; bound = most; labels = p.labels }
+
 -- the plan that is read off these chains of a task on a grid, within a budget, and a bound for all rung lists
 pub record IsPlanOf (d : Grid) (g : Task) (chains : Chains) (budget : ℕ) (p : Plan) (most : ℤ) : Type 0 where
-  -- its certificate is the one that is read off the chains
+  -- its list is the one that is read off the chains, and its certificate is
+  pub list : IsListOf d g chains budget (list_in p most)
   pub parts : plan_parts g.film p ≡ certificate_from d g chains
-  -- they have so many labels, and no more than the budget
-  pub labels : p.labels ≡ labels_in g chains
-  pub within : p.labels ≤ budget
-  -- the bound is the greatest end value
-  pub bound : most ≡ bound_of g chains
-  -- the list's value is the score, and no list's value is above the bound
-  pub settles : Settles g p.rungs.items p.score most
   -- the certificate proves it
   pub valid : IsValid g (plan_parts g.film p) most
   -- the certificate has a text, and the bound no more digits than one may have
@@ -56,9 +74,17 @@ CoarseAnswer d g budget (Err fault.Memory) = Unit {0}
 abbrev pub ExactAnswer : Grid → Task → ℕ → Result CoarsePlan PlanErr → Type 0
 ExactAnswer d g budget r = d ≡ exact → PlanAnswer g budget (without_bound r)
 
--- what is read off the frontiers: the end, the list and the chains
-pub record IsReading (d : Grid) (g : Task) (r : Reading) : Type 0 where
-  pub end : r.end ≡ (end_of_plan g (grown d g)).1
-  pub rungs : r.rungs.items ≡ list_of_plan d g (grown d g)
-  pub holds : HoldAll d g r.layers.items
-  pub count : length r.layers.items ≡ segments_of g.film
+-- what is read off the frontiers: the end and the list
+pub record IsEnding (d : Grid) (g : Task) (e : Ending) : Type 0 where
+  pub end : e.end ≡ (end_of_plan g (grown d g)).1
+  pub rungs : e.rungs.items ≡ list_of_plan d g (grown d g)
+
+-- the frontiers with the list that is read off them
+abbrev pub IsOutline : Grid → Task → ℕ → Outline → Type 0
+IsOutline d g budget o = IsListOf d g (grown d g) budget o.list × HoldsAll d g o.arena
+
+-- the same, or the segment at whose end they spend the budget
+abbrev pub OutlineAnswer : Grid → Task → ℕ → Result Outline PlanErr → Type 0
+OutlineAnswer d g budget (Ok o) = IsOutline d g budget o
+OutlineAnswer d g budget (Err (fault.BudgetSpent segment)) = SpentAt g (grown d g) budget segment
+OutlineAnswer d g budget (Err fault.Memory) = Unit {0}

@@ -19,5 +19,5 @@ pub use labels::{
     labels_are_values, next_from, next_label, plans_are_accepted, plans_are_best, round_label,
     small_buffers_tell_apart, start_from, start_label, valid_is_sound,
 };
-pub use planner::{plan, plan_from};
-pub use plans::{CoarsePlan, PlanErr};
+pub use planner::{list_from, plan, plan_from};
+pub use plans::{BoundedList, CoarsePlan, PlanErr};

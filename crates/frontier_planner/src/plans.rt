@@ -7,6 +7,19 @@ use lab_model::NoMemory;
 use labels::Plan;
 use std::alloc::{AllocError, AllocFailed};
 
+/// A rung list on a grid, which need not be the best, with a bound for all rung lists.
+#[derive(Drop)]
+pub struct BoundedList {
+    /// The rung of each segment.
+    pub rungs: Vec<u8>,
+    /// The score of the list, in thousandths of a point.
+    pub score: i128,
+    /// What no rung list comes to more than, in thousandths of a point.
+    pub bound: i128,
+    /// The number of labels of the chains that the list is read off, 1 to 1000000.
+    pub labels: u32,
+}
+
 /// The plan on a grid, which need not be the best.
 #[derive(Drop)]
 pub struct CoarsePlan {

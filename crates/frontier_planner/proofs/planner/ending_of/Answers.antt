@@ -2,7 +2,7 @@ use Rattle.std.proofs.Common.{◌-◌, ap, subst}
 use Rattle.std.specs.List.{Contains}
 use Rattle.frontier_planner.specs.Linked.{pair_of}
 use Rattle.frontier_planner.proofs.Planned.{list_is}
-use Rattle.frontier_planner.proofs.planner.reading_of.Goals as goal
+use Rattle.frontier_planner.proofs.planner.ending_of.Goals as goal
 
 pub rungs_to-requires-clause-reached : goal.rungs_to-requires-clause-reached
 rungs_to-requires-clause-reached c =
