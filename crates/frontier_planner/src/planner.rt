@@ -66,13 +66,23 @@ fn outline_of(alloc: Global, brief: &Brief, budget: u32) -> Result<Outline, Plan
     prove!(brief.segments() > 0);
     let Frontiers { arena, labels } = grown_frontiers(alloc, brief, budget)?;
     let Ending { end, rungs } = ending_of(alloc, brief, &arena)?;
+    let score = value_of_list(brief, &rungs);
     let list = BoundedList {
-        score: value_of_list(brief, &rungs),
-        bound: brief.end_value(end),
         rungs,
+        score,
+        bound: brief.end_value(end),
         labels,
     };
     Ok(Outline { list, arena })
+}
+
+/// The list of a brief, whose frontiers may have as many labels as the budget.
+fn list_of(alloc: Global, brief: &Brief, budget: u32) -> Result<BoundedList, PlanErr>
+    requires { (1 ≤ budget) × (budget ≤ 1000000) }
+    ensures { ListAnswer brief.now.grid brief.now.scene
+        (grown brief.now.grid brief.now.scene) budget result }
+{
+    Ok(outline_of(alloc, brief, budget)?.list)
 }
 
 /// The chains of the arena, which is then let go.
@@ -89,6 +99,7 @@ fn plan_of(alloc: Global, brief: &Brief, budget: u32) -> Result<CoarsePlan, Plan
     requires { (1 ≤ budget) × (budget ≤ 1000000) }
     ensures { CoarseAnswer brief.now.grid brief.now.scene budget result }
 {
+    prove!(brief.segments() > 0);
     let Outline { list, arena } = outline_of(alloc, brief, budget)?;
     let layers = layers_within(alloc, brief, arena)?;
     let plan = Plan {
@@ -129,7 +140,7 @@ pub fn list_from(
     ensures bound { grid ≡ exact → IfOk result (λ b. b.bound ≡ b.score) }
 {
     let scene = Scene::new(film, clock, setup, ahead);
-    Ok(outline_of(alloc, &Brief::new(scene, grid), budget)?.list)
+    list_of(alloc, &Brief::new(scene, grid), budget)
 }
 
 /// The plan on a grid, where `ahead` milliseconds of media, at most 120000000, are there at instant 0. The

@@ -16,6 +16,4 @@ returns c =
     record {
       end = ap (λ p. p.1) c.best_end-end.ensures.best;
       rungs = list_is d g c.segments-last.ensures.can 0 (c.segments-last.result - 1) (pair_of c.best_end-end.result) c.in_ok-rungs.rungs.items (ap (λ n. n - 1) last) c.best_end-end.ensures.best c.in_ok-rungs.ensures;
-      holds = c.in_ok-layers.ensures.holds;
-      count = c.in_ok-layers.ensures.count;
     }

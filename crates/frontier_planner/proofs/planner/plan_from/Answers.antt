@@ -23,4 +23,4 @@ pub returns-clause-exact : goal.returns-clause-exact
 returns-clause-exact c = exact_answer c.args.grid (task_of c.args.film.now c.args.clock.now c.args.setup.now c.args.ahead) (can_plan c) c.args.budget c.plan_of.result (returns-clause-coarse c)
 
 pub returns-clause-bound : goal.returns-clause-bound
-returns-clause-bound c = exact_bound c.args.grid (task_of c.args.film.now c.args.clock.now c.args.setup.now c.args.ahead) (can_plan c).task c.args.budget c.plan_of.result (returns-clause-coarse c)
+returns-clause-bound c = exact_bound c.args.grid (task_of c.args.film.now c.args.clock.now c.args.setup.now c.args.ahead) (can_plan c) c.args.budget c.plan_of.result (returns-clause-coarse c)

@@ -1,42 +1,40 @@
-use Rattle.std.proofs.Common.{rules, ◌≡◌, ◌∙◌, ◌-◌, ap, refl, sym, subst, arith, of_z, to_z}
+use Rattle.std.proofs.Common.{rules, ◌≡◌, ℤ, sym, subst, of_z, to_z}
 use Rattle.std.specs.Int.{w128}
-use Rattle.lab_model.specs.Film.{segments_of}
 use Rattle.labels.specs.Grown.{grown}
-use Rattle.labels.specs.Labels.{AreRungs, end_value}
-use Rattle.labels.specs.Read.{end_of_plan, list_value}
-use Rattle.frontier_planner.proofs.Planned.{coarse_is, end_there, parts_are}
-use Rattle.labels.proofs.ReadBack.{list_fits}
-use Rattle.labels.proofs.Follows.{label_follows}
+use Rattle.frontier_planner.specs.declared.plans.BoundedList.{BoundedList}
+use Rattle.frontier_planner.specs.Layers.{HoldPlan}
+use Rattle.frontier_planner.specs.Planned.{IsListOf}
+use Rattle.frontier_planner.proofs.Planned.{coarse_is, parts_are, plan_held}
 use Rattle.frontier_planner.proofs.planner.plan_of.Goals as goal
 
-pub value_of_list-score-requires : goal.value_of_list-score-requires
-value_of_list-score-requires c =
+pub starts-requires : goal.starts-requires
+starts-requires c =
     let d = c.args.brief.now.grid in
     let g = c.args.brief.now.scene in
-    let case = c.segments.ensures.can in
-    subst (AreRungs g (segments_of g.film)) (sym (c.deref.ensures.value ∙ c.in_ok-end.ensures.rungs)) (list_fits d g case.grid case.task)
+    let layers = c.in_ok-layers.ensures in
+    subst (HoldPlan d g) (sym c.deref.ensures.value)
+    (plan_held d g c.segments.ensures.can c.args.budget c.in_ok-layers.layers.items c.in_ok-list.field-0.list c.requires.1 c.in_ok-list.ensures.0 layers.holds layers.count)
 
-pub end_value-requires : goal.end_value-requires
-end_value-requires c =
+pub chains-requires : goal.chains-requires
+chains-requires c =
     let d = c.args.brief.now.grid in
     let g = c.args.brief.now.scene in
-    let case = c.segments.ensures.can in
-    let some = case.task.film.segments.0 in
-    let last = segments_of g.film - 1 in
-    let there = end_there d g case c.args.budget last (end_of_plan g (grown d g)) refl refl in
-    let delay = (label_follows d g case last (end_of_plan g (grown d g)) (omega (arith, some)) there).delay in
-    let same = ap (λ l. l.p) c.in_ok-end.ensures.end in
-    omega (arith, delay, same)
+    let layers = c.in_ok-layers.ensures in
+    subst (HoldPlan d g) (sym c.deref-2.ensures.value)
+    (plan_held d g c.segments.ensures.can c.args.budget c.in_ok-layers.layers.items c.in_ok-list.field-0.list c.requires.1 c.in_ok-list.ensures.0 layers.holds layers.count)
 
 pub returns : goal.returns
 returns c =
     let d = c.args.brief.now.grid in
     let g = c.args.brief.now.scene in
     let case = c.segments.ensures.can in
-    let held = c.in_ok-arena.ensures in
-    let score : to_z w128 (of_z w128 c.value_of_list-score.result) ≡ c.value_of_list-score.result = search rules in
-    let bound : to_z w128 (of_z w128 c.end_value.result) ≡ c.end_value.result = search rules in
-    let parts = parts_are d g case c.args.budget _ c.in_ok-end.field-0.rungs.items c.in_ok-starts.starts.items (to_z w128 (of_z w128 c.value_of_list-score.result)) _
-    c.has_table.ensures c.in_ok-end.ensures.rungs (score ∙ c.value_of_list-score.ensures ∙ ap (list_value g) c.deref.ensures.value) c.in_ok-starts.ensures c.in_ok-chains.ensures in
-    coarse_is d g case c.args.budget c.requires.1 _ (to_z w128 (of_z w128 c.end_value.result)) parts held.1 held.2
-    (bound ∙ c.end_value.ensures ∙ ap (end_value g) c.in_ok-end.ensures.end)
+    let l = c.in_ok-list.field-0.list in
+    let own : IsListOf d g (grown d g) c.args.budget l = c.in_ok-list.ensures.0 in
+    let score : to_z w128 (of_z w128 l.score) ≡ l.score = search rules in
+    let bound : to_z w128 (of_z w128 l.bound) ≡ l.bound = search rules in
+    let scored : IsListOf d g (grown d g) c.args.budget (record { rungs = l.rungs; score = to_z w128 (of_z w128 l.score); bound = l.bound; labels = l.labels }) =
+    subst (λ (v : ℤ). let b : BoundedList = record { rungs = l.rungs; score = v; bound = l.bound; labels = l.labels } in IsListOf d g (grown d g) c.args.budget b) (sym score) own in
+    let list : IsListOf d g (grown d g) c.args.budget (record { rungs = l.rungs; score = to_z w128 (of_z w128 l.score); bound = to_z w128 (of_z w128 l.bound); labels = l.labels }) =
+    subst (λ (v : ℤ). let b : BoundedList = record { rungs = l.rungs; score = to_z w128 (of_z w128 l.score); bound = v; labels = l.labels } in IsListOf d g (grown d g) c.args.budget b) (sym bound) scored in
+    coarse_is d g case c.args.budget c.requires.1 _ _ list
+    (parts_are d g case c.args.budget _ l.rungs.items c.in_ok-starts.field-0.items (to_z w128 (of_z w128 l.score)) _ c.has_table.ensures list.rungs list.score c.in_ok-starts.ensures c.in_ok-chains.ensures)
