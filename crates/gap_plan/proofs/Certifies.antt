@@ -10,5 +10,5 @@ use Rattle.gap_plan.specs.Gap.{CertifiesGap}
 
 -- a plan that the planner answers on a grid has a gap certificate that is valid
 pub certifies : (d : Grid) (g : Task) (budget : ℕ) (answer : Result CoarsePlan PlanErr) → CoarseAnswer d g budget answer → IfOk answer (CertifiesGap g)
-certifies d g budget (Ok c) h = record { form = record { bound = h.short; inner = h.form }; valid = h.valid; settles = h.settles }
+certifies d g budget (Ok c) h = record { form = record { bound = h.short; inner = h.form }; valid = h.valid; settles = h.list.settles }
 certifies d g budget (Err e) h = tt

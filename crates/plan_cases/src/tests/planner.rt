@@ -1,7 +1,8 @@
 //! Worked examples of plans, with answers from outside.
 
 use crate::tests::inputs::{Case, Inputs, M1, SMALLEST};
-use frontier_planner::{Plan, PlanErr, plan};
+use frontier_planner::{BoundedList, Grid, Plan, PlanErr, list_from, plan};
+use player_core::limits::ALL_AHEAD_MS;
 use std::alloc::Global;
 use std::process::Abort;
 use std::test::Fail;
@@ -20,6 +21,28 @@ fn plan_of(
     assert!(rt; inputs.set.fits(&inputs.m));
     assert!(rt; budget >= 1 && budget <= 1_000_000);
     Ok(plan(alloc, &inputs.m, &inputs.clock, &inputs.set, budget))
+}
+
+/// The list of a case within a budget, without what certifies it.
+fn list_of(
+    rt: &impl Abort,
+    alloc: Global,
+    case: &Case,
+    budget: u32,
+) -> Result<Result<BoundedList, PlanErr>, Fail> {
+    let inputs = Inputs::of(alloc, case)?;
+    assert!(rt; inputs.set.fits(&inputs.m));
+    assert!(rt; budget >= 1 && budget <= 1_000_000);
+    let exact = Grid { time: 1, value: 1 };
+    Ok(list_from(
+        alloc,
+        &inputs.m,
+        &inputs.clock,
+        &inputs.set,
+        ALL_AHEAD_MS,
+        exact,
+        budget,
+    ))
 }
 
 #[test]
@@ -41,6 +64,12 @@ fn worked_plans(rt: HostRuntime) -> Result<(), Fail> {
         assert_eq!(rt; plan.score, told.0);
         assert_eq!(rt; plan.labels, told.1);
         assert_eq!(rt; plan.rungs.as_slice(), told.2);
+        let list = list_of(&rt, alloc, case, *budget)?.map_err(|_| "no list")?;
+        assert_eq!(rt;
+            (list.score, list.bound, list.labels),
+            (told.0, told.0, told.1)
+        );
+        assert_eq!(rt; list.rungs.as_slice(), told.2);
     }
     Ok(())
 }
