@@ -4,7 +4,7 @@ ghost use Rattle.std.specs.Prelude.{◌≡◌, ◌-◌, ◌<◌, ◌≤◌};
 ghost use Rattle.lab_model.specs.Number.{IsNear};
 ghost use Rattle.lab_model.specs.Film.{rungs_of, segments_of};
 ghost use Rattle.labels.specs.Grid.{IsGrid, rounded};
-ghost use Rattle.labels.specs.Labels.{end_value, next_label, request_at, start_label};
+ghost use Rattle.labels.specs.Labels.{came_at, end_value, next_label, request_at, start_label};
 ghost use Rattle.labels.specs.Near.{CanFollow};
 ghost use Rattle.labels.specs.Read.{has_table};
 ghost use Rattle.frontier_planner.specs.Planning.{IsPlanning};
@@ -113,9 +113,44 @@ impl<'a> Brief<'a> {
     pub(crate) fn request(&self, segment: u16, old: Label) -> u64
         requires segment { segment < segments_of self.now.scene.film }
         requires old { CanFollow old }
-        ensures { result ≡ request_at self.now.scene segment old }
+        ensures value { result ≡ request_at self.now.scene segment old }
+        ensures limit { result ≤ 2000000000000000 }
     {
         request_on(&self.scene, segment, old)
+    }
+
+    /// The instant at which a segment is done on a rung that is asked for at an instant, at most 2 * 10^15.
+    pub(crate) fn done(&self, request: u64, segment: u16, rung: u8) -> u64
+        requires request { request ≤ 2000000000000000 }
+        requires segment { segment < segments_of self.now.scene.film }
+        requires rung { rung < rungs_of self.now.scene.film }
+        ensures { result ≡ came_at self.now.scene request segment rung }
+    {
+        let film = self.scene.film();
+        self.scene
+            .clock()
+            .finish(request, film.size(segment, rung))
+            .done
+    }
+
+    /// The same successor, where the segment is done at an instant.
+    pub(crate) fn next_done(&self, segment: u16, old: (u8, Label), rung: u8, done: u64) -> Label
+        requires segment { (1 ≤ segment) × (segment < segments_of self.now.scene.film) }
+        requires old_rung { old.0 < rungs_of self.now.scene.film }
+        requires old { CanFollow old.1 }
+        requires rung { rung < rungs_of self.now.scene.film }
+        requires done { done ≡ came_at self.now.scene
+            (request_at self.now.scene segment old.1) segment rung }
+        ensures { result ≡ next_label self.now.scene segment old.0 old.1 rung }
+    {
+        let film = self.scene.film();
+        prove!(film.segments() <= 2000);
+        let played_from = done.saturating_sub(segment as u64 * film.seg_ms() as u64);
+        Label {
+            t: done,
+            p: old.1.p.max(played_from),
+            v: self.next_value(segment, old, rung),
+        }
     }
 
     /// The value of the successor.
