@@ -14,6 +14,9 @@ use labels::{Grid, end_value, next_on, request_on, round_label, start_on, value_
 use player_core::Scene;
 use std::marker::Model;
 
+/// The grid on which nothing changes.
+const EXACT: Grid = Grid { time: 1, value: 1 };
+
 /// What is planned: a scene, and the grid on which labels are rounded.
 #[derive(Drop)]
 pub(crate) struct Brief<'a> {
@@ -87,6 +90,9 @@ impl<'a> Brief<'a> {
         requires { IsNear 900000000000000000 label.v }
         ensures { result ≡ rounded self.now.grid label }
     {
+        if self.grid == EXACT {
+            return label;
+        }
         round_label(self.grid, label)
     }
 
