@@ -19,7 +19,7 @@ use Rattle.labels.specs.Frontier.{frontier}
 use Rattle.labels.specs.Grid.{exact}
 use Rattle.labels.specs.Grown.{grown, CanPlan, grown_labels}
 use Rattle.frontier_planner.specs.Layers.{FrontiersAnswer, HoldAll, HoldPlan, rungs_read}
-use Rattle.labels.specs.Parts.{CertificateParts, ChainParts, plan_parts}
+use Rattle.labels.specs.Parts.{ChainParts, plan_parts}
 use Rattle.labels.specs.Read.{SpentAt, bound_of, certificate_from, chain_list, end_of_plan, has_table, labels_in, list_of_plan, list_value, starts_of}
 use Rattle.labels.specs.Form.{HasSignedDigits, IsCertificate, score_digits}
 use Rattle.labels.specs.Valid.{IsValid}

@@ -1,10 +1,9 @@
 -- What is under the steps of a staircase, and how one step more makes others idle.
 use Rattle.std.proofs.Common.{◌≡◌, ◌∙◌, ℕ, ◌+◌, ◌-◌, ◌<◌, ◌≤◌, ◌⊎◌, inl, inr, ⊎_elim, List, ◌∷◌, ◌++◌, length, get_or, take, drop, true, false, sym, ap, subst, arith, length-append, refl}
 use Rattle.std.specs.Prelude.{ℤ, ◌≤ℤ◌, ◌<ℤ◌, ◌↔◌, int_le}
-use Rattle.std.specs.List.{AllWithin, Contains, insert}
-use Rattle.std.specs.List.Sorted.{IsNonDecreasingBy, IsPartitionedBy}
+use Rattle.std.specs.List.{AllWithin, Contains}
+use Rattle.std.specs.List.Sorted.{IsNonDecreasingBy}
 use Rattle.std.proofs.lemmas.Bool.{cases_Bool, cases_lt}
-use Rattle.std.proofs.Math.Seq.{drop-append_seam, take-append_seam}
 use Rattle.std.proofs.lemmas.Int.{ints}
 use Rattle.std.proofs.lemmas.List.{get_or-append_right, get_or-drop, get_or-take, get_or_append_left, get_or_default, length-drop, length-take-le}
 use Rattle.std.proofs.lemmas.List.Elements.{All-contains_itself, All-weaker, Contains-append_cases, Contains-append_left, Contains-append_right, Contains-get_or}
@@ -35,11 +34,6 @@ int_le_true a b h = grind (arith, ints)
 pub le_int_le : (a b : ℤ) → a ≤ℤ b → int_le a b ≡ true
 le_int_le a b h = grind (arith, ints)
 
--- along a staircase the values up to a number come before those above it
-pub parted_by_value : (steps : List Label) (v : ℤ) → IsRising steps → IsPartitionedBy (λ s. int_le s.v v) steps
-parted_by_value steps v rising i j d low inside h =
-    le_int_le (get_or steps i d).v v (≤ℤ_trans (get_or steps i d).v (get_or steps j d).v v (rising_between steps rising i j d low inside).1 (int_le_true (get_or steps j d).v v h))
-
 -- where the test fails, the second is less
 pub int_le_false : (a b : ℤ) → int_le a b ≡ false → b <ℤ a
 int_le_false a b h = grind (arith, ints)
@@ -69,13 +63,18 @@ under_last steps count p v d bound below some worth =
 -- ---- one step more
 
 -- nothing with a shorter delay is worth more, where no step covers the label
-pub from_to : (steps : List Label) (l : Label) (from to : ℕ) → (HasUnder steps l.p l.v → ⊥) → from ≤ length steps → AllWithin (λ s. s.p < l.p) steps 0 from → AllWithin (λ s. l.v <ℤ s.v) steps to (length steps) → from ≤ to
-from_to steps l from to free bound below worth =
-    ⊎_elim (λ (out : to < from).
-    let inside : to < length steps = omega (arith, out, bound) in
-    let short = below to l (omega arith) out in
-    let more = worth to l (omega arith) inside in
-    absurd (free (get_or steps to l, Contains-get_or steps to l inside, omega (arith, short), omega (arith, ints, more)))) (λ (fine : from ≤ to). fine) (cases_lt to from)
+pub worth_before : (steps : List Label) (l : Label) (from : ℕ) → (HasUnder steps l.p l.v → ⊥) → from ≤ length steps → AllWithin (λ s. s.p < l.p) steps 0 from → AllWithin (λ s. s.v ≤ℤ l.v) steps 0 from
+worth_before steps l from free bound below k d start high =
+    let short = below k d start high in
+    ⊎_elim (λ (less : (get_or steps k d).v <ℤ l.v). omega (arith, ints, less))
+    (λ (no_less : l.v ≤ℤ (get_or steps k d).v). absurd (free (get_or steps k d, Contains-get_or steps k d (omega (arith, high, bound)), omega (arith, short), no_less))) (z_cases (get_or steps k d).v l.v)
+
+-- from a step on that is worth more than a value each is
+pub worth_more : (steps : List Label) (v : ℤ) (count : ℕ) (e : Label) → IsRising steps → count < length steps → v <ℤ (get_or steps count e).v → AllWithin (λ s. v <ℤ s.v) steps count (length steps)
+worth_more steps v count e rising inside more k d low high =
+    let step = (rising_between steps rising count k d low high).1 in
+    let here = subst (λ (s : Label). v <ℤ s.v) (get_or_default steps count e d inside) more in
+    omega (arith, ints, here, step)
 
 module _ (steps : List Label) (l : Label) (from to : ℕ) (rising : IsRising steps) (free : HasUnder steps l.p l.v → ⊥) (order : from ≤ to) (bound : to ≤ length steps)
     (before : AllWithin (λ s. s.p < l.p) steps 0 from) (behind : AllWithin (λ s. l.p ≤ s.p) steps from (length steps))
@@ -185,13 +184,3 @@ module _ (steps : List Label) (l : Label) (from to : ℕ) (rising : IsRising ste
         (λ back. let at = in_back h.0 back in inl (h.0, (at.0, at.2, at.3), h.2, h.3)) (first_or_rest l (drop to steps) h.0 rest)) (Contains-append_cases (take from steps) (l ∷ drop to steps) h.0 h.1),
     λ h. ⊎_elim (λ old. old_next p v old) (λ new. (l, Contains-append_right (take from steps) (l ∷ drop to steps) l (at_head l (drop to steps)), new.0, new.1)) h,
   )
-
--- where the idle steps are taken out and the label put in
-pub inserted : (steps less more : List Label) (l : Label) (from to : ℕ) → from ≤ to → to ≤ length steps → less ≡ take from steps ++ drop to steps → more ≡ insert less from l → more ≡ take from steps ++ l ∷ drop to steps
-inserted steps less more l from to order bound gone put =
-    let front = take from steps in
-    let back = drop to steps in
-    let long = length-take-le from steps (omega (arith, order, bound)) in
-    put ∙ ap (λ ls. insert ls from l) gone
-    ∙ ap (λ n. take n (front ++ back) ++ l ∷ drop n (front ++ back)) (sym long)
-    ∙ ap (λ ls. ls ++ l ∷ drop (length front) (front ++ back)) (take-append_seam front back) ∙ ap (λ ls. front ++ l ∷ ls) (drop-append_seam front back)

@@ -4,15 +4,20 @@ ghost use Rattle.std.specs.Prelude.{◌≡◌, ◌-◌, ◌<◌, ◌≤◌};
 ghost use Rattle.lab_model.specs.Number.{IsNear};
 ghost use Rattle.lab_model.specs.Film.{rungs_of, segments_of};
 ghost use Rattle.labels.specs.Grid.{IsGrid, rounded};
-ghost use Rattle.labels.specs.Labels.{end_value, next_label, request_at, start_label};
+ghost use Rattle.labels.specs.Labels.{came_at, end_value, next_label, request_at, start_label};
 ghost use Rattle.labels.specs.Near.{CanFollow};
 ghost use Rattle.labels.specs.Read.{has_table};
 ghost use Rattle.frontier_planner.specs.Planning.{IsPlanning};
 
 use lab_model::{Label, Weights};
-use labels::{Grid, end_value, next_on, request_on, round_label, start_on, value_on};
+use labels::{
+    Grid, done_on, end_value, next_on, request_on, round_label, start_on, successor_done, value_on,
+};
 use player_core::Scene;
 use std::marker::Model;
+
+/// The grid on which nothing changes.
+const EXACT: Grid = Grid { time: 1, value: 1 };
 
 /// What is planned: a scene, and the grid on which labels are rounded.
 #[derive(Drop)]
@@ -87,6 +92,9 @@ impl<'a> Brief<'a> {
         requires { IsNear 900000000000000000 label.v }
         ensures { result ≡ rounded self.now.grid label }
     {
+        if self.grid == EXACT {
+            return label;
+        }
         round_label(self.grid, label)
     }
 
@@ -113,9 +121,34 @@ impl<'a> Brief<'a> {
     pub(crate) fn request(&self, segment: u16, old: Label) -> u64
         requires segment { segment < segments_of self.now.scene.film }
         requires old { CanFollow old }
-        ensures { result ≡ request_at self.now.scene segment old }
+        ensures value { result ≡ request_at self.now.scene segment old }
+        ensures limit { result ≤ 2000000000000000 }
     {
         request_on(&self.scene, segment, old)
+    }
+
+    /// The instant at which a segment is done on a rung that is asked for at an instant, at most 2 * 10^15.
+    pub(crate) fn done(&self, request: u64, segment: u16, rung: u8) -> u64
+        requires request { request ≤ 2000000000000000 }
+        requires segment { segment < segments_of self.now.scene.film }
+        requires rung { rung < rungs_of self.now.scene.film }
+        ensures { result ≡ came_at self.now.scene request segment rung }
+    {
+        done_on(&self.scene, request, segment, rung)
+    }
+
+    /// The same successor, where the segment is done at an instant.
+    pub(crate) fn next_done(&self, segment: u16, old: (u8, Label), rung: u8, done: u64) -> Label
+        requires segment { (1 ≤ segment) × (segment < segments_of self.now.scene.film) }
+        requires old_rung { old.0 < rungs_of self.now.scene.film }
+        requires old { CanFollow old.1 }
+        requires rung { rung < rungs_of self.now.scene.film }
+        requires done { done ≡ came_at self.now.scene
+            (request_at self.now.scene segment old.1) segment rung }
+        ensures { result ≡ next_label self.now.scene segment old.0 old.1 rung }
+    {
+        let (old_rung, label) = old;
+        successor_done(&self.scene, segment, old_rung, label, rung, done)
     }
 
     /// The value of the successor.

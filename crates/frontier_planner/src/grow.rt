@@ -1,9 +1,10 @@
 //! Growing the frontier of a segment and a rung from the labels of the segment before.
 
-ghost use Rattle.std.specs.Prelude.{◌≡◌, ℕ, ◌+◌, ◌-◌, ◌*◌, ◌<◌, ◌≤◌, IfOk, List, map, length};
+ghost use Rattle.std.specs.Prelude.{◌≡◌, ℕ, ◌+◌, ◌-◌, ◌*◌, ◌<◌, ◌≤◌, IfOk, IsTrue, List, map, length};
 ghost use Rattle.std.specs.List.Sorted.{IsPermutation, IsSortedBy};
 ghost use Rattle.std.specs.Ordering.{is_lt};
 ghost use Rattle.lab_model.specs.Film.{rungs_of, segments_of};
+ghost use Rattle.labels.specs.Labels.{came_at};
 ghost use Rattle.frontier_planner.specs.Brief.{AreFollowed};
 ghost use Rattle.frontier_planner.specs.Parents.{AreFirst, HaveParents, candidate_cmp, follower};
 ghost use Rattle.frontier_planner.specs.Sweep.{sweep_cmp};
@@ -38,6 +39,71 @@ fn candidate_order(a: &Candidate, b: &Candidate) -> Ordering
     sweep_order(&a.label, &b.label).then(a.parent.cmp(&b.parent))
 }
 
+/// Whether the first comes before the second.
+fn comes_before(a: &Candidate, b: &Candidate) -> bool
+    ensures { result ≡ is_lt (candidate_cmp a.now b.now) }
+{
+    candidate_order(a, b).is_lt()
+}
+
+/// The end of the run of candidates from a place on that are done at one instant.
+fn end_of_run(candidates: &[Candidate], from: usize) -> usize
+    requires { from < length candidates.now }
+    ensures { (from < result) × (result ≤ length candidates.now) }
+{
+    let done = candidates[from].label.t;
+    let mut to = from + 1;
+    while to < candidates.len() && candidates[to].label.t == done {
+        to += 1;
+    }
+    to
+}
+
+/// Puts the candidates at the places from `from` to before `to` in order.
+fn sort_run(candidates: &mut [Candidate], from: usize, to: usize)
+    requires order { from ≤ to }
+    requires bound { to ≤ length candidates.old }
+    ensures { IsPermutation candidates.old candidates.new }
+{
+    candidates[from..to].sort_unstable_by(|a, b| candidate_order(a, b));
+}
+
+/// Puts each run of candidates that are done at one instant in order.
+fn sort_runs(candidates: &mut [Candidate])
+    ensures { IsPermutation candidates.old candidates.new }
+{
+    let mut from = 0;
+    while from < candidates.len() {
+        let to = end_of_run(candidates, from);
+        sort_run(candidates, from, to);
+        from = to;
+    }
+}
+
+/// Whether candidates are in order.
+fn are_in_order(candidates: &[Candidate]) -> bool
+    ensures { IsTrue result → IsSortedBy (λ a b. is_lt (candidate_cmp a b)) candidates.now }
+{
+    for place in 1..candidates.len() {
+        if comes_before(&candidates[place], &candidates[place - 1]) {
+            return false;
+        }
+    }
+    true
+}
+
+/// Puts candidates in order. Those that follow labels in the order of requests are done in that order, so that each
+/// run of one instant is short, and no more is to be done.
+fn put_in_order(candidates: &mut [Candidate])
+    ensures sorted { IsSortedBy (λ a b. is_lt (candidate_cmp a b)) candidates.new }
+    ensures same { IsPermutation candidates.old candidates.new }
+{
+    sort_runs(candidates);
+    if !are_in_order(candidates) {
+        candidates.sort_unstable_by(|a, b| candidate_order(a, b));
+    }
+}
+
 /// Of candidates in order, those that no earlier one dominates.
 fn sweep(alloc: Global, candidates: &[Candidate]) -> Result<Vec<Candidate>, AllocError>
     requires { IsSortedBy (λ a b. is_lt (candidate_cmp a b)) candidates.now }
@@ -62,8 +128,35 @@ fn first_undominated(
     ensures { IfOk result (λ v. AreFirst candidates.items v.items) }
 {
     let mut swept = candidates;
-    swept.sort_unstable_by(|a, b| candidate_order(a, b));
+    put_in_order(&mut swept);
     sweep(alloc, &swept)
+}
+
+/// When a segment is done that is asked for at an instant.
+#[derive(Clone, Copy)]
+struct Fetch {
+    /// The instant of its request.
+    request: u64,
+    /// The instant at which it is done.
+    done: u64,
+}
+
+/// When a segment on a rung is done that is asked for at an instant. Another fetch of it is known.
+fn fetch_at(brief: &Brief, segment: u16, rung: u8, request: u64, known: Fetch) -> Fetch
+    requires segment { segment < segments_of brief.now.scene.film }
+    requires rung { rung < rungs_of brief.now.scene.film }
+    requires request { request ≤ 2000000000000000 }
+    requires known { known.done ≡ came_at brief.now.scene known.request segment rung }
+    ensures request { result.request ≡ request }
+    ensures done { result.done ≡ came_at brief.now.scene request segment rung }
+{
+    if known.request == request {
+        return known;
+    }
+    Fetch {
+        request,
+        done: brief.done(request, segment, rung),
+    }
 }
 
 /// The rounded successors, to a segment on a rung, of labels that are enough to follow.
@@ -82,8 +175,14 @@ fn successors(
 {
     prove!(brief.segments() > 0);
     let mut made = Vec::with_capacity(alloc, followed.len())?;
+    let mut known = Fetch {
+        request: 0,
+        done: brief.done(0, segment, rung),
+    };
     for old in followed {
-        let next = brief.next(segment, (old.rung, old.label), rung);
+        let request = brief.request(segment, old.label);
+        known = fetch_at(brief, segment, rung, request, known);
+        let next = brief.next_done(segment, (old.rung, old.label), rung, known.done);
         made.push(Candidate {
             label: brief.round(next),
             parent: old.place,

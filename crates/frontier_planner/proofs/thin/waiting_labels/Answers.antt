@@ -21,7 +21,7 @@ loop-old-preserved c =
     let place : n ≡ c.len-place.result = omega (arith, long, ok, count) in
     let value : to_z w64 (of_z w64 old.label.v) ≡ old.label.v = search rules in
     let more = waiting_more c.args.brief.now.scene c.args.segment n c.args.before.now c.loop-old.waits.items c.push.new.self.items _ c.loop-old-test.true so.count so.each c.in_ok-push.ensures.items
-    (ap (λ (t : ℕ). let f : Followed = record { rung = old.rung; label = record { t = t; p = old.label.p; v = old.label.v }; place = n } in f) (sym c.request-request.ensures)
+    (ap (λ (t : ℕ). let f : Followed = record { rung = old.rung; label = record { t = t; p = old.label.p; v = old.label.v }; place = n } in f) (sym c.request-request.ensures.value)
     ∙ ap (λ (m : ℕ). let f : Followed = record { rung = old.rung; label = record { t = c.request-request.result; p = old.label.p; v = old.label.v }; place = m } in f) place
     ∙ ap (λ (v : ℤ). let f : Followed = record { rung = old.rung; label = record { t = c.request-request.result; p = old.label.p; v = v }; place = c.len-place.result } in f) (sym value)) in
     record { count = more.0; each = more.1 }

@@ -7,7 +7,7 @@ use Rattle.frontier_planner.proofs.Steps.{covers_last, int_le_true, le_int_le, u
 use Rattle.frontier_planner.proofs.staircase.Staircase.covers.Goals as goal
 
 pub steps_up_to-count-requires : goal.steps_up_to-count-requires
-steps_up_to-count-requires c = subst IsRising (sym c.deref.ensures.value) c.requires
+steps_up_to-count-requires c = subst IsRising (sym c.deref-2.ensures.value) c.requires
 
 pub returns-then-count-gt0 : goal.returns-then-count-gt0
 returns-then-count-gt0 c =
@@ -15,7 +15,7 @@ returns-then-count-gt0 c =
     let l = c.args.l in
     let count = c.steps_up_to-count.result in
     let x = c.index.result.now in
-    let same = c.deref.ensures.value in
+    let same = c.deref-2.ensures.value in
     let bound = subst (λ ss. count ≤ length ss) same c.steps_up_to-count.ensures.bound in
     let below = subst (λ ss. AllWithin (λ (s : Label). s.p ≤ l.p) ss 0 count) same c.steps_up_to-count.ensures.below in
     let above = subst (λ ss. AllWithin (λ (s : Label). l.p < s.p) ss count (length ss)) same c.steps_up_to-count.ensures.above in (
