@@ -3,16 +3,17 @@
 #![tactic(auto)]
 
 mod cap;
+mod course;
 mod delay;
 mod demand;
-mod descent;
 mod link;
 mod list;
 mod near;
+mod peak;
+mod play;
 mod prices;
-mod slopes;
+mod prospect;
 mod stalls;
-mod tariff;
 mod windows;
 mod worth;
 
