@@ -18,6 +18,3 @@ mod windows;
 mod worth;
 
 pub use near::near_best;
-
-#[cfg(test)]
-mod tests;

@@ -18,10 +18,10 @@ use std::alloc::{AllocError, Global};
 const TURNS: u16 = 3;
 
 /// So many segments and looks make up the work of a play.
-const WORK: u16 = 6400;
+const WORK: u16 = 16_000;
 
 /// At least so many looks.
-const LEAST_LOOKS: u16 = 8;
+const LEAST_LOOKS: u16 = 16;
 
 /// At most so many.
 const MOST_LOOKS: u16 = 32;

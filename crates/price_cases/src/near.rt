@@ -3,8 +3,8 @@
 
 ghost use Rattle.std.specs.Prelude.{◌<◌};
 
-use crate::near_best;
 use lab_model::{Manifest, Period, Setup, Trace, Weights};
+use near_best::near_best;
 use network_clock::Clock;
 use player_core::Scene;
 use std::alloc::Global;
