@@ -26,8 +26,11 @@ const LEAST_LOOKS: u16 = 16;
 /// At most so many.
 const MOST_LOOKS: u16 = 32;
 
-/// By so many times the greatest price so far is the cap of those that are tried.
-const CAP_FACTOR: u64 = 4;
+/// Prices are tried up to the greatest one at first, and higher after each so many looks.
+const LOOKS_TO_RAISE: u64 = 4;
+
+/// At least prices up to this one are tried.
+const LEAST_CAP: u64 = 1000;
 
 /// The greatest of prices.
 pub fn greatest(prices: &[u64]) -> u64 {
@@ -48,6 +51,11 @@ fn approach(prices: &mut [u64], others: &[u64], cap: u64, turn: u16)
         let moved = mean(prices[place] as u128, other as u128, turn);
         prices[place] = moved.min(u64::MAX as u128) as u64;
     }
+}
+
+/// The cap of the prices that are tried behind a look, by the first cap.
+fn cap_at(first: u64, look: u16) -> u64 {
+    first.saturating_mul(1 + look as u64 / LOOKS_TO_RAISE)
 }
 
 /// How many looks are taken, so that a long film takes no longer.
@@ -130,12 +138,12 @@ pub fn play(alloc: Global, scene: &Scene<'_>, priced: Priced) -> Result<Tariff, 
     requires { ArePriced scene.now priced }
     ensures { IfOk result (ArePricesOf scene.now) }
 {
-    let cap = greatest(&priced.prices).saturating_mul(CAP_FACTOR);
+    let cap = greatest(&priced.prices).max(LEAST_CAP);
     let mut means = priced;
     let mut best = look_at(alloc, scene, &means)?;
     let mut rung = best.peak.rung;
     for look in 0..looks_of(scene) {
-        take_turns(alloc, scene, &mut means, cap, rung, look)?;
+        take_turns(alloc, scene, &mut means, cap_at(cap, look), rung, look)?;
         let next = look_at(alloc, scene, &means)?;
         rung = next.peak.rung;
         best = lower_of(best, next);
