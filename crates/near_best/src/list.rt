@@ -153,7 +153,7 @@ fn kept_of(
 {
     Kept {
         label,
-        worth: prospect.worth(scene, segment, label),
+        worth: prospect.worth(scene, segment, label, rung),
         rung,
         utility: scene.setup().weights.utility(segment, rung),
         before,

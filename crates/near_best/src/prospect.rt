@@ -1,8 +1,8 @@
-//! What lists may still come to behind a segment, by its delay and by its lead, which is how long it has come before it is
-//! played: worked out backwards on a grid of both, between whose points it is taken to be straight.
+//! What lists may still come to behind a segment, by its rung, its delay and its lead, which is how long it has come before it
+//! is played: worked out backwards on a grid of delays and leads, between whose points it is taken to be straight.
 
 ghost use Rattle.std.specs.Prelude.{◌<◌, ◌≤◌};
-ghost use Rattle.lab_model.specs.Film.{segments_of};
+ghost use Rattle.lab_model.specs.Film.{rungs_of, segments_of};
 ghost use Rattle.labels.specs.Near.{CanFollow};
 
 use crate::demand::smallest_rung;
@@ -36,8 +36,37 @@ pub struct Prospect {
     step: u64,
     /// The delays, from the least on.
     delays: Vec<u64>,
-    /// By segment from the last to the first, the thousandths of a point to come behind it, by lead and then by delay.
+    /// The number of rungs.
+    rungs: usize,
+    /// By segment from the last to the first, the thousandths of a point to come behind it, by lead, then delay, then rung.
     rows: Vec<Vec<i64>>,
+}
+
+/// What a list may come to on each rung of a segment.
+type ByRung = [i64; 16];
+
+/// The place of a rung.
+fn place_of(rung: u8) -> usize
+    ensures { result < 16 }
+{
+    (rung as usize).min(15)
+}
+
+/// The most that a segment may come to behind a rung of the one before.
+fn most_after(scene: &Scene<'_>, segment: u16, before: u8, worths: &ByRung) -> i64
+    requires segment { segment < segments_of scene.now.film }
+    requires before { before < rungs_of scene.now.film }
+{
+    let weights = &scene.setup().weights;
+    let old = weights.utility(segment, before);
+    let count = scene.film().rungs();
+    let mut most = i64::MIN;
+    for rung in 0..count {
+        let change = weights.utility(segment, rung).abs_diff(old) as i64;
+        let cost = (weights.switch() as i64).saturating_mul(change);
+        most = most.max(worths[place_of(rung)].saturating_sub(cost));
+    }
+    most
 }
 
 /// The part of an amount that it grows by.
@@ -119,8 +148,8 @@ fn label_at(scene: &Scene<'_>, segment: u16, lead: u64, delay: u64) -> Label
 }
 
 impl Prospect {
-    /// What stands in a row at a lead, behind a delay whose place is given.
-    fn at_lead(&self, row: &[i64], lead: u64, place: usize, delay: u64) -> i64 {
+    /// What stands in a row at a lead and a rung, behind a delay whose place is given.
+    fn at_lead(&self, row: &[i64], lead: u64, place: usize, delay: u64, rung: u8) -> i64 {
         let lead = lead.min(self.leads.saturating_sub(1)) as usize;
         let start = lead.saturating_mul(self.delays.len());
         let next = place
@@ -128,21 +157,28 @@ impl Prospect {
             .min(self.delays.len().saturating_sub(1));
         let from = delay_at(&self.delays, place);
         let width = delay_at(&self.delays, next).saturating_sub(from);
-        let low = amount_at(row, start.saturating_add(place));
-        let high = amount_at(row, start.saturating_add(next));
+        let low = amount_at(row, self.number(start.saturating_add(place), rung));
+        let high = amount_at(row, self.number(start.saturating_add(next), rung));
         between(low, high, delay.saturating_sub(from), width)
     }
 
-    /// What may still come, where so many segments are left behind one that has a lead and a delay.
-    fn to_come(&self, left: usize, lead: u64, delay: u64) -> i64 {
+    /// The place in a row of a rung at a point of the grid.
+    fn number(&self, point: usize, rung: u8) -> usize {
+        point
+            .saturating_mul(self.rungs)
+            .saturating_add(rung as usize)
+    }
+
+    /// What may still come, where so many segments are left behind one on a rung that has a lead and a delay.
+    fn to_come(&self, left: usize, lead: u64, delay: u64, rung: u8) -> i64 {
         match self.rows.get(left) {
             None => 0,
             Some(row) => {
                 let place = place_below(&self.delays, delay);
                 let step = self.step.max(1);
                 let at = (lead / step).min(self.leads.saturating_sub(1));
-                let low = self.at_lead(row, at, place, delay);
-                let high = self.at_lead(row, at.saturating_add(1), place, delay);
+                let low = self.at_lead(row, at, place, delay, rung);
+                let high = self.at_lead(row, at.saturating_add(1), place, delay, rung);
                 between(
                     low,
                     high,
@@ -153,43 +189,65 @@ impl Prospect {
         }
     }
 
-    /// What a list that has a label of a segment may come to. Behind the last segment it is its value.
-    pub fn worth(&self, scene: &Scene<'_>, segment: u16, label: Label) -> i64 {
+    /// What a list that has a label of a segment on a rung may come to. Behind the last segment it is its value.
+    pub fn worth(&self, scene: &Scene<'_>, segment: u16, label: Label, rung: u8) -> i64 {
         let left = scene
             .film()
             .segments()
             .saturating_sub(segment)
             .saturating_sub(1) as usize;
-        let to_come = self.to_come(left, lead_of(scene, segment, label), label.p);
+        let to_come = self.to_come(left, lead_of(scene, segment, label), label.p, rung);
         label
             .v
             .saturating_sub(cost_of(scene, label.p))
             .saturating_add(to_come)
     }
 
-    /// The most that may come from a segment on, behind a label of the segment before that has no value.
-    fn most_behind(&self, scene: &Scene<'_>, segment: u16, label: Label) -> i64
+    /// What may come from a segment on, by its rung, behind a label of the segment before that has no value.
+    fn worths_behind(&self, scene: &Scene<'_>, segment: u16, label: Label) -> ByRung
         requires segment { (1 ≤ segment) × (segment < segments_of scene.now.film) }
         requires label { CanFollow label }
     {
+        let stalled = cost_of(scene, label.p);
         let count = scene.film().rungs();
-        let mut most = i64::MIN;
+        let mut worths = [i64::MIN; 16];
         for rung in 0..count {
             let next = next_on(scene, segment, rung, label, rung);
-            most = most.max(self.worth(scene, segment, next));
+            let worth = self.worth(scene, segment, next, rung);
+            worths[place_of(rung)] = worth.saturating_add(stalled);
         }
-        most.saturating_add(cost_of(scene, label.p))
+        worths
     }
 
-    /// What may come from a segment on, by the lead and the delay of the segment before.
+    /// Adds what may come from a segment on behind a label of the segment before, by the rung of that.
+    fn add_behind(
+        &self,
+        scene: &Scene<'_>,
+        segment: u16,
+        label: Label,
+        row: &mut Vec<i64>,
+    ) -> Result<(), AllocError>
+        requires segment { (1 ≤ segment) × (segment < segments_of scene.now.film) }
+        requires label { CanFollow label }
+    {
+        let worths = self.worths_behind(scene, segment, label);
+        let count = scene.film().rungs();
+        for before in 0..count {
+            row.push(most_after(scene, segment, before, &worths))?;
+        }
+        Ok(())
+    }
+
+    /// What may come from a segment on, by the lead, the delay and the rung of the segment before.
     fn row_of(&self, alloc: Global, scene: &Scene<'_>, segment: u16) -> Result<Vec<i64>, AllocError>
         requires { (1 ≤ segment) × (segment < segments_of scene.now.film) }
     {
         let mut row = Vec::new(alloc);
         for lead in 0..self.leads {
             for delay in &self.delays {
-                let label = label_at(scene, segment - 1, lead.saturating_mul(self.step), *delay);
-                row.push(self.most_behind(scene, segment, label))?;
+                let lead_ms = lead.saturating_mul(self.step);
+                let label = label_at(scene, segment - 1, lead_ms, *delay);
+                self.add_behind(scene, segment, label, &mut row)?;
             }
         }
         Ok(row)
@@ -209,6 +267,7 @@ impl Prospect {
             leads: fineness.leads,
             step: longest / fineness.leads.saturating_sub(1).max(1) + 1,
             delays: grid_delays(alloc, least, dearest_stall(scene), fineness)?,
+            rungs: film.rungs() as usize,
             rows: Vec::new(alloc),
         };
         prospect.rows.push(Vec::new(alloc))?;
