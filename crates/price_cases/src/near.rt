@@ -132,7 +132,7 @@ fn small_films(rt: HostRuntime) -> Result<(), Fail> {
         let setup = setup(alloc, 2500, stall, &[0, 500, 1200])?;
         let (score, bound) = score_and_bound(&rt, alloc, &film, &clock, &setup, ahead)?;
         println!(rt; "{number}: {score}, best {best}, bound {bound}")?;
-        assert!(rt; score <= best && best <= bound);
+        assert!(rt; score == best && best <= bound);
     }
     Ok(())
 }

@@ -1,5 +1,5 @@
 use Rattle.std.proofs.Common.{◌∙◌, ap, sym, subst, take}
-use Rattle.std.specs.List.{All, insert}
+use Rattle.std.specs.List.{All}
 use Rattle.near_best.specs.Kept.{IsKept}
 use Rattle.near_best.proofs.Inserted.{All-insert_take}
 use Rattle.near_best.proofs.list.keep.Goals as goal
