@@ -5,6 +5,7 @@ ghost use Rattle.lab_model.specs.Film.{rungs_of};
 ghost use Rattle.near_best.specs.Prices.{ArePriced, IsForEach};
 
 use crate::delay::{Priced, priced_on};
+use crate::play::greatest;
 use crate::stalls::link_worth;
 use crate::windows::shared_prices;
 use crate::worth::{all_gains, first_worth};
@@ -21,15 +22,15 @@ const FINE_PARTS: u64 = 12;
 fn worth_with_stalls(
     alloc: Global,
     scene: &Scene<'_>,
-    delays: &[u64],
+    priced: &Priced,
     prices: &[u64],
 ) -> Result<i128, AllocError>
-    requires delays { IsForEach scene.now delays.now }
+    requires priced { ArePriced scene.now priced.now }
     requires prices { IsForEach scene.now prices.now }
 {
     prove!(scene.film().segments() > 0);
-    let shared = shared_prices(alloc, scene, delays, prices)?;
-    let link = link_worth(alloc, scene, delays[0], prices, &shared)?;
+    let shared = shared_prices(alloc, scene, &priced.course, prices)?;
+    let link = link_worth(alloc, scene, priced.first, prices, &shared)?;
     Ok(all_gains(scene, prices).saturating_add(link))
 }
 
@@ -42,15 +43,6 @@ fn prices_under(alloc: Global, prices: &[u64], cap: u64) -> Result<Vec<u64>, All
         capped.push(prices[place].min(cap))?;
     }
     Ok(capped)
-}
-
-/// The greatest of prices.
-fn greatest(prices: &[u64]) -> u64 {
-    let mut most = 0u64;
-    for price in prices {
-        most = most.max(*price);
-    }
-    most
 }
 
 /// The cap, from one on, below which prices come to more; it is lowered by one of so many parts at a time.
@@ -69,7 +61,7 @@ fn best_cap(
     while cap > 0 {
         let lower = cap - 1 - (cap - 1) / parts;
         let prices = prices_under(alloc, &priced.prices, lower)?;
-        let worth = worth_with_stalls(alloc, scene, &priced.delays, &prices)?;
+        let worth = worth_with_stalls(alloc, scene, priced, &prices)?;
         if worth > best {
             return Ok(cap);
         }
@@ -89,7 +81,7 @@ fn with_cap(alloc: Global, scene: &Scene<'_>, priced: Priced) -> Result<Priced, 
     let from = about.saturating_mul(2).min(most);
     let cap = best_cap(alloc, scene, &priced, from, FINE_PARTS)?;
     let prices = prices_under(alloc, &priced.prices, cap)?;
-    let worth = worth_with_stalls(alloc, scene, &priced.delays, &prices)?;
+    let worth = worth_with_stalls(alloc, scene, &priced, &prices)?;
     let mut found = priced;
     found.prices = prices;
     found.worth = worth;

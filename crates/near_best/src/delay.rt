@@ -4,10 +4,11 @@ ghost use Rattle.std.specs.Prelude.{◌<◌, IfOk};
 ghost use Rattle.lab_model.specs.Film.{rungs_of};
 ghost use Rattle.near_best.specs.Prices.{ArePriced, IsForEach};
 
+use crate::course::{Course, course_along};
 use crate::link::FARTHEST_DELAY_MS;
 use crate::prices::prices_of;
 use crate::windows::shared_prices;
-use crate::worth::{all_gains, link_worth_at};
+use crate::worth::{all_gains, stall_cost, worth_along};
 use labels::start_on;
 use player_core::Scene;
 use std::alloc::{AllocError, Global};
@@ -20,8 +21,10 @@ const FIRST_MOVE_MS: u64 = 65_536;
 pub struct Priced {
     /// The delay of all segments but the first.
     pub rest: u64,
-    /// The delay of each segment.
-    pub delays: Vec<u64>,
+    /// The delay of the first segment.
+    pub first: u64,
+    /// What the link carries at these delays.
+    pub course: Course,
     /// In parts of 10^-9 of a thousandth of a point.
     pub worth: i128,
     /// The price of each segment.
@@ -47,14 +50,20 @@ fn delays_of(
 fn priced_at(alloc: Global, scene: &Scene<'_>, first: u64, rest: u64) -> Result<Priced, AllocError>
     ensures { IfOk result (ArePriced scene.now) }
 {
+    prove!(scene.film().segments() > 0);
     let delays = delays_of(alloc, scene, first, rest)?;
-    let prices = prices_of(alloc, scene, &delays)?;
-    let shared = shared_prices(alloc, scene, &delays, &prices)?;
-    let link = link_worth_at(scene, &delays, &prices, &shared);
+    let course = course_along(alloc, scene, &delays)?;
+    let prices = prices_of(alloc, scene, &course)?;
+    let shared = shared_prices(alloc, scene, &course, &prices)?;
+    let stall_ms = delays[delays.len() - 1].saturating_sub(first);
+    let link = worth_along(scene, &course, &prices, &shared).saturating_sub(stall_cost(
+        scene, stall_ms,
+    ));
     let worth = all_gains(scene, &prices).saturating_add(link);
     Ok(Priced {
         rest,
-        delays,
+        first,
+        course,
         worth,
         prices,
     })

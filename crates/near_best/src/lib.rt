@@ -3,20 +3,18 @@
 #![tactic(auto)]
 
 mod cap;
+mod course;
 mod delay;
 mod demand;
-mod descent;
 mod link;
 mod list;
 mod near;
+mod peak;
+mod play;
 mod prices;
-mod slopes;
+mod prospect;
 mod stalls;
-mod tariff;
 mod windows;
 mod worth;
 
 pub use near::near_best;
-
-#[cfg(test)]
-mod tests;

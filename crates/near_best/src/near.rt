@@ -8,11 +8,9 @@ ghost use Rattle.price_bounds.specs.Bound.{bound_of};
 ghost use Rattle.price_bounds.specs.Verdict.{AreInOrder, IsValid, price_parts};
 
 use crate::cap::near_prices;
-use crate::demand::PRICE_UNIT;
-use crate::descent::descend;
 use crate::list::best_list;
-use crate::tariff::tariff_of;
-use crate::windows::{shared_prices, windows_of};
+use crate::play::play;
+use crate::windows::windows_of;
 use lab_model::NoMemory;
 use player_core::Scene;
 use price_bounds::{PriceCertificate, Window, are_in_order, bound_of_windows, value_of_list};
@@ -25,12 +23,7 @@ const LEAST_UNSPELLED: i128 = 1_000_000_000_000_000_000_000_000;
 #[derive(Drop, Debug)]
 struct Found {
     rungs: Vec<u8>,
-    /// The windows of the prices that were found first.
     windows: Vec<Window>,
-    /// About their bound.
-    about: i128,
-    /// The windows of the prices that these were moved to.
-    lower: Vec<Window>,
 }
 
 /// Windows that are in range and in order, with their bound, which can be spelled.
@@ -40,29 +33,17 @@ struct Bounded {
     bound: i128,
 }
 
-/// What is found of prices, and of those that they are moved to.
+/// A good list, and windows of prices near those of the least bound.
 fn found_near(alloc: Global, scene: &Scene<'_>) -> Result<Found, AllocError>
     ensures { IfOk result (λ f. AreRungs scene.now (segments_of scene.now.film) f.rungs.items) }
 {
     prove!(scene.film().segments() <= 2000);
-    let found = near_prices(alloc, scene)?;
-    let shared = shared_prices(alloc, scene, &found.delays, &found.prices)?;
-    let windows = windows_of(alloc, &found.prices, &shared)?;
-    let list = best_list(alloc, scene, found.prices, &shared)?;
-    let moved = descend(alloc, scene, &windows, list.worth)?;
-    let tariff = tariff_of(alloc, scene.film().segments() as usize, &moved)?;
-    let lower = windows_of(alloc, &tariff.prices, &tariff.shared)?;
-    let other = best_list(alloc, scene, tariff.prices, &tariff.shared)?;
-    let rungs = if other.worth > list.worth {
-        other.rungs
-    } else {
-        list.rungs
-    };
+    let list = best_list(alloc, scene)?;
+    let priced = near_prices(alloc, scene)?;
+    let tariff = play(alloc, scene, priced)?;
     Ok(Found {
-        rungs,
-        windows,
-        about: found.worth / PRICE_UNIT as i128,
-        lower,
+        rungs: list.rungs,
+        windows: windows_of(alloc, &tariff.prices, &tariff.shared)?,
     })
 }
 
@@ -92,29 +73,6 @@ fn bound_by(alloc: Global, scene: &Scene<'_>, windows: Vec<Window>) -> Result<Bo
     without_windows(alloc, scene)
 }
 
-/// The second windows, or the first, of whose bound something is known about, if they have the lower bound.
-fn lower_bound(
-    alloc: Global,
-    scene: &Scene<'_>,
-    windows: Vec<Window>,
-    about: i128,
-    lower: Vec<Window>,
-) -> Result<Bounded, NoMemory>
-    ensures order { IfOk result (λ b. AreInOrder (segments_of scene.now.film) b.windows.items) }
-    ensures bound { IfOk result (λ b. b.bound ≡ bound_of scene.now b.windows.items) }
-    ensures short { IfOk result (λ b. HasSignedDigits score_digits b.bound) }
-{
-    let lower = bound_by(alloc, scene, lower)?;
-    if lower.bound < about {
-        return Ok(lower);
-    }
-    let first = bound_by(alloc, scene, windows)?;
-    if lower.bound < first.bound {
-        return Ok(lower);
-    }
-    Ok(first)
-}
-
 /// A good rung list of the film with its value, and windows whose bound is near it: a valid certificate by prices, which can
 /// be spelled.
 pub fn near_best(alloc: Global, scene: &Scene<'_>) -> Result<PriceCertificate, NoMemory>
@@ -126,7 +84,7 @@ pub fn near_best(alloc: Global, scene: &Scene<'_>) -> Result<PriceCertificate, N
 {
     let film = scene.film();
     let found = found_near(alloc, scene)?;
-    let bounded = lower_bound(alloc, scene, found.windows, found.about, found.lower)?;
+    let bounded = bound_by(alloc, scene, found.windows)?;
     Ok(PriceCertificate {
         segments: film.segments(),
         rungs: film.rungs(),

@@ -1,14 +1,14 @@
-//! The prices of segments at which the link just carries what they take, at delays of their own.
+//! The prices of segments at which the link just carries what they take.
 //!
 //! Segment by segment, what the link has carried at the end of a download is known for each price of its bits: at least what it
 //! carries before the earliest begin, and at most what it carries before the latest end. At these two the price may change.
 
 ghost use Rattle.std.specs.Prelude.{◌≡◌, ◌+◌, IfOk, length};
 ghost use Rattle.lab_model.specs.Film.{segments_of};
-ghost use Rattle.near_best.specs.Prices.{IsForEach};
+ghost use Rattle.near_best.specs.Prices.{IsCourse, IsForEach};
 
+use crate::course::Course;
 use crate::demand::{MOST_PRICE, Step, smallest_rung, steps_of};
-use crate::link::{carried_to_begin, carried_to_end};
 use player_core::Scene;
 use std::alloc::{AllocError, Global};
 
@@ -104,8 +104,8 @@ impl Carried {
 }
 
 /// The limits of each segment's price, from segment 1 on.
-fn limits_of(alloc: Global, scene: &Scene<'_>, delays: &[u64]) -> Result<Vec<Limits>, AllocError>
-    requires { IsForEach scene.now delays.now }
+fn limits_of(alloc: Global, scene: &Scene<'_>, course: &Course) -> Result<Vec<Limits>, AllocError>
+    requires { IsCourse scene.now course.now }
     ensures { IfOk result (λ v. length v.items + 1 ≡ segments_of scene.now.film) }
 {
     let film = scene.film();
@@ -118,22 +118,21 @@ fn limits_of(alloc: Global, scene: &Scene<'_>, delays: &[u64]) -> Result<Vec<Lim
     let count = film.segments();
     for segment in 1..count {
         let place = segment as usize;
-        let begin = carried_to_begin(scene, delays[0], segment, delays[place - 1]);
-        let high = carried.keep_above(begin);
+        let high = carried.keep_above(course.begins[place]);
         let least = 1000 * film.size(segment, smallest_rung(scene, segment)) as u64;
         carried.add(least, &steps_of(alloc, scene, segment)?)?;
-        let low = carried.keep_below(carried_to_end(scene, segment, delays[place]));
+        let low = carried.keep_below(course.ends[place]);
         limits.push(Limits { low, high })?;
     }
     Ok(limits)
 }
 
 /// The price of each segment, at most 10^12; that of segment 0 is 0.
-pub fn prices_of(alloc: Global, scene: &Scene<'_>, delays: &[u64]) -> Result<Vec<u64>, AllocError>
-    requires { IsForEach scene.now delays.now }
+pub fn prices_of(alloc: Global, scene: &Scene<'_>, course: &Course) -> Result<Vec<u64>, AllocError>
+    requires { IsCourse scene.now course.now }
     ensures { IfOk result (λ v. IsForEach scene.now v.items) }
 {
-    let limits = limits_of(alloc, scene, delays)?;
+    let limits = limits_of(alloc, scene, course)?;
     let mut prices = vec![in alloc; 0u64; limits.len() + 1]?;
     let mut high = 0;
     let mut price = 0u64;

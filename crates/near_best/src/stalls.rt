@@ -10,7 +10,7 @@ use player_core::Scene;
 use std::alloc::{AllocError, Global};
 
 /// By so many parts of what it lies behind the first delay a step is longer than 1 ms.
-const GROWTH_PARTS: u64 = 8;
+const GROWTH_PARTS: u64 = 16;
 
 /// By so many parts of what it lies behind the first delay a cell of delays is wide.
 const CELL_PARTS: u64 = 64;
@@ -19,7 +19,7 @@ const CELL_PARTS: u64 = 64;
 const LEAST_DEAREST_MS: u64 = 1_000_000;
 
 /// The longest stall that may be worth its cost: that which costs what all segments gain, or a little more.
-fn dearest_stall(scene: &Scene<'_>) -> u64 {
+pub fn dearest_stall(scene: &Scene<'_>) -> u64 {
     let (film, weights) = (scene.film(), &scene.setup().weights);
     prove!(film.rungs() > 0);
     let top = film.rungs() - 1;
@@ -56,17 +56,24 @@ fn tried_delays(alloc: Global, first: u64, dearest: u64) -> Result<Vec<u64>, All
     Ok(delays)
 }
 
+/// The latest delay in the cell of one.
+pub fn latest_of(first: u64, delay: u64) -> u64 {
+    delay.saturating_add(delay.saturating_sub(first) / CELL_PARTS)
+}
+
 /// What the link's bits up to the latest end of a segment are worth, in the cell of a delay.
-pub fn worth_to_end(scene: &Scene<'_>, segment: u16, first: u64, delay: u64, price: u64) -> i128 {
+fn worth_to_end(scene: &Scene<'_>, segment: u16, first: u64, delay: u64, price: u64) -> i128 {
     if price == 0 {
         return 0;
     }
-    let late = delay.saturating_add(delay.saturating_sub(first) / CELL_PARTS);
-    worth_of_bits(carried_to_end(scene, segment, late), price)
+    worth_of_bits(
+        carried_to_end(scene, segment, latest_of(first, delay)),
+        price,
+    )
 }
 
 /// What those before the earliest begin of a segment are worth.
-pub fn worth_to_begin(scene: &Scene<'_>, segment: u16, first: u64, delay: u64, price: u64) -> i128
+fn worth_to_begin(scene: &Scene<'_>, segment: u16, first: u64, delay: u64, price: u64) -> i128
     requires { segment < segments_of scene.now.film }
 {
     if price == 0 {
@@ -84,20 +91,15 @@ fn most_of(table: &[i128]) -> i128 {
     most
 }
 
-/// What the stalls up to each delay cost, so many times, as a loss.
-fn stall_losses(
-    alloc: Global,
-    scene: &Scene<'_>,
-    delays: &[u64],
-    times: i128,
-) -> Result<Vec<i128>, AllocError>
+/// What the stalls up to each delay cost, as a loss.
+fn stall_losses(alloc: Global, scene: &Scene<'_>, delays: &[u64]) -> Result<Vec<i128>, AllocError>
     requires { 1 ≤ length delays.now }
     ensures { IfOk result (λ v. length v.items ≡ length delays.now) }
 {
     let mut losses = Vec::new(alloc);
     for place in 0..delays.len() {
         let cost = stall_cost(scene, delays[place].saturating_sub(delays[0]));
-        losses.push(0i128.saturating_sub(cost.saturating_mul(times)))?;
+        losses.push(0i128.saturating_sub(cost))?;
     }
     Ok(losses)
 }
@@ -143,7 +145,7 @@ pub fn link_worth(
 {
     prove!(scene.film().segments() > 0);
     let delays = tried_delays(alloc, first, dearest_stall(scene))?;
-    let mut table = stall_losses(alloc, scene, &delays, 1)?;
+    let mut table = stall_losses(alloc, scene, &delays)?;
     for done in 1..prices.len() {
         let segment = prices.len() - done;
         let rise = rise_at(prices, shared, segment);
@@ -163,19 +165,16 @@ pub fn link_worth(
 pub struct Outlook {
     /// The delays that are tried.
     delays: Vec<u64>,
-    /// What they come to from the first on.
-    most: i128,
     /// By segment from the last to the first, what the link's bits come to up to all latest ends behind it, after each delay.
     worths: Vec<Vec<i128>>,
 }
 
 impl Outlook {
-    /// The outlook at these prices, from a first delay on, where stalls count so many times.
+    /// The outlook at these prices, from a first delay on.
     pub fn new(
         alloc: Global,
         scene: &Scene<'_>,
         first: u64,
-        times: i128,
         prices: &[u64],
         shared: &[u64],
     ) -> Result<Outlook, AllocError>
@@ -184,7 +183,7 @@ impl Outlook {
     {
         prove!(scene.film().segments() > 0);
         let delays = tried_delays(alloc, first, dearest_stall(scene))?;
-        let mut table = stall_losses(alloc, scene, &delays, times)?;
+        let mut table = stall_losses(alloc, scene, &delays)?;
         let mut worths = Vec::new(alloc);
         worths.push(table.to_vec(alloc)?)?;
         for done in 1..prices.len() {
@@ -195,17 +194,7 @@ impl Outlook {
             worths.push(table.to_vec(alloc)?)?;
             take_begin(scene, &delays, segment as u16, rise, &mut table);
         }
-        let most = most_of(&table);
-        Ok(Outlook {
-            delays,
-            most,
-            worths,
-        })
-    }
-
-    /// What the link's bits come to at most from the first delay on.
-    pub fn most(&self) -> i128 {
-        self.most
+        Ok(Outlook { delays, worths })
     }
 
     /// A delay that is tried.
@@ -223,15 +212,6 @@ impl Outlook {
             Some(worths) => last_equal(worths, place),
         }
     }
-
-    /// What may come behind a segment that has a delay, when so many segments are left.
-    pub fn worth(&self, left: usize, delay: u64) -> i128 {
-        let place = place_below(&self.delays, delay);
-        match self.worths.get(left) {
-            None => 0,
-            Some(worths) => between(&self.delays, worths, place, delay),
-        }
-    }
 }
 
 /// The last place up to which numbers are equal from a place on.
@@ -242,20 +222,4 @@ fn last_equal(numbers: &[i128], from: usize) -> usize {
         }
     }
     numbers.len().saturating_sub(1)
-}
-
-/// The last of the delays that isn't above one.
-fn place_below(delays: &[u64], delay: u64) -> usize {
-    delays.partition_point(|d| *d <= delay).saturating_sub(1)
-}
-
-/// The worth of a delay, between those of the delays that are tried.
-fn between(delays: &[u64], worths: &[i128], place: usize, delay: u64) -> i128 {
-    if place >= delays.len().saturating_sub(1) || place >= worths.len().saturating_sub(1) {
-        return 0;
-    }
-    let width = delays[place + 1].saturating_sub(delays[place]).max(1);
-    let part = delay.saturating_sub(delays[place]).min(width);
-    let rise = worths[place + 1].saturating_sub(worths[place]);
-    worths[place].saturating_add((rise / width as i128).saturating_mul(part as i128))
 }

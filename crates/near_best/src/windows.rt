@@ -2,10 +2,10 @@
 
 ghost use Rattle.std.specs.Prelude.{◌≡◌, ◌+◌, ◌<◌, ◌≤◌, IfOk, length};
 ghost use Rattle.lab_model.specs.Film.{segments_of};
-ghost use Rattle.near_best.specs.Prices.{IsForEach, IsForEachEdge};
+ghost use Rattle.near_best.specs.Prices.{ArePricesOf, IsCourse, IsForEach, IsForEachEdge};
 
+use crate::course::Course;
 use crate::demand::MOST_PRICE;
-use crate::link::{begin_of, end_of};
 use player_core::Scene;
 use price_bounds::Window;
 use std::alloc::{AllocError, Global};
@@ -13,15 +13,24 @@ use std::alloc::{AllocError, Global};
 /// The most windows.
 const MOST_WINDOWS: usize = 4000;
 
+/// The prices of segments, and what of them windows carry over from one to the next.
+#[derive(Drop, Debug)]
+pub struct Tariff {
+    /// The price of each segment.
+    pub prices: Vec<u64>,
+    /// What windows carry over to each segment from the one before, and 0 behind the last.
+    pub shared: Vec<u64>,
+}
+
 /// The part of the prices that windows carry over from the segment before to each segment, and from the last to none. Where a
 /// segment can't begin before the one before has to end, no window holds both.
 pub fn shared_prices(
     alloc: Global,
     scene: &Scene<'_>,
-    delays: &[u64],
+    course: &Course,
     prices: &[u64],
 ) -> Result<Vec<u64>, AllocError>
-    requires delays { IsForEach scene.now delays.now }
+    requires course { IsCourse scene.now course.now }
     requires prices { IsForEach scene.now prices.now }
     ensures { IfOk result (λ v. IsForEachEdge scene.now v.items) }
 {
@@ -29,13 +38,29 @@ pub fn shared_prices(
     let mut shared = Vec::new(alloc);
     shared.push(0)?;
     for segment in 1..prices.len() {
-        let begin = begin_of(scene, delays[0], segment as u16, delays[segment - 1]);
-        let is_apart = begin >= end_of(scene, segment as u16 - 1, delays[segment - 1]);
+        let is_apart = course.begins[segment] >= course.ends[segment - 1];
         let both = prices[segment].min(prices[segment - 1]);
         shared.push(if segment == 1 || is_apart { 0 } else { both })?;
     }
     shared.push(0)?;
     Ok(shared)
+}
+
+/// Prices, with what windows carry over where the link carries so much.
+pub fn tariff_of(
+    alloc: Global,
+    scene: &Scene<'_>,
+    course: &Course,
+    prices: &[u64],
+) -> Result<Tariff, AllocError>
+    requires course { IsCourse scene.now course.now }
+    requires prices { IsForEach scene.now prices.now }
+    ensures { IfOk result (ArePricesOf scene.now) }
+{
+    Ok(Tariff {
+        prices: prices.to_vec(alloc)?,
+        shared: shared_prices(alloc, scene, course, prices)?,
+    })
 }
 
 /// Adds a window, where it has a price and there is room for it.

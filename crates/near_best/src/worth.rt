@@ -1,11 +1,11 @@
-//! What prices come to, where all segments have one delay: the dual value.
+//! What prices come to: the dual value.
 
 ghost use Rattle.std.specs.Prelude.{◌≡◌, ◌+◌, ◌<◌, length};
 ghost use Rattle.lab_model.specs.Film.{rungs_of, segments_of};
-ghost use Rattle.near_best.specs.Prices.{IsForEach, IsForEachEdge};
+ghost use Rattle.near_best.specs.Prices.{IsCourse, IsForEach, IsForEachEdge};
 
+use crate::course::Course;
 use crate::demand::PRICE_UNIT;
-use crate::link::{carried_to_begin, carried_to_end};
 use player_core::Scene;
 
 /// No worth of bits is taken to be greater.
@@ -86,9 +86,9 @@ pub fn stall_cost(scene: &Scene<'_>, stall_ms: u64) -> i128 {
     weight.saturating_mul(stall_ms as i128)
 }
 
-/// What the link's bits come to at prices, less the stalls up to the delay.
-pub fn link_worth_at(scene: &Scene<'_>, delays: &[u64], prices: &[u64], shared: &[u64]) -> i128
-    requires delays { IsForEach scene.now delays.now }
+/// What the link's bits come to at prices.
+pub fn worth_along(scene: &Scene<'_>, course: &Course, prices: &[u64], shared: &[u64]) -> i128
+    requires course { IsCourse scene.now course.now }
     requires prices { IsForEach scene.now prices.now }
     requires shared { IsForEachEdge scene.now shared.now }
 {
@@ -97,13 +97,10 @@ pub fn link_worth_at(scene: &Scene<'_>, delays: &[u64], prices: &[u64], shared: 
     for segment in 1..prices.len() {
         let rise = rise_at(prices, shared, segment);
         let fall = fall_at(prices, shared, segment);
-        let end = carried_to_end(scene, segment as u16, delays[segment]);
-        let begin = carried_to_begin(scene, delays[0], segment as u16, delays[segment - 1]);
-        worth = worth.saturating_add(worth_of_bits(end, fall));
-        worth = worth.saturating_sub(worth_of_bits(begin, rise));
+        worth = worth.saturating_add(worth_of_bits(course.ends[segment], fall));
+        worth = worth.saturating_sub(worth_of_bits(course.begins[segment], rise));
     }
-    let stall_ms = delays[delays.len() - 1].saturating_sub(delays[0]);
-    worth.saturating_sub(stall_cost(scene, stall_ms))
+    worth
 }
 
 /// What the first segment gains on a rung that comes at this delay.

@@ -1,5 +1,7 @@
-//! Bounds by prices, and the checks of their certificates: worked examples and tables of cases.
+//! Bounds by prices, the checks of their certificates, and near-best lists: worked examples and tables of cases.
 #![tactic(auto)]
 
+#[cfg(test)]
+mod near;
 #[cfg(test)]
 mod tests;

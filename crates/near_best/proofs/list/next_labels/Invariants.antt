@@ -2,5 +2,5 @@ use Rattle.std.specs.List.{All}
 use Rattle.near_best.specs.Kept.{IsKept}
 use Rattle.near_best.proofs.list.next_labels.Given as goal
 
-abbrev pub invariant-loop-rung : goal.invariant-loop-rung
-invariant-loop-rung l = All (IsKept l.scene l.segment) l.labels.items
+abbrev pub invariant-loop-number : goal.invariant-loop-number
+invariant-loop-number l = All (IsKept l.scene l.segment) l.labels.items

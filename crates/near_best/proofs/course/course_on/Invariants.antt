@@ -1,0 +1,8 @@
+use Rattle.std.proofs.Common.{◌≡◌, length}
+use Rattle.near_best.proofs.course.course_on.Given as goal
+
+abbrev pub invariant-loop-segment : goal.invariant-loop-segment
+invariant-loop-segment l = record {
+  begins : length l.begins.items ≡ l.segment;
+  ends : length l.ends.items ≡ l.segment;
+}
