@@ -36,7 +36,7 @@ const COARSE: Fineness = Fineness {
 
 /// The grid that is searched with then.
 const FINE: Fineness = Fineness {
-    leads: 33,
+    leads: 25,
     first_ms: 50,
     parts: 2,
 };

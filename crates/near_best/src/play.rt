@@ -15,7 +15,7 @@ use player_core::Scene;
 use std::alloc::{AllocError, Global};
 
 /// Turns between two looks at all first rungs.
-const TURNS: u16 = 3;
+const TURNS: u16 = 4;
 
 /// So many segments and looks make up the work of a play.
 const WORK: u16 = 16_000;
@@ -24,10 +24,10 @@ const WORK: u16 = 16_000;
 const LEAST_LOOKS: u16 = 16;
 
 /// At most so many.
-const MOST_LOOKS: u16 = 32;
+const MOST_LOOKS: u16 = 24;
 
 /// Prices are tried up to the greatest one at first, and higher after each so many looks.
-const LOOKS_TO_RAISE: u64 = 4;
+const LOOKS_TO_RAISE: u64 = 3;
 
 /// At least prices up to this one are tried.
 const LEAST_CAP: u64 = 1000;
