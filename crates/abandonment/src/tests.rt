@@ -45,15 +45,11 @@ const THREE_RUNGS: [Row; 9] = [
 /// Each row is answered as it says.
 fn answers(rt: &impl Abort, m: &Manifest, rows: &[Row]) {
     for (segment, rung, elapsed_ms, bit_ms, got, wanted) in rows {
-        let now = Progress {
-            elapsed_ms: *elapsed_ms,
-            bit_ms: *bit_ms,
-            got: *got,
-        };
         assert!(rt; *segment < m.segments() && *rung < m.rungs());
-        assert!(rt; now.got <= m.size(*segment, *rung));
-        assert!(rt; now.elapsed_ms <= 2_000_000_000 && now.bit_ms <= now.elapsed_ms);
-        assert!(rt; now.got as u64 <= 10_000_000 * now.bit_ms);
+        assert!(rt; *got <= m.size(*segment, *rung));
+        assert!(rt; *elapsed_ms <= 2_000_000_000 && *bit_ms <= *elapsed_ms);
+        assert!(rt; *got as u64 <= 10_000_000 * *bit_ms);
+        let now = Progress::new(*elapsed_ms, *bit_ms, *got);
         assert_eq!(rt; abandon_to(m, *segment, *rung, &now), *wanted, "at {now:?}");
     }
 }

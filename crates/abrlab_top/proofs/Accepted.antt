@@ -19,8 +19,7 @@ use Rattle.lab_inputs.specs.Stages.{Tells}
 use Rattle.lab_inputs.proofs.Steps.{inputs_one_more, ok_same}
 use Rattle.lab_inputs.proofs.Within.{inputs_counted, inputs_held, is_ready, settled_fits}
 use Rattle.player_core.specs.Scene.{IsTask, Task}
-use Rattle.labels.specs.declared.label.Grid.{Grid}
-use Rattle.labels.specs.Grid.{IsGrid}
+use Rattle.labels.specs.Grid.{Rounding, IsGrid}
 use Rattle.certificate_text.specs.Form.{GapParts, IsGapCertificate}
 use Rattle.certificate_check.specs.declared.verdict.Verdict.TheVariants.{Yes}
 use Rattle.certificate_check.specs.Verdict.{verdict_of}
@@ -106,10 +105,10 @@ unfolding about
 about_is after c files i e = rw e refl
 
 -- what a plan on a grid, or on none, claims
-abbrev claim_on : Option Grid → Task → GapParts
+abbrev claim_on : Option Rounding → Task → GapParts
 claim_on grid g = record { bound = bound_on grid g; inner = certificate_on grid g }
 
-certificate_said : (grid : Option Grid) (g : Task) (labels : ℕ) → parts_text grid true (certificate_on grid g) (bound_on grid g) labels ≡ claim_text (is_some grid) (claim_on grid g)
+certificate_said : (grid : Option Rounding) (g : Task) (labels : ℕ) → parts_text grid true (certificate_on grid g) (bound_on grid g) labels ≡ claim_text (is_some grid) (claim_on grid g)
 certificate_said None g labels = refl
 certificate_said (Some d) g labels = refl
 
@@ -121,7 +120,7 @@ plan_answered c files a v n choice e =
     by ∙ labels ∙ by_planning choice false c files a v n e
 
 -- all that a run of `plan --as-certificate` went through
-record Planned (line : List Text) (files : Files) (grid : Option Grid) (i : InputValues) (n : Text × List Period) : Type 0 where
+record Planned (line : List Text) (files : Files) (grid : Option Rounding) (i : InputValues) (n : Text × List Period) : Type 0 where
   none : i.rules ≡ []
   settled : settled i ≡ Ok i
   fits : IfSome grid IsGrid
@@ -129,7 +128,7 @@ record Planned (line : List Text) (files : Files) (grid : Option Grid) (i : Inpu
   form : IsGapCertificate (claim_on grid (task_on i n.1))
   text : whole.text no_choice line files ≡ claim_text (is_some grid) (claim_on grid (task_on i n.1))
 
-was_planned : (line : List Text) (files : Files) (grid : Option Grid) (i : InputValues) (n : Text × List Period) (old new : World) (e : Ending) → PlansCertificate line files grid i → i.networks ≡ n ∷ [] → Tells old.shelf files → Runs line old e new → status_of e ≡ 0 → Planned line files grid i n
+was_planned : (line : List Text) (files : Files) (grid : Option Rounding) (i : InputValues) (n : Text × List Period) (old new : World) (e : Ending) → PlansCertificate line files grid i → i.networks ≡ n ∷ [] → Tells old.shelf files → Runs line old e new → status_of e ≡ 0 → Planned line files grid i n
 was_planned line files grid i n old new e p one t h s =
     let c = p.command in
     let d = done_by line old new e h s c files p.asked t in

@@ -16,7 +16,7 @@ use Rattle.lab_inputs.specs.Inputs.{InputValues}
 use Rattle.quality_score.specs.Score.{CanScore}
 use Rattle.quality_score.proofs.Near.{session_near}
 use Rattle.player_core.specs.Lists.{rungs_in}
-use Rattle.player_core.specs.Scene.{IsTask, Task}
+use Rattle.player_core.specs.Scene.{IsTask, Task, case_in}
 use Rattle.player_core.specs.Session.{Shown, session_of}
 use Rattle.player_core.specs.Sound.{IsCase}
 use Rattle.player_core.specs.State.{Case, case_of}
@@ -119,8 +119,8 @@ are_scores i periods rule top is bound fits off = record {
 }
 
 -- the score of what was played is that of the rule
-pub rule_scored : (i : InputValues) (clock : List Period) (film : Film) (setup : Setup) (ahead : ℕ) (kind rule : RuleKind) (s : Shown) (score : ℤ) → s ≡ session_of (case_of film clock setup [] ahead kind) → film ≡ i.film → setup ≡ i.setup → ahead ≡ ahead_of i.live
+pub rule_scored : (i : InputValues) (clock : List Period) (g : Task) (setup : Setup) (kind rule : RuleKind) (s : Shown) (score : ℤ) → s ≡ session_of (case_in g [] kind) → g ≡ task_on i clock → setup ≡ i.setup
     → kind ≡ rule → score ≡ session_score s setup.weights → score ≡ score_on i clock rule
-rule_scored i clock film setup ahead kind rule s score e f p a k o =
-    let same : case_of film clock setup [] ahead kind ≡ regret_case i clock rule = rw (f, p, a, k) refl in
+rule_scored i clock g setup kind rule s score e t p k o =
+    let same : case_in g [] kind ≡ regret_case i clock rule = rw (t, k) refl in
     o ∙ ap (λ (x : Shown). session_score x setup.weights) (e ∙ ap session_of same) ∙ ap (λ (w : Setup). session_score (session_of (regret_case i clock rule)) w.weights) p

@@ -3,10 +3,9 @@ use Rattle.std.proofs.Common.{◌≡◌, ◌∙◌, ℕ, suc, ◌-◌, ◌≤◌
 use Rattle.std.specs.Prelude.{nat_lt}
 use Rattle.std.proofs.lemmas.Bool.Decides.{nat_tests}
 use Rattle.lab_model.specs.Film.{segments_of}
-use Rattle.labels.specs.declared.label.Grid.{Grid}
 use Rattle.labels.specs.Form.{HasSignedDigits, IsCertificate, score_digits}
 use Rattle.labels.specs.Frontier.{frontier}
-use Rattle.labels.specs.Grid.{IsGrid, exact}
+use Rattle.labels.specs.Grid.{Rounding, IsGrid, exact}
 use Rattle.labels.specs.Grown.{grown}
 use Rattle.player_core.specs.Scene.{IsTask, Task}
 use Rattle.labels.specs.Read.{labels_before, labels_in, list_of_plan}
@@ -25,7 +24,7 @@ use Rattle.abrlab_top.specs.Plan.{bound_on, certificate_on, chains_on, spent_on}
 use Rattle.abrlab_top.proofs.Finds.{none_found}
 
 -- a budget that is not spent is not below the number of labels
-pub within_budget : (grid : Option Grid) (g : Task) (budget : ℕ) → 1 ≤ segments_of g.film → spent_on grid g budget ≡ None → labels_in g (chains_on grid g) ≤ budget
+pub within_budget : (grid : Option Rounding) (g : Task) (budget : ℕ) → 1 ≤ segments_of g.film → spent_on grid g budget ≡ None → labels_in g (chains_on grid g) ≤ budget
 unfolding spent_on
 within_budget grid g budget some h =
     let n = segments_of g.film in
@@ -37,7 +36,7 @@ within_budget grid g budget some h =
     below h = grind (arith, nat_tests, h)
 
 -- it has a text, and so has its bound
-pub has_text : (grid : Option Grid) (g : Task) → IfSome grid IsGrid → IsTask g → labels_in g (chains_on grid g) ≤ 1000000 → IsGapCertificate (record { bound = bound_on grid g; inner = certificate_on grid g })
+pub has_text : (grid : Option Rounding) (g : Task) → IfSome grid IsGrid → IsTask g → labels_in g (chains_on grid g) ≤ 1000000 → IsGapCertificate (record { bound = bound_on grid g; inner = certificate_on grid g })
 has_text None g fits is few =
     let agree = exact_agrees g is in
     let before = before_same exact g (grown exact g) (frontier g) agree (segments_of g.film) (omega arith) in
@@ -49,15 +48,15 @@ has_text None g fits is few =
 has_text (Some d) g fits is few = record { bound = bound_short d g (record { task = is; grid = fits }) few; inner = certificate_form d g (record { task = is; grid = fits }) few }
 
 -- without a grid the bound is the score
-pub own_score : (grid : Option Grid) (g : Task) → IsTask g → is_some grid ≡ false → bound_on grid g ≡ (certificate_on grid g).score
+pub own_score : (grid : Option Rounding) (g : Task) → IsTask g → is_some grid ≡ false → bound_on grid g ≡ (certificate_on grid g).score
 own_score None g is none = let h = plan_settles g is in sym h.value ∙ labels_are_values g is (list_of_plan exact g (frontier g)) h.list
 own_score (Some d) g is none = absurd cc
 
 -- it is valid with its bound
-pub bound_holds : (grid : Option Grid) (g : Task) → IfSome grid IsGrid → IsTask g → IsValid g (certificate_on grid g) (bound_on grid g)
+pub bound_holds : (grid : Option Rounding) (g : Task) → IfSome grid IsGrid → IsTask g → IsValid g (certificate_on grid g) (bound_on grid g)
 bound_holds None g fits is = subst (IsValid g (certificate_on None g)) (sym (own_score None g is refl)) (plan_accepted g is)
 bound_holds (Some d) g fits is = accepted d fits g is
 
 -- so a check says yes to it
-pub says_yes : (grid : Option Grid) (g : Task) → IfSome grid IsGrid → IsTask g → verdict_of g (certificate_on grid g) (bound_on grid g) ≡ Yes
+pub says_yes : (grid : Option Rounding) (g : Task) → IfSome grid IsGrid → IsTask g → verdict_of g (certificate_on grid g) (bound_on grid g) ≡ Yes
 says_yes grid g fits is = valid_yes g (certificate_on grid g) (bound_on grid g) is.film.segments.0 (bound_holds grid g fits is)

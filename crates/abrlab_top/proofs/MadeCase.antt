@@ -31,7 +31,7 @@ use Rattle.demo_case.specs.Case.{demo_film, demo_periods, demo_setup, demo_task}
 use Rattle.demo_case.proofs.Bound.{budget_unspent}
 use Rattle.abrlab_top.specs.Demo.{FitsBudget, demo_bench, demo_line, demo_plan, demo_rules, demo_text, plan_report, task_in}
 use Rattle.abrlab_top.specs.Plan.{certificate_on, labels_on}
-use Rattle.abrlab_top.specs.Rows.{BenchValue, row_of}
+use Rattle.abrlab_top.specs.Rows.{BenchValue, session_row}
 use Rattle.abrlab_top.specs.Stages.{WritesRows}
 use Rattle.abrlab_top.proofs.RowByRow.{rows_as, rows_failed, rows_more, rows_put}
 use Rattle.abrlab_top.proofs.Networks.{all_mapped}
@@ -108,31 +108,31 @@ plan_form g p budget c is of e = subst IsCertificate (sym e) of.form
 -- ---- the whole
 
 -- the text of a number, line by line
-demo_said : (n : ℕ) → demo_line n ++ (flat_map (row_of (demo_bench n)) demo_rules ++ plan_report (demo_task n)) ≡ demo_text n
+demo_said : (n : ℕ) → demo_line n ++ (flat_map (session_row (demo_bench n)) demo_rules ++ plan_report (demo_task n)) ≡ demo_text n
 unfolding demo_text
 demo_said n = refl
 
 -- the first line did not go out
 pub demo_cut : (n : ℕ) (old new : Seen) (r q : Result (Unit {0}) PutErr) (e : PutErr) → r ≡ Err e → IsErrAnd q (λ y. y ≡ e) → Puts old (demo_line n) new r → WritesRows old (demo_text n) q new
 demo_cut n old new r q e h k x =
-    rows_as old new _ _ q (demo_said n) (rows_failed old new (demo_line n) (flat_map (row_of (demo_bench n)) demo_rules ++ plan_report (demo_task n)) r q e h k (rows_put old new (demo_line n) r x))
+    rows_as old new _ _ q (demo_said n) (rows_failed old new (demo_line n) (flat_map (session_row (demo_bench n)) demo_rules ++ plan_report (demo_task n)) r q e h k (rows_put old new (demo_line n) r x))
 
 -- the rows are those of the number
 made_rows : (n : ℕ) (b : BenchValue) (rules seen : List NamedRule) (old new : Seen) (r : Result (Unit {0}) PutErr) → b ≡ demo_bench n → seen ≡ rules → map named rules ≡ demo_rules
-    → WritesRows old (flat_map (row_of b) (map named seen)) r new → WritesRows old (flat_map (row_of (demo_bench n)) demo_rules) r new
+    → WritesRows old (flat_map (session_row b) (map named seen)) r new → WritesRows old (flat_map (session_row (demo_bench n)) demo_rules) r new
 made_rows n b rules seen old new r k e h =
-    rows_as old new _ _ r (ap (λ x. flat_map (row_of x) (map named seen)) k ∙ ap (λ x. flat_map (row_of (demo_bench n)) (map named x)) e ∙ ap (flat_map (row_of (demo_bench n))) h)
+    rows_as old new _ _ r (ap (λ x. flat_map (session_row x) (map named seen)) k ∙ ap (λ x. flat_map (session_row (demo_bench n)) (map named x)) e ∙ ap (flat_map (session_row (demo_bench n))) h)
 
 -- the rows did not all go out
 pub demo_rows_cut : (n : ℕ) (b : BenchValue) (rules seen : List NamedRule) (old mid new : Seen) (r s q : Result (Unit {0}) PutErr) (u : Unit {0}) (e : PutErr) → r ≡ Ok u → s ≡ Err e → IsErrAnd q (λ y. y ≡ e) → b ≡ demo_bench n → seen ≡ rules → map named rules ≡ demo_rules
-    → Puts old (demo_line n) mid r → WritesRows mid (flat_map (row_of b) (map named seen)) s new → WritesRows old (demo_text n) q new
+    → Puts old (demo_line n) mid r → WritesRows mid (flat_map (session_row b) (map named seen)) s new → WritesRows old (demo_text n) q new
 demo_rows_cut n b rules seen old mid new r s q u e went h k on same spoken line rows =
-    rows_as old new _ _ q (demo_said n) (rows_more old mid new (demo_line n) (flat_map (row_of (demo_bench n)) demo_rules ++ plan_report (demo_task n)) r q u went (rows_put old mid (demo_line n) r line)
-    (rows_failed mid new (flat_map (row_of (demo_bench n)) demo_rules) (plan_report (demo_task n)) s q e h k (made_rows n b rules seen mid new s on same spoken rows)))
+    rows_as old new _ _ q (demo_said n) (rows_more old mid new (demo_line n) (flat_map (session_row (demo_bench n)) demo_rules ++ plan_report (demo_task n)) r q u went (rows_put old mid (demo_line n) r line)
+    (rows_failed mid new (flat_map (session_row (demo_bench n)) demo_rules) (plan_report (demo_task n)) s q e h k (made_rows n b rules seen mid new s on same spoken rows)))
 
 -- the first line, the rows, and what the plan came to
 pub demo_told : (n : ℕ) (b : BenchValue) (g : Task) (rules seen : List NamedRule) (old mid late new : Seen) (r s q : Result (Unit {0}) PutErr) (u v : Unit {0}) → r ≡ Ok u → s ≡ Ok v → b ≡ demo_bench n → g ≡ demo_task n → seen ≡ rules → map named rules ≡ demo_rules
-    → Puts old (demo_line n) mid r → WritesRows mid (flat_map (row_of b) (map named seen)) s late → WritesRows late (plan_report g) q new → WritesRows old (demo_text n) q new
+    → Puts old (demo_line n) mid r → WritesRows mid (flat_map (session_row b) (map named seen)) s late → WritesRows late (plan_report g) q new → WritesRows old (demo_text n) q new
 demo_told n b g rules seen old mid late new r s q u v went gone on task same spoken line rows plan =
-    rows_as old new _ _ q (demo_said n) (rows_more old mid new (demo_line n) (flat_map (row_of (demo_bench n)) demo_rules ++ plan_report (demo_task n)) r q u went (rows_put old mid (demo_line n) r line)
-    (rows_more mid late new (flat_map (row_of (demo_bench n)) demo_rules) (plan_report (demo_task n)) s q v gone (made_rows n b rules seen mid late s on same spoken rows) (rows_as late new _ _ q (ap plan_report task) plan)))
+    rows_as old new _ _ q (demo_said n) (rows_more old mid new (demo_line n) (flat_map (session_row (demo_bench n)) demo_rules ++ plan_report (demo_task n)) r q u went (rows_put old mid (demo_line n) r line)
+    (rows_more mid late new (flat_map (session_row (demo_bench n)) demo_rules) (plan_report (demo_task n)) s q v gone (made_rows n b rules seen mid late s on same spoken rows) (rows_as late new _ _ q (ap plan_report task) plan)))

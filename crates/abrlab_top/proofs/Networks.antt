@@ -22,7 +22,7 @@ use Rattle.lab_inputs.specs.Settings.{settled}
 use Rattle.abrlab_top.specs.declared.ending.Ending.TheVariants as ending
 use Rattle.abrlab_top.specs.Answer.{printed}
 use Rattle.abrlab_top.specs.Compare.{bench_on, compare, network_rows}
-use Rattle.abrlab_top.specs.Rows.{BenchValue, row_of}
+use Rattle.abrlab_top.specs.Rows.{BenchValue, session_row}
 use Rattle.abrlab_top.specs.Stages.{WritesRows}
 use Rattle.abrlab_top.proofs.RowByRow.{rows_as, rows_failed, rows_more, rows_put}
 
@@ -42,15 +42,15 @@ rules_fit i seen b e f h = rw f (all_mapped (λ (r : Text × RuleKind). KindFits
 pub network_failed : (i : InputValues) (n : Text × List Period) (old new : Seen) (r q : Result (Unit {0}) PutErr) (e : PutErr) → r ≡ Err e → IsErrAnd q (λ y. y ≡ e)
     → Puts old (fields_line (codes "trace" ∷ n.0 ∷ [])) new r → WritesRows old (network_rows i n) q new
 network_failed i n old new r q e h k x =
-    rows_failed old new (fields_line (codes "trace" ∷ n.0 ∷ [])) (flat_map (row_of (bench_on i n.1)) i.rules) r q e h k (rows_put old new (fields_line (codes "trace" ∷ n.0 ∷ [])) r x)
+    rows_failed old new (fields_line (codes "trace" ∷ n.0 ∷ [])) (flat_map (session_row (bench_on i n.1)) i.rules) r q e h k (rows_put old new (fields_line (codes "trace" ∷ n.0 ∷ [])) r x)
 
 -- the line of a network and what its rows came to
 pub network_written : (i : InputValues) (n : Text × List Period) (b : BenchValue) (seen : List NamedRule) (old mid new : Seen) (r q : Result (Unit {0}) PutErr) (u : Unit {0})
     → r ≡ Ok u → b ≡ bench_on i n.1 → map named seen ≡ i.rules
-    → Puts old (fields_line (codes "trace" ∷ n.0 ∷ [])) mid r → WritesRows mid (flat_map (row_of b) (map named seen)) q new → WritesRows old (network_rows i n) q new
+    → Puts old (fields_line (codes "trace" ∷ n.0 ∷ [])) mid r → WritesRows mid (flat_map (session_row b) (map named seen)) q new → WritesRows old (network_rows i n) q new
 network_written i n b seen old mid new r q u went on rest line rows =
-    let all : flat_map (row_of b) (map named seen) ≡ flat_map (row_of (bench_on i n.1)) i.rules = ap (λ x. flat_map (row_of x) (map named seen)) on ∙ ap (flat_map (row_of (bench_on i n.1))) rest in
-    rows_more old mid new (fields_line (codes "trace" ∷ n.0 ∷ [])) (flat_map (row_of (bench_on i n.1)) i.rules) r q u went
+    let all : flat_map (session_row b) (map named seen) ≡ flat_map (session_row (bench_on i n.1)) i.rules = ap (λ x. flat_map (session_row x) (map named seen)) on ∙ ap (flat_map (session_row (bench_on i n.1))) rest in
+    rows_more old mid new (fields_line (codes "trace" ∷ n.0 ∷ [])) (flat_map (session_row (bench_on i n.1)) i.rules) r q u went
     (rows_put old mid (fields_line (codes "trace" ∷ n.0 ∷ [])) r line) (rows_as mid new _ _ q all rows)
 
 -- the bench is the one of the network

@@ -10,12 +10,11 @@ use Rattle.lab_model.specs.Film.{Film, segments_of}
 use Rattle.lab_inputs.specs.declared.stop.Stop.{Stop}
 use Rattle.lab_inputs.specs.Inputs.{InputValues}
 use Rattle.lab_inputs.specs.Settings.{settled}
-use Rattle.labels.specs.declared.label.Grid.{Grid}
 use Rattle.frontier_planner.specs.declared.plans.BoundedList.{BoundedList}
 use Rattle.frontier_planner.specs.declared.plans.CoarsePlan.{CoarsePlan}
 use Rattle.frontier_planner.specs.declared.plans.PlanErr.{PlanErr}
 use Rattle.frontier_planner.specs.declared.plans.PlanErr.TheVariants as planned
-use Rattle.labels.specs.Grid.{IsGrid, exact}
+use Rattle.labels.specs.Grid.{Rounding, IsGrid, exact}
 use Rattle.player_core.specs.Scene.{Task, task_of}
 use Rattle.labels.specs.Parts.{CertificateParts, plan_parts}
 use Rattle.frontier_planner.specs.Planned.{CoarseAnswer, ExactAnswer, IsListOf, IsPlanOf, ListAnswer}
@@ -30,7 +29,7 @@ use Rattle.abrlab_top.specs.declared.ending.Ending.TheVariants as ending
 use Rattle.abrlab_top.specs.Ahead.{ahead_of}
 use Rattle.abrlab_top.specs.Answer.{printed}
 use Rattle.abrlab_top.specs.Ending.{after_plan}
-use Rattle.abrlab_top.specs.Plan.{IsListed, IsPlanned, PlanAsked, bound_on, certificate_lines, certificate_on, chains_on, labels_on, list_lines, parts_text, plan, plan_on, planned_on, spent_on, steps_of, task_on, unless_spent}
+use Rattle.abrlab_top.specs.Plan.{IsListFound, IsPlanned, PlanAsked, bound_on, certificate_lines, certificate_on, chains_on, labels_on, list_lines, parts_text, plan, plan_on, planned_on, spent_on, steps_of, task_on, unless_spent}
 use Rattle.abrlab_top.specs.Stages.{Writes, at_the_end}
 use Rattle.abrlab_top.proofs.Finds.{found_from, none_from}
 use Rattle.abrlab_top.proofs.Whole.{wanting}
@@ -38,12 +37,12 @@ use Rattle.abrlab_top.proofs.Whole.{wanting}
 -- ---- what is asked for
 
 -- the steps of a grid within its limits, and of none
-pub steps_fit : (grid : Option Grid) → IfSome grid IsGrid → IsGrid (steps_of grid)
+pub steps_fit : (grid : Option Rounding) → IfSome grid IsGrid → IsGrid (steps_of grid)
 steps_fit None h = exact_fits
 steps_fit (Some d) h = h
 
 -- what the planner answers on these steps is what was asked for
-pub planned_by : (grid : Option Grid) (g : Task) (budget : ℕ) (r : Result CoarsePlan PlanErr) → CoarseAnswer (steps_of grid) g budget r → ExactAnswer (steps_of grid) g budget r
+pub planned_by : (grid : Option Rounding) (g : Task) (budget : ℕ) (r : Result CoarsePlan PlanErr) → CoarseAnswer (steps_of grid) g budget r → ExactAnswer (steps_of grid) g budget r
     → (steps_of grid ≡ exact → IfOk r (λ (c : CoarsePlan). c.bound ≡ c.plan.score)) → IsPlanned grid g budget r
 planned_by None g budget (Ok c) coarse exactly own = subst (IsPlanOf exact g (chains_on None g) budget c.plan) (sym (own refl)) (exactly refl)
 planned_by None g budget (Err (planned.BudgetSpent s)) coarse exactly own = exactly refl
@@ -53,13 +52,13 @@ planned_by (Some d) g budget (Err (planned.BudgetSpent s)) coarse exactly own = 
 planned_by (Some d) g budget (Err planned.Memory) coarse exactly own = tt
 
 -- and of a list
-pub listed_by : (grid : Option Grid) (g : Task) (budget : ℕ) (r : Result BoundedList PlanErr) → ListAnswer (steps_of grid) g (grown (steps_of grid) g) budget r → (steps_of grid ≡ exact → ListAnswer exact g (frontier g) budget r) → IsListed grid g budget r
+pub listed_by : (grid : Option Rounding) (g : Task) (budget : ℕ) (r : Result BoundedList PlanErr) → ListAnswer (steps_of grid) g (grown (steps_of grid) g) budget r → (steps_of grid ≡ exact → ListAnswer exact g (frontier g) budget r) → IsListFound grid g budget r
 listed_by None g budget r coarse exactly = exactly refl
 listed_by (Some d) g budget r coarse exactly = coarse
 
 -- ---- the budget
 
-module _ (grid : Option Grid) (g : Task) (budget : ℕ) where
+module _ (grid : Option Rounding) (g : Task) (budget : ℕ) where
   before_within : (j s : ℕ) → j ≤ s → labels_before g (chains_on grid g) j ≤ labels_before g (chains_on grid g) s
   before_within j s low =
       subst (λ n. labels_before g (chains_on grid g) j ≤ labels_before g (chains_on grid g) n) (omega (arith, low)) (before_beyond g (chains_on grid g) j (s - j))
@@ -137,7 +136,7 @@ plan_failed o g old r (planned.BudgetSpent s) k x = let y : SpentAt g (chains_on
 plan_failed o g old r planned.Memory k x = wanting at_the_end (planned_on o g) old
 
 -- finding the list failed
-pub list_failed : (o : PlanAsked) (g : Task) (old : Seen) (r : Result BoundedList PlanErr) (e : PlanErr) → r ≡ Err e → IsListed o.grid g o.budget r → Writes at_the_end (planned_on o g) old (after_plan e) old
+pub list_failed : (o : PlanAsked) (g : Task) (old : Seen) (r : Result BoundedList PlanErr) (e : PlanErr) → r ≡ Err e → IsListFound o.grid g o.budget r → Writes at_the_end (planned_on o g) old (after_plan e) old
 list_failed o g old r (planned.BudgetSpent s) k x = let y : SpentAt g (chains_on o.grid g) o.budget s = rw k at x in (task_spent o g s y, refl)
 list_failed o g old r planned.Memory k x = wanting at_the_end (planned_on o g) old
 
@@ -146,5 +145,5 @@ pub plan_given : (o : PlanAsked) (g : Task) (r : Result CoarsePlan PlanErr) (c :
 plan_given o g r c e x = rw e at x
 
 -- and a list
-pub list_given : (o : PlanAsked) (g : Task) (r : Result BoundedList PlanErr) (b : BoundedList) → r ≡ Ok b → IsListed o.grid g o.budget r → IsListOf (steps_of o.grid) g (chains_on o.grid g) o.budget b
+pub list_given : (o : PlanAsked) (g : Task) (r : Result BoundedList PlanErr) (b : BoundedList) → r ≡ Ok b → IsListFound o.grid g o.budget r → IsListOf (steps_of o.grid) g (chains_on o.grid g) o.budget b
 list_given o g r b e x = rw e at x

@@ -1,5 +1,6 @@
 -- The headline of each command, from a run that answered 0.
 use Rattle.std.proofs.Common.{◌≡◌, ◌∙◌, ℕ, ◌≤◌, Bool, true, false, is_some, List, [], ◌∷◌, length, Option, Some, None, IfSome, Result, Ok, Err, ap, sym, refl, subst, arith}
+use Rattle.lab_model.specs.Limits.{all_ahead}
 use Rattle.std.specs.List.{All, slice_get}
 use Rattle.lab_io.specs.Sink.{Text, Grew}
 use Rattle.lab_model.specs.declared.setup.Setup.{Setup}
@@ -25,11 +26,9 @@ use Rattle.lab_inputs.specs.Stages.{Tells}
 use Rattle.lab_inputs.proofs.Steps.{ok_same, read_ok, role_ok}
 use Rattle.lab_inputs.proofs.Tables.{weights_are}
 use Rattle.lab_inputs.proofs.Within.{IsReady, inputs_counted, inputs_held, is_ready, settled_fits}
-use Rattle.player_core.specs.Available.{all_ahead}
 use Rattle.player_core.specs.State.{case_of}
 use Rattle.player_core.specs.Scene.{IsTask, Task, task_of}
-use Rattle.labels.specs.declared.label.Grid.{Grid}
-use Rattle.labels.specs.Grid.{IsGrid}
+use Rattle.labels.specs.Grid.{Rounding, IsGrid}
 use Rattle.labels.specs.Read.{labels_in}
 use Rattle.labels.proofs.Sound.{sound}
 use Rattle.certificate_check.specs.declared.verdict.Verdict.{Verdict}
@@ -235,7 +234,7 @@ planned_ok o i n a e k =
     (s.0, u.0, u.1)
 
 -- a plan's labels are no more than a certificate may have
-pub few_labels : (c : CommandWords) (grid : Option Grid) (g : Task) → IsWithinLimits c → c.verb ≡ verb.Plan → IsTask g → spent_on grid g c.budget ≡ None → labels_in g (chains_on grid g) ≤ 1000000
+pub few_labels : (c : CommandWords) (grid : Option Rounding) (g : Task) → IsWithinLimits c → c.verb ≡ verb.Plan → IsTask g → spent_on grid g c.budget ≡ None → labels_in g (chains_on grid g) ≤ 1000000
 few_labels c grid g limits v is unspent =
     let own = (subst (λ w. HasItsOwn w c) v limits.own).1 in
     let few = within_budget grid g c.budget is.film.segments.0 unspent in

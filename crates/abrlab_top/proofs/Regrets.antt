@@ -40,7 +40,7 @@ use Rattle.abrlab_top.specs.declared.regret.Scored.{Scored}
 use Rattle.abrlab_top.specs.Answer.{printed}
 use Rattle.abrlab_top.specs.Ahead.{ahead_of}
 use Rattle.abrlab_top.specs.Choice.{AreBounds, IsBound}
-use Rattle.abrlab_top.specs.Plan.{IsListed, PlanAsked, task_on}
+use Rattle.abrlab_top.specs.Plan.{IsListFound, PlanAsked, task_on}
 use Rattle.abrlab_top.specs.Regret.{AreCompared, AreRanked, AreTops, CanRank, IsTop, RankingValue, SpentBy, Unspent, best_on, first_spent, near_regret, network_rows, networks_rows, ranked_row, ranked_text, regret, regret_text, rows_of, score_on, scored_on, scores_at, scores_over, seen_scored, spent_there, sums_row, tops_of, unless_any_spent}
 use Rattle.abrlab_top.specs.Stages.{Writes, at_the_end}
 use Rattle.abrlab_top.proofs.Behind.{are_scores, best_bounds}
@@ -68,18 +68,18 @@ pub task_seen : (i seen : InputValues) (clock : List Period) (film : Film) (setu
 task_seen i seen clock film setup ahead e f p a = task_is seen clock clock film setup ahead f refl p a ∙ ap (λ (v : InputValues). task_on v clock) e
 
 -- the list has the best score, and no budget is spent
-pub best_listed : (i : InputValues) (periods : List Period) (budget place : ℕ) (o : PlanAsked) (b : BoundedList) → o ≡ record { grid = None; budget = budget; as_certificate = false } → IsListed o.grid (task_on i periods) o.budget (Ok b)
+pub best_listed : (i : InputValues) (periods : List Period) (budget place : ℕ) (o : PlanAsked) (b : BoundedList) → o ≡ record { grid = None; budget = budget; as_certificate = false } → IsListFound o.grid (task_on i periods) o.budget (Ok b)
     → (spent_there i (Some budget) place periods ≡ None) × (b.score ≡ best_on i periods)
 best_listed i periods budget place o b asked of =
-    let list : IsListOf exact (task_on i periods) (frontier (task_on i periods)) budget b = subst (λ (a : PlanAsked). IsListed a.grid (task_on i periods) a.budget (Ok b)) asked of in
+    let list : IsListOf exact (task_on i periods) (frontier (task_on i periods)) budget b = subst (λ (a : PlanAsked). IsListFound a.grid (task_on i periods) a.budget (Ok b)) asked of in
     let few = never_spent None (task_on i periods) budget (let most = list.within in let counted = list.labels in omega (arith, most, counted)) in
     (ap (option_map (λ segment. (place, segment))) few, list.score)
 
 -- the budget is spent there
-pub best_spent : (i : InputValues) (periods : List Period) (budget place segment : ℕ) (o : PlanAsked) → o ≡ record { grid = None; budget = budget; as_certificate = false } → IsListed o.grid (task_on i periods) o.budget (Err (planned.BudgetSpent segment))
+pub best_spent : (i : InputValues) (periods : List Period) (budget place segment : ℕ) (o : PlanAsked) → o ≡ record { grid = None; budget = budget; as_certificate = false } → IsListFound o.grid (task_on i periods) o.budget (Err (planned.BudgetSpent segment))
     → spent_there i (Some budget) place periods ≡ Some (place, segment)
 best_spent i periods budget place segment o asked of =
-    let spent : SpentAt (task_on i periods) (frontier (task_on i periods)) budget segment = subst (λ (a : PlanAsked). IsListed a.grid (task_on i periods) a.budget (Err (planned.BudgetSpent segment))) asked of in
+    let spent : SpentAt (task_on i periods) (frontier (task_on i periods)) budget segment = subst (λ (a : PlanAsked). IsListFound a.grid (task_on i periods) a.budget (Err (planned.BudgetSpent segment))) asked of in
     ap (option_map (λ segment. (place, segment))) (spent_at None (task_on i periods) budget segment spent)
 
 -- a top of a network under a budget, or without one, is a bound there

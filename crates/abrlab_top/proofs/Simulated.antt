@@ -11,12 +11,12 @@ use Rattle.lab_inputs.specs.declared.stop.Stop.{Stop}
 use Rattle.lab_inputs.specs.Inputs.{InputValues}
 use Rattle.lab_inputs.specs.Settings.{settled}
 use Rattle.player_core.specs.Session.{Shown, session_of}
-use Rattle.player_core.specs.State.{case_of}
+use Rattle.player_core.specs.Scene.{Task, case_in}
 use Rattle.session_report.specs.Session.{session_text}
 use Rattle.abrlab_top.specs.declared.ending.Ending.TheVariants as ending
-use Rattle.abrlab_top.specs.Ahead.{ahead_of}
 use Rattle.abrlab_top.specs.Answer.{printed}
-use Rattle.abrlab_top.specs.Simulate.{case_on, session_on, simulate, simulate_on}
+use Rattle.abrlab_top.specs.Plan.{task_on}
+use Rattle.abrlab_top.specs.Simulate.{session_case, session_on, simulate, simulate_on}
 
 -- no network is named
 pub no_network : (i : InputValues) → slice_get i.networks 0 ≡ None → simulate i ≡ Ok (printed [])
@@ -43,11 +43,11 @@ unfolding simulate
 simulated i n rule e h k = rw (e, h, k) refl
 
 -- what was played is what is to be printed
-pub played : (i : InputValues) (periods clock : List Period) (film : Film) (setup : Setup) (seeks : List Seek) (ahead : ℕ) (kind rule : RuleKind) (s : Shown) (weights : Setup) → s ≡ session_of (case_of film clock setup seeks ahead kind)
-    → film ≡ i.film → clock ≡ periods → setup ≡ i.setup → seeks ≡ i.seeks → ahead ≡ ahead_of i.live → kind ≡ rule → weights ≡ i.setup → session_text s weights.weights ≡ session_on i periods rule
-played i periods clock film setup seeks ahead kind rule s weights e f p q r a k o =
-    let same : case_of film clock setup seeks ahead kind ≡ case_on i periods rule = rw (f, p, q, r, a, k) refl in
-    ap (λ (x : Shown). session_text x weights.weights) (e ∙ ap session_of same) ∙ ap (λ (w : Setup). session_text (session_of (case_on i periods rule)) w.weights) o
+pub played : (i : InputValues) (periods : List Period) (g : Task) (seeks : List Seek) (kind rule : RuleKind) (s : Shown) (weights : Setup) → s ≡ session_of (case_in g seeks kind)
+    → g ≡ task_on i periods → seeks ≡ i.seeks → kind ≡ rule → weights ≡ i.setup → session_text s weights.weights ≡ session_on i periods rule
+played i periods g seeks kind rule s weights e t r k o =
+    let same : case_in g seeks kind ≡ session_case i periods rule = rw (t, r, k) refl in
+    ap (λ (x : Shown). session_text x weights.weights) (e ∙ ap session_of same) ∙ ap (λ (w : Setup). session_text (session_of (session_case i periods rule)) w.weights) o
 
 first_holds : {A : Type 0} (P : A → Type 0) (xs : List A) (x : A) → slice_get xs 0 ≡ Some x → All P xs → P x
 first_holds P [] x e h = cc

@@ -1,5 +1,6 @@
 -- What `simulate --players` proves, from a run that answered 0.
 use Rattle.std.proofs.Common.{◌≡◌, ◌∙◌, ◌++◌, ◌||◌, ℕ, Bool, true, false, is_some, List, [], ◌∷◌, length, get_or, Ok, ap, sym, refl, subst}
+use Rattle.lab_model.specs.Limits.{all_ahead}
 use Rattle.std.specs.List.{slice_get}
 use Rattle.std.proofs.lemmas.List.{length-map}
 use Rattle.std.proofs.lemmas.List.Elements.{All-map}
@@ -18,7 +19,6 @@ use Rattle.lab_inputs.specs.Inputs.{InputValues}
 use Rattle.lab_inputs.specs.Settings.{settled}
 use Rattle.lab_inputs.proofs.Steps.{ok_same}
 use Rattle.lab_inputs.proofs.Within.{IsReady, inputs_counted, is_ready}
-use Rattle.player_core.specs.Available.{all_ahead}
 use Rattle.player_core.specs.Session.{Shown, session_of}
 use Rattle.player_core.specs.State.{case_of}
 use Rattle.session_report.specs.Session.{session_text}

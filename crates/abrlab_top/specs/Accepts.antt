@@ -1,5 +1,6 @@
 -- The certificate that a run of `plan` printed, on demand or live, plain or with a gap, is one that a run of `check` says yes to.
 use Rattle.std.specs.Prelude.{◌≡◌, true, false, Bool, List, [], ◌∷◌, Option, Some, None, Ok, is_some}
+use Rattle.labels.specs.Grid.{Rounding}
 use Rattle.lab_io.specs.Sink.{Text}
 use Rattle.lab_model.specs.declared.trace.Period.{Period}
 use Rattle.lab_words.specs.declared.Verb.TheVariants.{Plan, Check}
@@ -8,7 +9,6 @@ use Rattle.lab_words.specs.Words.{command_of}
 use Rattle.lab_inputs.specs.Files.{Files}
 use Rattle.lab_inputs.specs.Inputs.{InputValues, inputs_of}
 use Rattle.lab_inputs.specs.Stages.{Tells}
-use Rattle.labels.specs.declared.label.Grid.{Grid}
 use Rattle.certificate_check.specs.declared.verdict.Verdict.TheVariants.{Yes}
 use Rattle.certificate_text.specs.Form.{GapParts, IsGapCertificate}
 use Rattle.price_bounds.specs.Verdict.{PriceParts}
@@ -42,7 +42,7 @@ abbrev pub without_certificate : CommandWords → CommandWords
 without_certificate c = record c { certificate = None }
 
 -- words of `plan --as-certificate`, on this grid or on none, that read this
-pub record PlansCertificate (line : List Text) (files : Files) (grid : Option Grid) (i : InputValues) : Type 0 where
+pub record PlansCertificate (line : List Text) (files : Files) (grid : Option Rounding) (i : InputValues) : Type 0 where
   pub command : CommandWords
   pub asked : command_of line ≡ Some command
   pub verb : command.verb ≡ Plan
@@ -68,7 +68,7 @@ pub record ChecksText (line : List Text) (files : Files) (gap : Bool) (j : Input
 -- files of the check ask for a yes with its score and bound, and a run answers that, or 4, 5 or 9 by their causes
 abbrev pub RunsAreAccepted : Type 0
 RunsAreAccepted =
-    (line line2 : List Text) (files files2 : Files) (grid : Option Grid) (i j : InputValues) (old new old2 new2 : World) (e e2 : Ending)
+    (line line2 : List Text) (files files2 : Files) (grid : Option Rounding) (i j : InputValues) (old new old2 new2 : World) (e e2 : Ending)
     → PlansCertificate line files grid i → Tells old.shelf files → Runs line old e new → status_of e ≡ 0
     → ChecksText line2 files2 (is_some grid) j (text no_choice line files) → Tells old2.shelf files2 → Runs line2 old2 e2 new2
     → ReadAlike i j

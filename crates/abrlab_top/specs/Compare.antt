@@ -8,7 +8,7 @@ use Rattle.lab_model.specs.Steps.{◌>>=◌}
 use Rattle.lab_inputs.specs.Inputs.{InputValues}
 use Rattle.lab_inputs.specs.Settings.{settled}
 use Rattle.abrlab_top.specs.Answer.{Outcome, printed, unless_stopped}
-use Rattle.abrlab_top.specs.Rows.{BenchValue, row_of}
+use Rattle.abrlab_top.specs.Rows.{BenchValue, session_row}
 
 -- the rules of a command line are put side by side on one network
 abbrev pub bench_on : InputValues → List Period → BenchValue
@@ -16,7 +16,7 @@ bench_on i periods = record { film = i.film; periods = periods; setup = i.setup;
 
 -- the line of a network and its rows, by the rules in order
 abbrev pub network_rows : InputValues → Text × List Period → Text
-network_rows i network = fields_line (codes "trace" ∷ network.0 ∷ []) ++ flat_map (row_of (bench_on i network.1)) i.rules
+network_rows i network = fields_line (codes "trace" ∷ network.0 ∷ []) ++ flat_map (session_row (bench_on i network.1)) i.rules
 
 -- what `compare` answers, by its inputs
 unfoldable pub compare : InputValues → Outcome

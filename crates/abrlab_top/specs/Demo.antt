@@ -1,12 +1,12 @@
 -- What `demo` answers: five rules on the made case of a number, its plan, and the verdict on the plan's certificate.
 use Rattle.std.specs.Prelude.{ℕ, ℤ, List, [], ◌∷◌, ◌++◌, None, Ok, codes}
+use Rattle.lab_model.specs.Limits.{all_ahead}
 use Rattle.std.specs.List.{flat_map}
 use Rattle.std.specs.Fmt.{decimal, signed_decimal}
 use Rattle.lab_io.specs.Piece.{fields_line}
 use Rattle.lab_io.specs.Sink.{Text}
 use Rattle.lab_model.specs.declared.trace.Period.{Period}
 use Rattle.lab_model.specs.Rules.{RuleKind, bola, fixed, mpc, throughput}
-use Rattle.player_core.specs.Available.{all_ahead}
 use Rattle.labels.specs.Frontier.{frontier}
 use Rattle.player_core.specs.Scene.{Task, task_of}
 use Rattle.labels.specs.Read.{SpentAt}
@@ -15,7 +15,7 @@ use Rattle.demo_case.specs.Case.{demo_film, demo_periods, demo_setup, demo_task}
 use Rattle.demo_case.specs.Laws.{demo_budget}
 use Rattle.abrlab_top.specs.Answer.{Outcome, printed}
 use Rattle.abrlab_top.specs.Plan.{certificate_on, labels_on}
-use Rattle.abrlab_top.specs.Rows.{BenchValue, row_of}
+use Rattle.abrlab_top.specs.Rows.{BenchValue, session_row}
 
 -- the rules of the demo with their names
 abbrev pub demo_rules : List (Text × RuleKind)
@@ -45,7 +45,7 @@ plan_report g = demo_plan (certificate_on None g).score (labels_on None g) ++ fi
 
 -- the text of the demo of a number
 unfoldable pub demo_text : ℕ → Text
-demo_text n = demo_line n ++ (flat_map (row_of (demo_bench n)) demo_rules ++ plan_report (demo_task n))
+demo_text n = demo_line n ++ (flat_map (session_row (demo_bench n)) demo_rules ++ plan_report (demo_task n))
 
 -- what `demo` answers, by its number
 abbrev pub demo : ℕ → Outcome

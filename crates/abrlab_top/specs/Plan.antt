@@ -12,9 +12,8 @@ use Rattle.lab_model.specs.Steps.{◌>>=◌}
 use Rattle.lab_words.specs.Command.{CommandWords}
 use Rattle.lab_inputs.specs.Inputs.{InputValues}
 use Rattle.lab_inputs.specs.Settings.{settled}
-use Rattle.labels.specs.declared.label.Grid.{Grid}
 use Rattle.labels.specs.Frontier.{frontier}
-use Rattle.labels.specs.Grid.{exact}
+use Rattle.labels.specs.Grid.{Rounding, exact}
 use Rattle.labels.specs.Grown.{grown}
 use Rattle.player_core.specs.Scene.{Task, task_of}
 use Rattle.labels.specs.Parts.{CertificateParts}
@@ -33,12 +32,12 @@ use Rattle.abrlab_top.specs.Answer.{Outcome, printed, unless_stopped}
 
 -- what is asked of `plan`: the grid of a coarse plan, the most labels, and whether the certificate is to be written
 pub record PlanAsked : Type 0 where
-  pub grid : Option Grid
+  pub grid : Option Rounding
   pub budget : ℕ
   pub as_certificate : Bool
 
 -- the grid with these steps, none where there are none
-abbrev pub grid_in : ℕ → ℕ → Option Grid
+abbrev pub grid_in : ℕ → ℕ → Option Rounding
 grid_in time value = if time == 0 then None else Some (record { time = time; value = value })
 
 -- what a command asks of `plan`
@@ -52,39 +51,39 @@ abbrev pub task_on : InputValues → List Period → Task
 task_on i periods = task_of i.film periods i.setup (ahead_of i.live)
 
 -- the steps of the planner's grid: without one nothing is rounded
-abbrev pub steps_of : Option Grid → Grid
+abbrev pub steps_of : Option Rounding → Rounding
 steps_of grid = unwrap_or grid exact
 
 -- the chains that a plan is read off: the frontiers, or on a grid the coarse frontiers
-abbrev pub chains_on : Option Grid → Task → Chains
+abbrev pub chains_on : Option Rounding → Task → Chains
 chains_on None g = frontier g
 chains_on (Some d) g = grown d g
 
 -- the certificate that is read off the chains of a task
-abbrev pub certificate_on : Option Grid → Task → CertificateParts
+abbrev pub certificate_on : Option Rounding → Task → CertificateParts
 certificate_on grid g = certificate_from (steps_of grid) g (chains_on grid g)
 
 -- the greatest end value in them
-abbrev pub bound_on : Option Grid → Task → ℤ
+abbrev pub bound_on : Option Rounding → Task → ℤ
 bound_on grid g = bound_of g (chains_on grid g)
 
 -- the number of labels in them
-abbrev pub labels_on : Option Grid → Task → ℕ
+abbrev pub labels_on : Option Rounding → Task → ℕ
 labels_on grid g = labels_in g (chains_on grid g)
 
 -- the first segment at whose end the labels so far are more than the budget
-unfoldable pub spent_on : Option Grid → Task → ℕ → Option ℕ
+unfoldable pub spent_on : Option Rounding → Task → ℕ → Option ℕ
 spent_on grid g budget = find (λ i. nat_lt budget (labels_before g (chains_on grid g) (suc i))) (rungs_below (segments_of g.film))
 
 -- what planning answers: the plan that is read off the chains, with its bound, or the segment at whose end they spend the budget
-abbrev pub IsPlanned : Option Grid → Task → ℕ → Result CoarsePlan PlanErr → Type 0
+abbrev pub IsPlanned : Option Rounding → Task → ℕ → Result CoarsePlan PlanErr → Type 0
 IsPlanned grid g budget (Ok c) = IsPlanOf (steps_of grid) g (chains_on grid g) budget c.plan c.bound
 IsPlanned grid g budget (Err (planned.BudgetSpent segment)) = SpentAt g (chains_on grid g) budget segment
 IsPlanned grid g budget (Err planned.Memory) = Unit {0}
 
 -- the same of the list alone, without what certifies it
-abbrev pub IsListed : Option Grid → Task → ℕ → Result BoundedList PlanErr → Type 0
-IsListed grid g budget r = ListAnswer (steps_of grid) g (chains_on grid g) budget r
+abbrev pub IsListFound : Option Rounding → Task → ℕ → Result BoundedList PlanErr → Type 0
+IsListFound grid g budget r = ListAnswer (steps_of grid) g (chains_on grid g) budget r
 
 -- ---- texts
 
@@ -105,17 +104,17 @@ coarse_lines score bound labels rungs =
     ++ (bound_line bound ++ (fields_line (codes "labels" ∷ decimal labels ∷ []) ++ fields_line (codes "plan" ∷ map decimal rungs)))
 
 -- the lines of a list with this score, this bound and so many labels
-abbrev pub list_lines : Option Grid → ℤ → ℤ → ℕ → List ℕ → Text
+abbrev pub list_lines : Option Rounding → ℤ → ℤ → ℕ → List ℕ → Text
 list_lines None score bound labels rungs = plan_lines score labels rungs
 list_lines (Some d) score bound labels rungs = coarse_lines score bound labels rungs
 
 -- the text of a certificate with this bound
-abbrev pub certificate_lines : Option Grid → CertificateParts → ℤ → Text
+abbrev pub certificate_lines : Option Rounding → CertificateParts → ℤ → Text
 certificate_lines None p bound = spelling p
 certificate_lines (Some d) p bound = gap_spelling (record { bound = bound; inner = p })
 
 -- the text of a certificate, or of the plan in it, with this bound and so many labels
-abbrev pub parts_text : Option Grid → Bool → CertificateParts → ℤ → ℕ → Text
+abbrev pub parts_text : Option Rounding → Bool → CertificateParts → ℤ → ℕ → Text
 parts_text grid as_certificate p bound labels =
     if as_certificate then certificate_lines grid p bound else list_lines grid p.score bound labels p.plan
 

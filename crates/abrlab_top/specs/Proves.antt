@@ -1,6 +1,8 @@
 -- What the text of each command proves, at the task that words and files give, and THE HEADLINE, which this is for command lines without
 -- an option of further reach.
 use Rattle.std.specs.Prelude.{◌≡◌, ◌≤◌, ◌≤ℤ◌, ◌++◌, ℕ, ℤ, pos, Bool, true, false, List, [], ◌∷◌, length, Option, Some, None, Ok, is_some}
+use Rattle.labels.specs.Grid.{Rounding}
+use Rattle.lab_model.specs.Limits.{all_ahead}
 use Rattle.std.specs.List.{All}
 use Rattle.lab_io.specs.Sink.{Text, Grew}
 use Rattle.lab_model.specs.declared.trace.Period.{Period}
@@ -13,12 +15,10 @@ use Rattle.lab_inputs.specs.Files.{Files}
 use Rattle.lab_inputs.specs.Inputs.{InputValues}
 use Rattle.lab_inputs.specs.Settings.{ready_of}
 use Rattle.lab_inputs.specs.Stages.{Tells}
-use Rattle.player_core.specs.Available.{all_ahead}
 use Rattle.player_core.specs.State.{Case, case_of}
 use Rattle.player_core.specs.Session.{session_of}
 use Rattle.labels.specs.Best.{Settles}
 use Rattle.player_core.specs.Scene.{Task, task_of}
-use Rattle.labels.specs.declared.label.Grid.{Grid}
 use Rattle.labels.specs.Parts.{CertificateParts}
 use Rattle.labels.specs.Valid.{IsValid}
 use Rattle.certificate_check.specs.declared.verdict.Verdict.TheVariants.{Yes}
@@ -39,7 +39,7 @@ use Rattle.abrlab_top.specs.Plan.{grid_in, parts_text, task_on}
 use Rattle.abrlab_top.specs.Players.{joint_on, joint_text, player_line}
 use Rattle.abrlab_top.specs.Regret.{best_on, bests_on, ranked_text, regret_text, scores_over}
 use Rattle.abrlab_top.specs.Runs.{World}
-use Rattle.abrlab_top.specs.Simulate.{case_on}
+use Rattle.abrlab_top.specs.Simulate.{session_case}
 
 -- ---- the three sentences, each at its case or task
 
@@ -57,7 +57,7 @@ pub record IsJointSession (j : JointCase) (text : Text) : Type 0 where
 -- the text is a rung list with its score, and on a grid with its bound, or the list's certificate. The list has that score for its value:
 -- the score of the session in which the millisecond player of the task plays it; no rung list has a value above the bound; the
 -- certificate proves it, and a file may hold its text
-pub record IsBest (g : Task) (grid : Option Grid) (as_certificate : Bool) (text : Text) : Type 0 where
+pub record IsBest (g : Task) (grid : Option Rounding) (as_certificate : Bool) (text : Text) : Type 0 where
   pub best : CertificateParts
   pub labels : ℕ
   pub bound : ℤ
@@ -122,7 +122,7 @@ with_prices c = c.near
 
 -- of `simulate --rule`: the session under the one rule of the words
 abbrev pub Simulates : List Text → World → ℕ → World → Type 0
-Simulates = WhereDone verb.Simulate with_players false (λ c i periods text. (rule : Text × RuleKind) × (i.rules ≡ rule ∷ []) × IsSession (case_on i periods rule.1) text)
+Simulates = WhereDone verb.Simulate with_players false (λ c i periods text. (rule : Text × RuleKind) × (i.rules ≡ rule ∷ []) × IsSession (session_case i periods rule.1) text)
 
 -- of `simulate --players`: the joint session under the rules of the words, in order
 abbrev pub PlaysJointly : List Text → World → ℕ → World → Type 0

@@ -26,14 +26,14 @@ abbrev pub world : Shelved → Seen → Seen → World
 world shelf out err = record { shelf = shelf; out = out; err = err }
 
 -- what the shelf was asked for: all the files that are named, those up to the one that stops the run, some, or none
-abbrev pub Asked : List NamedFile → Ending → Shelved → Shelved → Type 0
-Asked named ending.Done old new = Asks named old new
-Asked named ending.Invalid old new = Asks named old new
-Asked named ending.Usage old new = new ≡ old
-Asked named (ending.Stopped why) old new = AsksFor named why old new
-Asked named (ending.Spent trace segment) old new = Asks named old new
-Asked named ending.OutputFailed old new = Asks named old new
-Asked named ending.NoMemory old new = AsksSome named old new
+abbrev pub HasAsked : List NamedFile → Ending → Shelved → Shelved → Type 0
+HasAsked named ending.Done old new = Asks named old new
+HasAsked named ending.Invalid old new = Asks named old new
+HasAsked named ending.Usage old new = new ≡ old
+HasAsked named (ending.Stopped why) old new = AsksFor named why old new
+HasAsked named (ending.Spent trace segment) old new = Asks named old new
+HasAsked named ending.OutputFailed old new = Asks named old new
+HasAsked named ending.NoMemory old new = AsksSome named old new
 
 -- what is known of `out` whatever the shelf tells: nothing went out where the run stopped; where `out` failed its count rose; and where
 -- memory was wanting nothing went out or the count of wants rose, but for a command that writes between its rows. Refused words alone
@@ -64,7 +64,7 @@ TellsNamed (file ∷ later) shelf files = Tells shelf files
 
 -- why a run over the files that are named, which has this manner and this outcome, ended so
 pub record Ends (named : List NamedFile) (m : Manner) (meant : Files → Outcome) (shelf : Shelved) (out : Seen) (e : Ending) (shelf2 : Shelved) (out2 : Seen) : Type 0 where
-  pub asked : Asked named e shelf shelf2
+  pub asked : HasAsked named e shelf shelf2
   pub leaves : Leaves m e out out2
   pub comes : (files : Files) → TellsNamed named shelf files → ComesTo (meant files) e out out2
 

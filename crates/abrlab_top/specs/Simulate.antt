@@ -14,12 +14,12 @@ use Rattle.abrlab_top.specs.Ahead.{ahead_of}
 use Rattle.abrlab_top.specs.Answer.{Outcome, printed, unless_stopped}
 
 -- the case that a command plays on one network under one rule, on demand or live
-abbrev pub case_on : InputValues → List Period → RuleKind → Case
-case_on i periods rule = case_of i.film periods i.setup i.seeks (ahead_of i.live) rule
+abbrev pub session_case : InputValues → List Period → RuleKind → Case
+session_case i periods rule = case_of i.film periods i.setup i.seeks (ahead_of i.live) rule
 
 -- the text of the session of a network under a rule
 abbrev pub session_on : InputValues → List Period → RuleKind → Text
-session_on i periods rule = session_text (session_of (case_on i periods rule)) i.setup.weights
+session_on i periods rule = session_text (session_of (session_case i periods rule)) i.setup.weights
 
 -- the answer on this network under this rule; a command line of `simulate` names one of each
 abbrev pub simulate_on : InputValues → Option (Text × List Period) → Option (Text × RuleKind) → Outcome

@@ -18,9 +18,9 @@ ghost use Rattle.abrlab_top.specs.Outcome.{about};
 ghost use Rattle.abrlab_top.specs.Runs.{Ends};
 ghost use Rattle.abrlab_top.specs.Stages.{Judges, Writes, bad_line, of_a_check};
 
-use crate::ahead::media_ahead;
 use crate::ending::Ending;
 use crate::request::CheckWords;
+use crate::scene::scene_on;
 use certificate_check::{Verdict, check_lines_from};
 use certificate_text::Lines;
 use lab_inputs::{FileFault, Inputs, Network, Role, Stop, read_inputs};
@@ -80,8 +80,7 @@ fn judge_lines(
     let clock = Clock::new(alloc, &network.trace)?;
     let score = lines.score();
     let bound = lines.bound();
-    let (film, setup) = (inputs.manifest(), inputs.setup());
-    match check_lines_from(film, &clock, setup, media_ahead(inputs), lines, bound) {
+    match check_lines_from(&scene_on(inputs, &clock), lines, bound) {
         Ok(verdict) => Ok(Judgement {
             score,
             bound,

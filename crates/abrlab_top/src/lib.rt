@@ -1,7 +1,6 @@
 //! The whole run of a command line: from its words and files to a status, a text and a note.
 #![tactic(auto)]
 
-mod ahead;
 mod check;
 mod command;
 mod compare;
@@ -16,6 +15,7 @@ mod regret;
 mod request;
 mod row;
 mod rule;
+mod scene;
 mod simulate;
 
 ghost use Rattle.std.specs.Prelude.{◌≡◌, map, string_bytes};

@@ -15,18 +15,17 @@ ghost use Rattle.abrlab_top.specs.Outcome.{about};
 ghost use Rattle.abrlab_top.specs.Runs.{Ends};
 ghost use Rattle.abrlab_top.specs.Stages.{Writes, of_a_price_check};
 
-use crate::ahead::media_ahead;
 use crate::check::bad_line;
 use crate::ending::Ending;
 use crate::plan::put_bound;
 use crate::request::PriceCheckWords;
+use crate::scene::scene_on;
 use certificate_text::{put_plan, put_score};
 use lab_inputs::{FilmWords, Inputs, Role, read_inputs};
 use lab_io::Piece::{Number, Word};
 use lab_io::{PutErr, Shelf, Sink, put_fields};
 use near_best::near_best;
 use network_clock::Clock;
-use player_core::Scene;
 use price_bounds::{PriceCertificate, PriceVerdict, check_prices};
 use price_text::{read_prices, write_prices};
 use std::alloc::Global;
@@ -74,8 +73,7 @@ fn write_near<O: Sink>(
     };
     inputs.fit()?;
     let clock = Clock::new(alloc, &network.trace)?;
-    let (film, setup) = (inputs.manifest(), inputs.setup());
-    let scene = Scene::new(film, &clock, setup, media_ahead(inputs));
+    let scene = scene_on(inputs, &clock);
     let certificate = near_best(alloc, &scene)?;
     Ok(put_near(out, &certificate, as_certificate)?)
 }
@@ -186,8 +184,7 @@ fn write_price_verdict<O: Sink>(alloc: Global, inputs: &Inputs, out: &mut O) -> 
     };
     inputs.fit()?;
     let clock = Clock::new(alloc, &network.trace)?;
-    let (film, setup) = (inputs.manifest(), inputs.setup());
-    let scene = Scene::new(film, &clock, setup, media_ahead(inputs));
+    let scene = scene_on(inputs, &clock);
     let verdict = check_prices(alloc, &scene, &certificate)?;
     put_price_verdict(out, certificate.score, certificate.bound, verdict)?;
     price_end(verdict)

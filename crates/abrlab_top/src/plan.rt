@@ -1,25 +1,23 @@
 //! `plan`: the best rung list that the network allowed, or on a grid one with a bound; or its certificate.
 
-ghost use Rattle.std.specs.Prelude.{◌≡◌, ◌∷◌, [], IfSome, codes, false, true};
+ghost use Rattle.std.specs.Prelude.{◌≡◌, ◌∷◌, [], codes, false, true};
 ghost use Rattle.std.specs.Fmt.{decimal};
 ghost use Rattle.lab_io.specs.Piece.{fields_line};
 ghost use Rattle.lab_io.specs.Sink.{Puts};
-ghost use Rattle.lab_model.specs.Fit.{SetupFits};
 ghost use Rattle.player_core.specs.Scene.{IsTask};
 ghost use Rattle.labels.specs.Parts.{plan_parts};
-ghost use Rattle.labels.specs.Grid.{IsGrid};
 ghost use Rattle.certificate_text.specs.Form.{IsGapCertificate};
 ghost use Rattle.gap_plan.specs.Gap.{plan_gap};
 ghost use Rattle.lab_inputs.specs.Roles.{film_files};
 ghost use Rattle.abrlab_top.specs.Ending.{ended};
 ghost use Rattle.abrlab_top.specs.Outcome.{about};
-ghost use Rattle.abrlab_top.specs.Plan.{IsListed, IsPlanned, bound_line, certificate_lines, coarse_lines, list_lines, plan, plan_lines, planned_on, steps_of, task_on};
+ghost use Rattle.abrlab_top.specs.Plan.{IsListFound, IsPlanned, bound_line, certificate_lines, coarse_lines, list_lines, plan, plan_lines, planned_on, steps_of};
 ghost use Rattle.abrlab_top.specs.Runs.{Ends};
 ghost use Rattle.abrlab_top.specs.Stages.{Writes, at_the_end};
 
-use crate::ahead::media_ahead;
 use crate::ending::Ending;
 use crate::request::PlanOptions;
+use crate::scene::scene_on;
 use certificate_text::{put_plan, put_score, write_certificate};
 use frontier_planner::{BoundedList, CoarsePlan, Grid, PlanErr, list_from, plan_from};
 use gap_plan::write_gap;
@@ -28,20 +26,16 @@ use lab_io::Piece::{Number, Word};
 use lab_io::{PutErr, Shelf, Sink, put_fields};
 use lab_model::Manifest;
 use network_clock::Clock;
+use player_core::Scene;
 use std::alloc::Global;
-
-/// The grid on which nothing changes.
-const EXACT: Grid = Grid { time: 1, value: 1 };
 
 /// The steps of the planner's grid: without one nothing is rounded.
 fn steps_of(grid: Option<Grid>) -> Grid
-    requires { IfSome grid IsGrid }
-    ensures value { result ≡ steps_of grid }
-    ensures within { IsGrid result }
+    ensures { result ≡ steps_of grid }
 {
     match grid {
         Some(grid) => grid,
-        None => EXACT,
+        None => Grid::exact(),
     }
 }
 
@@ -111,71 +105,58 @@ fn put_certificate<O: Sink>(
     }
 }
 
-/// The list of a plan on a network, without what certifies it.
+/// The list of a plan on a scene, without what certifies it.
 pub(crate) fn list_on(
     alloc: Global,
-    inputs: &Inputs,
-    clock: &Clock,
+    scene: &Scene<'_>,
     options: PlanOptions,
 ) -> Result<BoundedList, PlanErr>
-    requires fits { SetupFits inputs.now.setup inputs.now.film }
-    ensures answer { IsListed options.grid (task_on inputs.now clock.now)
-        options.budget result }
-    ensures task { IsTask (task_on inputs.now clock.now) }
+    ensures answer { IsListFound options.grid scene.now options.budget result }
+    ensures task { IsTask scene.now }
 {
-    let (film, setup) = (inputs.manifest(), inputs.setup());
-    prove!(film.segments() > 0 && setup.weights.count() > 0 && !clock.periods().is_empty());
-    let (ahead, steps) = (media_ahead(inputs), steps_of(options.grid()));
-    list_from(alloc, film, clock, setup, ahead, steps, options.budget())
+    prove!(scene.film().segments() > 0);
+    list_from(alloc, scene, steps_of(options.grid()), options.budget())
 }
 
-/// The plan on a network.
+/// The plan on a scene.
 fn plan_on(
     alloc: Global,
-    inputs: &Inputs,
-    clock: &Clock,
+    scene: &Scene<'_>,
     options: PlanOptions,
 ) -> Result<CoarsePlan, PlanErr>
-    requires fits { SetupFits inputs.now.setup inputs.now.film }
-    ensures { IsPlanned options.grid (task_on inputs.now clock.now) options.budget result }
+    ensures { IsPlanned options.grid scene.now options.budget result }
 {
-    let (film, setup) = (inputs.manifest(), inputs.setup());
-    let (ahead, steps) = (media_ahead(inputs), steps_of(options.grid()));
-    plan_from(alloc, film, clock, setup, ahead, steps, options.budget())
+    plan_from(alloc, scene, steps_of(options.grid()), options.budget())
 }
 
-/// Plans on a network and writes the list.
+/// Plans on a scene and writes the list.
 fn write_list<O: Sink>(
     alloc: Global,
-    inputs: &Inputs,
-    clock: &Clock,
+    scene: &Scene<'_>,
     options: PlanOptions,
     out: &mut O,
 ) -> Result<(), Ending>
-    requires fits { SetupFits inputs.now.setup inputs.now.film }
     requires list { options.as_certificate ≡ false }
-    ensures { Writes at_the_end (planned_on options (task_on inputs.now clock.now))
+    ensures { Writes at_the_end (planned_on options scene.now)
         (O.seen out.old) (ended result) (O.seen out.new) }
 {
-    let list = list_on(alloc, inputs, clock, options)?;
+    let list = list_on(alloc, scene, options)?;
     Ok(put_list(out, options.grid(), &list)?)
 }
 
-/// Plans on a network and writes the certificate.
+/// Plans on a scene and writes the certificate.
 fn write_proof<O: Sink>(
     alloc: Global,
-    inputs: &Inputs,
-    clock: &Clock,
+    scene: &Scene<'_>,
     options: PlanOptions,
     out: &mut O,
 ) -> Result<(), Ending>
-    requires fits { SetupFits inputs.now.setup inputs.now.film }
     requires certificate { options.as_certificate ≡ true }
-    ensures { Writes at_the_end (planned_on options (task_on inputs.now clock.now))
+    ensures { Writes at_the_end (planned_on options scene.now)
         (O.seen out.old) (ended result) (O.seen out.new) }
 {
-    let planned = plan_on(alloc, inputs, clock, options)?;
-    Ok(put_certificate(out, inputs.manifest(), options.grid(), &planned)?)
+    let planned = plan_on(alloc, scene, options)?;
+    Ok(put_certificate(out, scene.film(), options.grid(), &planned)?)
 }
 
 /// Plans and writes the plan, or its certificate.
@@ -193,10 +174,11 @@ fn write_plan<O: Sink>(
     };
     inputs.fit()?;
     let clock = Clock::new(alloc, &network.trace)?;
+    let scene = scene_on(inputs, &clock);
     if options.as_certificate() {
-        write_proof(alloc, inputs, &clock, options, out)
+        write_proof(alloc, &scene, options, out)
     } else {
-        write_list(alloc, inputs, &clock, options, out)
+        write_list(alloc, &scene, options, out)
     }
 }
 

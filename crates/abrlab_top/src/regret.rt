@@ -21,20 +21,20 @@ ghost use Rattle.abrlab_top.specs.Chosen.{EndsWithBounds, WritesBounds};
 ghost use Rattle.abrlab_top.specs.Runs.{Ends};
 ghost use Rattle.abrlab_top.specs.Stages.{Writes, at_the_end};
 
-use crate::ahead::media_ahead;
 use crate::ending::Ending;
 use crate::plan::list_on;
 use crate::request::{PlanOptions, RegretWords};
 use crate::rule::any_rule;
+use crate::scene::scene_on;
 use frontier_planner::PlanErr;
 use lab_inputs::{Inputs, Network, read_inputs};
 use lab_io::Piece::Word;
 use lab_io::{PutErr, Shelf, Sink, put_fields};
-use lab_model::NoMemory;
+use lab_model::{Budget, NoMemory};
 use lab_words::NamedRule;
 use near_best::near_best;
 use network_clock::Clock;
-use player_core::{Scene, play_from};
+use player_core::play_from;
 use quality_score::score;
 use session_report::{Top, Total};
 use std::alloc::Global;
@@ -54,27 +54,24 @@ struct Scored {
 #[derive(Drop)]
 struct Ranking<'a> {
     inputs: &'a Inputs,
-    /// The most labels, 1 to 1000000.
-    budget: Option<u32>,
+    /// The most labels of each plan.
+    budget: Option<Budget>,
 }
 
 impl<'a> Model for Ranking<'a> {
-    ghost use Rattle.std.specs.Prelude.{IfSome};
-    ghost use Rattle.lab_model.specs.Film.{IsWithin};
     ghost use Rattle.abrlab_top.specs.Regret.{CanRank, RankingValue};
 
     ghost Value = { RankingValue };
 
     ghost view = { λ r. record { inputs = r.inputs.now; budget = r.budget } };
 
-    ghost invariant = { λ r. CanRank r.inputs.now × IfSome r.budget (IsWithin 1 1000000) };
+    ghost invariant = { λ r. CanRank r.inputs.now };
 }
 
 impl<'a> Ranking<'a> {
     /// A ranking by these.
-    fn new(inputs: &'a Inputs, budget: Option<u32>) -> Ranking<'a>
-        requires can { CanRank inputs.now }
-        requires budget { IfSome budget (IsWithin 1 1000000) }
+    fn new(inputs: &'a Inputs, budget: Option<Budget>) -> Ranking<'a>
+        requires { CanRank inputs.now }
         ensures { result ≡ record { inputs = inputs.entry.now; budget = budget } }
     {
         Ranking { inputs, budget }
@@ -89,9 +86,8 @@ impl<'a> Ranking<'a> {
     }
 
     /// The most labels of the plan of each network, if rules are ranked by plans.
-    fn budget(&self) -> Option<u32>
-        ensures value { result ≡ self.now.budget }
-        ensures within { IfSome result (IsWithin 1 1000000) }
+    fn budget(&self) -> Option<Budget>
+        ensures { result ≡ self.now.budget }
     {
         self.budget
     }
@@ -104,14 +100,13 @@ impl<'a> Ranking<'a> {
             ≡ score_on self.now.inputs clock.now (spoken rule.now.rule)) }
     {
         let inputs = self.inputs();
-        let (film, setup) = (inputs.manifest(), inputs.setup());
         let played = any_rule(alloc, &rule.rule)?;
-        let session = play_from(alloc, film, clock, setup, &[], media_ahead(inputs), played)?;
+        let session = play_from(alloc, &scene_on(inputs, clock), &[], played)?;
         Ok(score(
             &session.played,
             session.stall_ms,
             session.startup_ms,
-            &setup.weights,
+            &inputs.setup().weights,
         ))
     }
 
@@ -134,10 +129,9 @@ impl<'a> Ranking<'a> {
         &self,
         alloc: Global,
         clock: &Clock,
-        budget: u32,
+        budget: Budget,
         place: usize,
     ) -> Result<i128, Ending>
-        requires budget { IsWithin 1 1000000 budget }
         ensures best { Unspent
             (spent_there self.now.inputs (Some budget) place clock.now)
             (λ best. best ≡ best_on self.now.inputs clock.now) result }
@@ -145,7 +139,7 @@ impl<'a> Ranking<'a> {
         ensures can { CanRank self.now.inputs }
     {
         let inputs = self.inputs();
-        match list_on(alloc, inputs, clock, PlanOptions::exact(budget)) {
+        match list_on(alloc, &scene_on(inputs, clock), PlanOptions::exact(budget)) {
             Ok(list) => Ok(list.score),
             Err(PlanErr::BudgetSpent { segment }) => Err(Ending::Spent {
                 trace: Some(place),
@@ -162,9 +156,7 @@ impl<'a> Ranking<'a> {
         ensures can { CanRank self.now.inputs }
     {
         let inputs = self.inputs();
-        let (film, setup) = (inputs.manifest(), inputs.setup());
-        let scene = Scene::new(film, clock, setup, media_ahead(inputs));
-        Ok(near_best(alloc, &scene)?.bound)
+        Ok(near_best(alloc, &scene_on(inputs, clock))?.bound)
     }
 
     /// What scores on the network of a place, counted from 1, are compared with.
@@ -321,9 +313,12 @@ fn put_regrets<O: Sink>(
 }
 
 /// Plays and plans everything, where the settings fit.
-fn score_all(alloc: Global, inputs: &Inputs, budget: Option<u32>) -> Result<Vec<Scored>, Ending>
-    requires can { CanRank inputs.now }
-    requires budget { IfSome budget (IsWithin 1 1000000) }
+fn score_all(
+    alloc: Global,
+    inputs: &Inputs,
+    budget: Option<Budget>,
+) -> Result<Vec<Scored>, Ending>
+    requires { CanRank inputs.now }
     ensures { Unspent (first_spent inputs.now budget 1 inputs.now.networks)
         (λ table. AreCompared inputs.now budget table.items) result }
 {
@@ -334,11 +329,10 @@ fn score_all(alloc: Global, inputs: &Inputs, budget: Option<u32>) -> Result<Vec<
 fn write_regrets<O: Sink>(
     alloc: Global,
     inputs: &Inputs,
-    budget: u32,
+    budget: Budget,
     out: &mut O,
 ) -> Result<(), Ending>
-    requires calm { inputs.now.setup.abandon ≡ false }
-    requires budget { IsWithin 1 1000000 budget }
+    requires { inputs.now.setup.abandon ≡ false }
     ensures { Writes at_the_end (regret budget inputs.now)
         (O.seen out.old) (ended result) (O.seen out.new) }
 {

@@ -1,15 +1,16 @@
 //! What a command line asks for, by its command.
 
-ghost use Rattle.std.specs.Prelude.{◌≡◌, IfSome, IsSome, None, false, length, true};
+ghost use Rattle.std.specs.Prelude.{◌≡◌, IsSome, None, false, length, true};
 ghost use Rattle.lab_model.specs.Film.{IsWithin};
 ghost use Rattle.lab_words.specs.Command.{view};
-ghost use Rattle.lab_words.specs.Limits.{IsWithinLimits};
-ghost use Rattle.labels.specs.Grid.{IsGrid};
+ghost use Rattle.lab_model.specs.Limits.{most_budget};
+ghost use Rattle.lab_words.specs.Limits.{AreGridWords, IsWithinLimits};
 ghost use Rattle.abrlab_top.specs.Plan.{grid_in};
 ghost use Rattle.abrlab_top.specs.Request.{IsRequest};
 
 use frontier_planner::Grid;
 use lab_inputs::FilmWords;
+use lab_model::Budget;
 use lab_words::{Command, Verb};
 use std::marker::Model;
 
@@ -17,14 +18,11 @@ use std::marker::Model;
 #[derive(Clone, Copy)]
 pub(crate) struct PlanOptions {
     grid: Option<Grid>,
-    budget: u32,
+    budget: Budget,
     as_certificate: bool,
 }
 
 impl Model for PlanOptions {
-    ghost use Rattle.std.specs.Prelude.{IfSome};
-    ghost use Rattle.lab_model.specs.Film.{IsWithin};
-    ghost use Rattle.labels.specs.Grid.{IsGrid};
     ghost use Rattle.abrlab_top.specs.Plan.{PlanAsked};
 
     ghost Value = { PlanAsked };
@@ -34,14 +32,11 @@ impl Model for PlanOptions {
 
     ghost inverse = { λ o.
         record { grid = o.grid; budget = o.budget; as_certificate = o.as_certificate } };
-
-    ghost invariant = { λ o. IfSome o.grid IsGrid × IsWithin 1 1000000 o.budget };
 }
 
 impl PlanOptions {
     /// A plan without a grid, of so many labels at most.
-    pub fn exact(budget: u32) -> PlanOptions
-        requires { IsWithin 1 1000000 budget }
+    pub fn exact(budget: Budget) -> PlanOptions
         ensures { result ≡ record { grid = None; budget = budget; as_certificate = false } }
     {
         PlanOptions {
@@ -53,16 +48,14 @@ impl PlanOptions {
 
     /// The grid of a coarse plan, none where nothing is rounded.
     pub fn grid(&self) -> Option<Grid>
-        ensures value { result ≡ self.now.grid }
-        ensures within { IfSome result IsGrid }
+        ensures { result ≡ self.now.grid }
     {
         self.grid
     }
 
-    /// The most labels, 1 to 1000000.
-    pub fn budget(&self) -> u32
-        ensures value { result ≡ self.now.budget }
-        ensures within { IsWithin 1 1000000 result }
+    /// The most labels.
+    pub fn budget(&self) -> Budget
+        ensures { result ≡ self.now.budget }
     {
         self.budget
     }
@@ -108,7 +101,7 @@ impl PlayersWords {
 #[derive(Drop)]
 pub(crate) struct RegretWords {
     words: FilmWords,
-    budget: u32,
+    budget: Budget,
 }
 
 impl Model for RegretWords {
@@ -120,16 +113,13 @@ impl Model for RegretWords {
 
     ghost view = { λ w. w.words };
 
-    ghost invariant = { λ w. (w.words.abandon ≡ false)
-        × (w.budget ≡ w.words.budget)
-        × IsWithin 1 1000000 w.budget };
+    ghost invariant = { λ w. (w.words.abandon ≡ false) × (w.budget ≡ w.words.budget) };
 }
 
 impl RegretWords {
-    /// The most labels of the plan of each network, 1 to 1000000.
-    pub fn budget(&self) -> u32
-        ensures value { result ≡ self.now.budget }
-        ensures within { IsWithin 1 1000000 result }
+    /// The most labels of the plan of each network.
+    pub fn budget(&self) -> Budget
+        ensures { result ≡ self.now.budget }
     {
         self.budget
     }
@@ -240,12 +230,20 @@ pub(crate) enum Request {
 
 /// The grid with these steps, none where there are none.
 fn grid_in(time: u32, value: u32) -> Option<Grid>
+    requires { AreGridWords time value }
     ensures { result ≡ grid_in time value }
 {
-    if time == 0 {
-        None
-    } else {
-        Some(Grid { time, value })
+    Grid::new(time, value)
+}
+
+/// The budget of so many labels.
+fn budget_of(labels: u32) -> Budget
+    requires { IsWithin 1 most_budget labels }
+    ensures { result ≡ labels }
+{
+    match Budget::new(labels) {
+        Some(budget) => budget,
+        None => unreachable!(),
     }
 }
 
@@ -257,7 +255,7 @@ impl Request {
         requires regret { command.regret ≡ true }
         ensures { IsRequest (view command) result }
     {
-        let (budget, near) = (command.budget, command.near);
+        let (budget, near) = (budget_of(command.budget), command.near);
         let words = FilmWords::of(command);
         let words = RegretWords { words, budget };
         if near {
@@ -283,7 +281,7 @@ impl Request {
         }
         let options = PlanOptions {
             grid: grid_in(command.coarse_time, command.coarse_value),
-            budget: command.budget,
+            budget: budget_of(command.budget),
             as_certificate,
         };
         Request::Plan(FilmWords::of(command), options)

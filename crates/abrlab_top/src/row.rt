@@ -9,7 +9,7 @@ ghost use Rattle.lab_model.specs.Seeks.{SeeksFit};
 ghost use Rattle.lab_words.specs.Command.{named};
 ghost use Rattle.lab_words.specs.Limits.{IsRuleWithin};
 ghost use Rattle.lab_words.specs.Rules.{spoken};
-ghost use Rattle.abrlab_top.specs.Rows.{BenchValue, row_of};
+ghost use Rattle.abrlab_top.specs.Rows.{BenchValue, session_row};
 ghost use Rattle.abrlab_top.specs.Stages.{WritesRows};
 
 use crate::rule::any_rule;
@@ -71,7 +71,7 @@ impl<'a> Bench<'a> {
         requires within { IsRuleWithin (spoken rule.now.rule) }
         requires fits { KindFits (spoken rule.now.rule) self.now.film }
         ensures { WritesRows (O.seen out.old)
-            (row_of self.now (named rule.now)) result (O.seen out.new) }
+            (session_row self.now (named rule.now)) result (O.seen out.new) }
     {
         let Ok(played) = any_rule(alloc, &rule.rule) else {
             return Err(PutErr::Memory);
@@ -92,7 +92,7 @@ impl<'a> Bench<'a> {
         requires within { All (λ rule. IsRuleWithin (spoken rule.rule)) rules.now }
         requires fits { All (λ rule. KindFits (spoken rule.rule) self.now.film) rules.now }
         ensures { WritesRows (O.seen out.old)
-            (flat_map (row_of self.now) (map named rules.now))
+            (flat_map (session_row self.now) (map named rules.now))
             result (O.seen out.new) }
     {
         for rule in rules {

@@ -7,9 +7,9 @@ ghost use Rattle.abrlab_top.specs.Runs.{Ends};
 ghost use Rattle.abrlab_top.specs.Simulate.{simulate};
 ghost use Rattle.abrlab_top.specs.Stages.{Writes, at_the_end};
 
-use crate::ahead::media_ahead;
 use crate::ending::Ending;
 use crate::rule::any_rule;
+use crate::scene::scene_on;
 use lab_inputs::{FilmWords, Inputs, read_inputs};
 use lab_io::{Shelf, Sink};
 use network_clock::Clock;
@@ -31,15 +31,8 @@ fn write_simulation<O: Sink>(alloc: Global, inputs: &Inputs, out: &mut O) -> Res
     inputs.fit()?;
     let clock = Clock::new(alloc, &network.trace)?;
     let rule = any_rule(alloc, &rule.rule)?;
-    let session = play_from(
-        alloc,
-        inputs.manifest(),
-        &clock,
-        inputs.setup(),
-        inputs.seeks(),
-        media_ahead(inputs),
-        rule,
-    )?;
+    let scene = scene_on(inputs, &clock);
+    let session = play_from(alloc, &scene, inputs.seeks(), rule)?;
     Ok(write_session(&session, &inputs.setup().weights, out)?)
 }
 

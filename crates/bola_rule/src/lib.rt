@@ -3,8 +3,7 @@
 
 ghost use Rattle.std.specs.Prelude.{◌≡◌, ◌-◌, ◌<◌, ◌≤◌, ◌^◌, IfNone, IfSome, ℤ, pos, ◌≤ℤ◌, ◌-ℤ◌};
 ghost use Rattle.lab_model.specs.Bola.{bola_at_most, bola_choice, bola_gain};
-ghost use Rattle.lab_model.specs.Film.{IsWithin, rungs_of, segments_of};
-ghost use Rattle.lab_model.specs.Fit.{SetupFits};
+ghost use Rattle.lab_model.specs.Film.{IsWithin, rungs_of};
 ghost use Rattle.lab_model.specs.Number.{IsNear};
 ghost use Rattle.lab_model.specs.Rules.{bola};
 
@@ -45,16 +44,38 @@ impl Bola {
         }
         Some(Bola { g })
     }
+}
 
+/// What the rule is asked: its `g`, and what the next rung is chosen from.
+#[derive(Drop)]
+struct Ask<'a> {
+    g: u32,
+    film: &'a Manifest,
+    setup: &'a Setup,
+    context: &'a Context,
+}
+
+impl<'a> Model for Ask<'a> {
+    ghost use Rattle.bola_rule.specs.Asked.{Asked, IsAsked};
+
+    ghost Value = { Asked };
+
+    ghost view = { λ a.
+        record { g = a.g; film = a.film.now; setup = a.setup.now; context = a.context.now } };
+
+    ghost invariant = { λ a.
+        IsAsked (record { g = a.g; film = a.film.now; setup = a.setup.now; context = a.context.now }) };
+}
+
+impl Ask<'_> {
     /// The numerator of a rung's score, whose divisor is its bitrate.
-    fn gain(&self, m: &Manifest, set: &Setup, c: &Context, rung: u8) -> i128
-        requires setup { SetupFits set.now m.now }
-        requires segment { c.now.next < segments_of m.now }
-        requires level { c.now.level ≤ set.now.buffer_ms - m.now.seg_ms }
-        requires rung { rung < rungs_of m.now }
-        ensures value { result ≡ bola_gain self.now m.now set.now c.now rung }
+    fn gain(&self, rung: u8) -> i128
+        requires rung { rung < rungs_of self.now.film }
+        ensures value { result ≡
+            bola_gain self.now.g self.now.film self.now.setup self.now.context rung }
         ensures near { IsNear (10 ^ 25) result }
     {
+        let (m, set, c) = (self.film, self.setup, self.context);
         let room = set.buffer_ms - m.seg_ms();
         let utility = set.weights.utility(c.next, rung) + self.g;
         let greatest = set.weights.utility(c.next, m.rungs() - 1) + self.g;
@@ -64,32 +85,28 @@ impl Bola {
     }
 
     /// Whether the score of `other` is at most that of `rung`.
-    fn is_at_most(&self, m: &Manifest, set: &Setup, c: &Context, other: u8, rung: u8) -> bool
-        requires setup { SetupFits set.now m.now }
-        requires segment { c.now.next < segments_of m.now }
-        requires level { c.now.level ≤ set.now.buffer_ms - m.now.seg_ms }
-        requires other { other < rungs_of m.now }
-        requires rung { rung < rungs_of m.now }
-        ensures { result ≡ bola_at_most self.now m.now set.now c.now other rung }
+    fn is_at_most(&self, other: u8, rung: u8) -> bool
+        requires other { other < rungs_of self.now.film }
+        requires rung { rung < rungs_of self.now.film }
+        ensures { result ≡
+            bola_at_most self.now.g self.now.film self.now.setup self.now.context other rung }
     {
-        let gain = self.gain(m, set, c, rung);
-        let other_gain = self.gain(m, set, c, other);
-        let divisor = m.bitrate(rung) as u64;
-        let other_divisor = m.bitrate(other) as u64;
+        let gain = self.gain(rung);
+        let other_gain = self.gain(other);
+        let divisor = self.film.bitrate(rung) as u64;
+        let other_divisor = self.film.bitrate(other) as u64;
         cmp_fraction(other_gain, other_divisor, gain, divisor).is_le()
     }
 
     /// The least rung whose score no other exceeds.
-    fn best(&self, m: &Manifest, set: &Setup, c: &Context) -> u8
-        requires setup { SetupFits set.now m.now }
-        requires segment { c.now.next < segments_of m.now }
-        requires level { c.now.level ≤ set.now.buffer_ms - m.now.seg_ms }
-        ensures choice { result ≡ bola_choice self.now m.now set.now c.now }
-        ensures rung { result < rungs_of m.now }
+    fn best(&self) -> u8
+        ensures choice { result ≡
+            bola_choice self.now.g self.now.film self.now.setup self.now.context }
+        ensures rung { result < rungs_of self.now.film }
     {
         let mut best = 0;
-        for rung in 1..m.rungs() {
-            if !self.is_at_most(m, set, c, rung, best) {
+        for rung in 1..self.film.rungs() {
+            if !self.is_at_most(rung, best) {
                 best = rung;
             }
         }
@@ -112,6 +129,12 @@ impl Rule for Bola {
     }
 
     fn choose(&self, m: &Manifest, set: &Setup, c: &Context) -> u8 {
-        self.best(m, set, c)
+        let ask = Ask {
+            g: self.g,
+            film: m,
+            setup: set,
+            context: c,
+        };
+        ask.best()
     }
 }

@@ -1,7 +1,6 @@
 pub mod Scheme
 pub mod Layers
 pub mod InRange
-pub mod PlanLabels
 pub mod Verdicts
 pub mod Progress
 pub mod Slices

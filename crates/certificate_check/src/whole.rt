@@ -1,8 +1,8 @@
 //! The checks of whole certificates.
 
 ghost use Rattle.std.specs.Prelude.{◌≡◌, ◌↔◌, ◌<◌, ◌≤◌};
+ghost use Rattle.lab_model.specs.Limits.{all_ahead};
 ghost use Rattle.lab_model.specs.Fit.{SetupFits};
-ghost use Rattle.player_core.specs.Available.{all_ahead};
 ghost use Rattle.player_core.specs.Scene.{task_of};
 ghost use Rattle.labels.specs.Best.{Settles};
 ghost use Rattle.labels.specs.Valid.{IsValid};
@@ -12,13 +12,13 @@ ghost use Rattle.certificate_text.specs.Form.{certificate_parts};
 ghost use Rattle.certificate_check.specs.Layers.{IsLayer, IsLayerOf};
 ghost use Rattle.certificate_check.specs.Verdict.{verdict_of};
 
-use crate::checker::Checker;
+use crate::checker::{final_verdict, found_first, found_more, head_verdict};
 use crate::verdict::Verdict;
 use certificate_text::Certificate;
 use lab_model::{Manifest, Setup};
 use labels::Chain;
 use network_clock::Clock;
-use player_core::limits::ALL_AHEAD_MS;
+use player_core::Scene;
 
 /// The chains of a segment, by rung.
 fn layer(cert: &Certificate, segment: u16) -> &[Chain]
@@ -32,20 +32,21 @@ fn layer(cert: &Certificate, segment: u16) -> &[Chain]
     &cert.chains[start..start + rungs]
 }
 
-/// The verdict of this checker on a certificate, with this bound in V5.
-fn verdict_on(checker: &Checker<'_>, cert: &Certificate, bound: i128) -> Verdict
+/// The verdict in a scene on a certificate, with this bound in V5.
+fn verdict_on(scene: &Scene<'_>, cert: &Certificate, bound: i128) -> Verdict
     requires { IsCertificate (certificate_parts cert.now) }
-    ensures { result ≡ verdict_of checker.now (certificate_parts cert.now) bound }
+    ensures { result ≡ verdict_of scene.now (certificate_parts cert.now) bound }
 {
-    let head = checker.head_verdict(cert.table, cert.segments, cert.rungs, &cert.plan);
+    let head = head_verdict(scene, cert.table, cert.segments, cert.rungs, &cert.plan);
     let last = cert.segments - 1;
-    let mut found = checker.found_first(head, &cert.starts, layer(cert, 0));
+    let mut found = found_first(scene, head, &cert.starts, layer(cert, 0));
     for segment in 0..last {
         let here = layer(cert, segment);
         let next = layer(cert, segment + 1);
-        found = checker.found_more(found, segment, here, next);
+        found = found_more(scene, found, segment, here, next);
     }
-    checker.verdict(
+    final_verdict(
+        scene,
         found,
         last,
         layer(cert, last),
@@ -55,32 +56,20 @@ fn verdict_on(checker: &Checker<'_>, cert: &Certificate, bound: i128) -> Verdict
     )
 }
 
-/// The verdict on a certificate, with this bound in V5, where `ahead` milliseconds of media, at most 120000000, are
-/// there at instant 0: yes exactly where it is valid, else the first failing clause with the first place where it
-/// fails.
+/// The verdict on a certificate in a scene, with this bound in V5: yes exactly where it is valid, else the first
+/// failing clause with the first place where it fails.
 ///
 /// A yes means that the certificate's rung list has its score, and that no rung list has a value above the bound,
 /// whoever made the certificate. It takes no memory.
-pub fn check_from(
-    film: &Manifest,
-    clock: &Clock,
-    setup: &Setup,
-    ahead: u32,
-    cert: &Certificate,
-    bound: i128,
-) -> Verdict
-    requires setup { SetupFits setup.now film.now }
-    requires ahead { ahead ≤ 120000000 }
+pub fn check_from(scene: &Scene<'_>, cert: &Certificate, bound: i128) -> Verdict
     requires form { IsCertificate (certificate_parts cert.now) }
-    ensures verdict { result ≡
-        verdict_of (task_of film.now clock.now setup.now ahead) (certificate_parts cert.now) bound }
-    ensures valid { (result ≡ Yes) ↔
-        IsValid (task_of film.now clock.now setup.now ahead) (certificate_parts cert.now) bound }
+    ensures verdict { result ≡ verdict_of scene.now (certificate_parts cert.now) bound }
+    ensures valid { (result ≡ Yes) ↔ IsValid scene.now (certificate_parts cert.now) bound }
     ensures sound { result ≡ Yes →
-        Settles (task_of film.now clock.now setup.now ahead) cert.now.plan.items cert.now.score bound }
+        Settles scene.now cert.now.plan.items cert.now.score bound }
 {
-    let checker = Checker::new(film, clock, setup, ahead);
-    verdict_on(&checker, cert, bound)
+    prove!(scene.film().segments() > 0);
+    verdict_on(scene, cert, bound)
 }
 
 /// The verdict for a film on demand: see `check_from`.
@@ -100,7 +89,7 @@ pub fn check_bound(
     ensures sound { result ≡ Yes → Settles (task_of film.now clock.now setup.now all_ahead)
         cert.now.plan.items cert.now.score bound }
 {
-    check_from(film, clock, setup, ALL_AHEAD_MS, cert, bound)
+    check_from(&Scene::on_demand(film, clock, setup), cert, bound)
 }
 
 /// The verdict for a film on demand, with the certificate's own score as the bound. A yes means that its rung list

@@ -7,7 +7,7 @@ use Rattle.std.proofs.lemmas.Bool.{and_parts, cases_lt}
 use Rattle.std.proofs.lemmas.Bool.Decides.{nat_tests}
 use Rattle.std.proofs.lemmas.Int.Digits.{digits_value_more}
 use Rattle.csv_records.specs.declared.number.Fault.TheVariants as fault
-use Rattle.csv_records.specs.Field.{are_digits, in_range, is_in_thousandths, spelling_fault, thousandths, thousandths_of, whole_number}
+use Rattle.csv_records.specs.Field.{are_digits, csv_number_within, is_in_thousandths, spelling_fault, thousandths, thousandths_of, whole_number}
 
 is_digit : (c : ℕ) → is_ascii_digit c ≡ true → (48 ≤ c) × (c ≤ 57)
 is_digit c h = (grind (arith, nat_tests, h), grind (arith, nat_tests, h))
@@ -34,25 +34,25 @@ more_digits ds i value tens next all lt v t n =
     rw (digits_value_more 10 ds i lt, e, n, t, v) (omega arith)
 
 -- a range that ends below the greatest `u64` takes no number for another
-pub capped : (least most n : ℕ) → most < 2 ^ 64 - 1 → in_range least most (min n (2 ^ 64 - 1)) ≡ in_range least most n
+pub capped : (least most n : ℕ) → most < 2 ^ 64 - 1 → csv_number_within least most (min n (2 ^ 64 - 1)) ≡ csv_number_within least most n
 capped least most n h = elim (cases_lt n (2 ^ 64 - 1)) [
-  | inl lt ↦ let e : min n (2 ^ 64 - 1) ≡ n = omega arith in ap (in_range least most) e
+  | inl lt ↦ let e : min n (2 ^ 64 - 1) ≡ n = omega arith in ap (csv_number_within least most) e
   | inr ge ↦
       let e : min n (2 ^ 64 - 1) ≡ 2 ^ 64 - 1 = omega arith in
-      ap (in_range least most) e ∙ above (2 ^ 64 - 1) h ∙ sym (above n (omega arith))
+      ap (csv_number_within least most) e ∙ above (2 ^ 64 - 1) h ∙ sym (above n (omega arith))
 ]
   where
     none : (a b : Bool) (m : ℕ) → b ≡ false → cond (a && b) (Ok m) (Err fault.OutOfRange) ≡ Err fault.OutOfRange
     none true b m e = rw e refl
     none false b m e = refl
 
-    above : (m : ℕ) → most < m → in_range least most m ≡ Err fault.OutOfRange
+    above : (m : ℕ) → most < m → csv_number_within least most m ≡ Err fault.OutOfRange
     above m lt = none (nat_le least m) (nat_le m most) m (grind (arith, nat_tests))
 
 -- for digits, their value, cut off at 2 ^ 64 - 1, passes or fails the range as the whole number does
-pub whole-read : (least most : ℕ) (field : List ℕ) (n : ℕ) → most < 2 ^ 32 → are_digits field ≡ true → n ≡ min (digits_value 10 field) (2 ^ 64 - 1) → in_range least most n ≡ whole_number least most field
+pub whole-read : (least most : ℕ) (field : List ℕ) (n : ℕ) → most < 2 ^ 32 → are_digits field ≡ true → n ≡ min (digits_value 10 field) (2 ^ 64 - 1) → csv_number_within least most n ≡ whole_number least most field
 unfolding whole_number
-whole-read least most field n h d e = ap (in_range least most) e ∙ capped least most (digits_value 10 field) (omega arith) ∙ rw d refl
+whole-read least most field n h d e = ap (csv_number_within least most) e ∙ capped least most (digits_value 10 field) (omega arith) ∙ rw d refl
 
 -- a field that isn't all digits is refused as a whole number for how it is spelled
 pub whole-other : (least most : ℕ) (field : List ℕ) → are_digits field ≡ false → Err (spelling_fault field) ≡ whole_number least most field
@@ -61,18 +61,18 @@ whole-other least most field d = rw d refl
 
 -- for digits, a thousand times their value, cut off at 2 ^ 64 - 1, passes or fails the range as the field does
 pub thousandths-whole : (least most : ℕ) (field : List ℕ) (n value : ℕ) → most < 2 ^ 32 → are_digits field ≡ true → value ≡ min (digits_value 10 field) (2 ^ 64 - 1) → n ≡ min (value * 1000) (2 ^ 64 - 1)
-    → in_range (1000 * least) (1000 * most) n ≡ thousandths least most field
+    → csv_number_within (1000 * least) (1000 * most) n ≡ thousandths least most field
 unfolding thousandths
 thousandths-whole least most field n value h d v e =
     let m : n ≡ min (1000 * digits_value 10 field) (2 ^ 64 - 1) = omega arith in
-    ap (in_range (1000 * least) (1000 * most)) m ∙ capped (1000 * least) (1000 * most) (1000 * digits_value 10 field) (omega arith) ∙ rw d refl
+    ap (csv_number_within (1000 * least) (1000 * most)) m ∙ capped (1000 * least) (1000 * most) (1000 * digits_value 10 field) (omega arith) ∙ rw d refl
 
 -- for digits with up to three more behind a point, the thousandths, cut off at 2 ^ 64 - 1, pass or fail as the field does
 pub thousandths-read : (least most : ℕ) (field : List ℕ) (n : ℕ) → most < 2 ^ 32 → are_digits field ≡ false → is_in_thousandths field ≡ true → n ≡ min (thousandths_of field) (2 ^ 64 - 1)
-    → in_range (1000 * least) (1000 * most) n ≡ thousandths least most field
+    → csv_number_within (1000 * least) (1000 * most) n ≡ thousandths least most field
 unfolding thousandths
 thousandths-read least most field n h d t e =
-    ap (in_range (1000 * least) (1000 * most)) e ∙ capped (1000 * least) (1000 * most) (thousandths_of field) (omega arith) ∙ rw (d, t) refl
+    ap (csv_number_within (1000 * least) (1000 * most)) e ∙ capped (1000 * least) (1000 * most) (thousandths_of field) (omega arith) ∙ rw (d, t) refl
 
 -- any other field is refused as thousandths for how it is spelled
 pub thousandths-other : (least most : ℕ) (field : List ℕ) → are_digits field ≡ false → is_in_thousandths field ≡ false → Err (spelling_fault field) ≡ thousandths least most field

@@ -18,7 +18,7 @@ use Rattle.csv.specs.declared.parser.State.TheVariants as st
 use Rattle.csv.specs.declared.parser.Terminator.{Terminator}
 use Rattle.csv.specs.declared.parser.Terminator.TheVariants as term
 use Rattle.csv_records.specs.Table.{Fields, even_rows, has_width, is_uneven, table_from, table_within}
-use Rattle.csv_records.specs.Walk.{Fit, HasGiven, Stands, more_rows, tabled, width_of}
+use Rattle.csv_records.specs.Walk.{Fit, HasGiven, StandsBehind, more_rows, tabled, width_of}
 use Rattle.csv_records.specs.declared.walk.Walk.{Walk}
 
 -- ---- a record ends where the next can start, and takes a byte
@@ -109,7 +109,7 @@ none_at_end cfg s f d h = rw h refl
 -- ---- how far a text was read
 
 -- at the start of a text no row was read
-pub stands_start : (xs : List ℕ) → Stands xs [] st.StartRecord xs
+pub stands_start : (xs : List ℕ) → StandsBehind xs [] st.StartRecord xs
 stands_start xs = record { fuel = length xs + 1; enough = omega arith; between = refl; rest = refl }
 
 next_of : (n : ℕ) (s : State) (y : List ℕ) (p : Read) → next_record default_config s [] [] y ≡ Some p → records_from default_config (suc n) s y ≡ p.0 ∷ records_from default_config n p.1 p.2
@@ -122,7 +122,7 @@ none_of zero s y e = refl
 none_of (suc n) s y e = rw e refl
 
 more : (xs : List ℕ) (rows : List Fields) (s : State) (y : List ℕ) (p : Read) (n : ℕ) → length y < n → ends_at_end s ≡ false → records default_config xs ≡ rows ++ records_from default_config n s y
-    → next_record default_config s [] [] y ≡ Some p → Stands xs (rows ++ p.0 ∷ []) p.1 p.2
+    → next_record default_config s [] [] y ≡ Some p → StandsBehind xs (rows ++ p.0 ∷ []) p.1 p.2
 more xs rows s [] p n lt b r e = let bad = none_at_end default_config s [] [] b in cc
 more xs rows s (c ∷ y) p zero lt b r e = absurd (omega arith)
 more xs rows s (c ∷ y) p (suc n) lt b r e =
@@ -135,11 +135,11 @@ more xs rows s (c ∷ y) p (suc n) lt b r e =
     }
 
 -- the next record is one row more
-pub stands_more : (xs : List ℕ) (rows : List Fields) (s : State) (y : List ℕ) (p : Read) → Stands xs rows s y → next_record default_config s [] [] y ≡ Some p → Stands xs (rows ++ p.0 ∷ []) p.1 p.2
+pub stands_more : (xs : List ℕ) (rows : List Fields) (s : State) (y : List ℕ) (p : Read) → StandsBehind xs rows s y → next_record default_config s [] [] y ≡ Some p → StandsBehind xs (rows ++ p.0 ∷ []) p.1 p.2
 stands_more xs rows s y p h e = more xs rows s y p h.fuel h.enough h.between h.rest e
 
 -- where no record follows, the rows are all records of the text
-pub stands_end : (xs : List ℕ) (rows : List Fields) (s : State) (y : List ℕ) → Stands xs rows s y → next_record default_config s [] [] y ≡ None → records default_config xs ≡ rows
+pub stands_end : (xs : List ℕ) (rows : List Fields) (s : State) (y : List ℕ) → StandsBehind xs rows s y → next_record default_config s [] [] y ≡ None → records default_config xs ≡ rows
 stands_end xs rows s y h e = h.rest ∙ ap (λ (t : List Fields). rows ++ t) (none_of h.fuel s y e) ∙ append-nil rows
 
 -- ---- the number of fields
@@ -238,7 +238,7 @@ take_past most rows r after lt =
     ap (λ (n : ℕ). take n (rows ++ r ∷ after)) e ∙ take-append-add rows (r ∷ after) (suc (most - length rows - 1))
 
 -- the next record has another length
-breaks : (most : ℕ) (xs : List ℕ) (rows : List Fields) (s : State) (y : List ℕ) (p : Read) → length rows < most → Stands xs rows s y → Fit rows → next_record default_config s [] [] y ≡ Some p
+breaks : (most : ℕ) (xs : List ℕ) (rows : List Fields) (s : State) (y : List ℕ) (p : Read) → length rows < most → StandsBehind xs rows s y → Fit rows → next_record default_config s [] [] y ≡ Some p
     → fits (width_of rows) p.0 ≡ false → table_from (take most (records default_config xs)) ≡ tabled rows (Some (length rows + 1))
 breaks most xs rows s y p lt h fit e f =
     let (after, is) = break_from xs rows s y p h.fuel h.enough h.rest e in
@@ -246,14 +246,14 @@ breaks most xs rows s y p lt h fit e f =
     one_uneven (take most (records default_config xs)) rows p.0 rest (ap (take most) is ∙ take_past most rows p.0 after lt) (fit_break rows p.0 rest fit f)
 
 -- every record was read
-pub whole : (most : ℕ) (bytes : List ℕ) (rows : List Fields) (s : State) (y : List ℕ) → length rows ≤ most → Stands (strip_bom bytes) rows s y → Fit rows
+pub whole : (most : ℕ) (bytes : List ℕ) (rows : List Fields) (s : State) (y : List ℕ) → length rows ≤ most → StandsBehind (strip_bom bytes) rows s y → Fit rows
     → next_record default_config s [] [] y ≡ None → table_within most bytes ≡ tabled rows None
 unfolding table_within
 whole most bytes rows s y few h fit e =
     all_even (take most (records default_config (strip_bom bytes))) rows (ap (take most) (stands_end (strip_bom bytes) rows s y h e) ∙ take_all most rows few) (fit_end rows fit)
 
 -- as many records were read as were asked for
-pub filled : (most : ℕ) (bytes : List ℕ) (rows : List Fields) (s : State) (y : List ℕ) → length rows ≡ most → Stands (strip_bom bytes) rows s y → Fit rows
+pub filled : (most : ℕ) (bytes : List ℕ) (rows : List Fields) (s : State) (y : List ℕ) → length rows ≡ most → StandsBehind (strip_bom bytes) rows s y → Fit rows
     → table_within most bytes ≡ tabled rows None
 unfolding table_within
 filled most bytes rows s y full h fit =
@@ -262,7 +262,7 @@ filled most bytes rows s y full h fit =
 
 -- what a refusal for the number of fields says of the table
 pub refused : {R : Type 0} (rem : R → Option (List ℕ)) (a b : Reader R) (most : ℕ) (bytes y : List ℕ) (rows : List Fields) (k : ErrorKind)
-    → length rows < most → a.config ≡ default_config → a.expected ≡ width_of rows → Fit rows → source_of rem a ≡ Some y → Stands (strip_bom bytes) rows a.state y
+    → length rows < most → a.config ≡ default_config → a.expected ≡ width_of rows → Fit rows → source_of rem a ≡ Some y → StandsBehind (strip_bom bytes) rows a.state y
     → ExplainsRead rem a b false k → is_uneven k ≡ true → table_within most bytes ≡ tabled rows (Some (length rows + 1))
 unfolding table_within
 refused rem a b most bytes y rows (kind.UnequalLengths pos expected len) lt ec ew fit ex st why is =
@@ -280,11 +280,11 @@ refused rem a b most bytes y rows (kind.Deserialize pos e) lt ec ew fit ex st wh
 pub record Went {R : Type 0} (rem : R → Option (List ℕ)) (b : Reader R) (xs : List ℕ) (rows : List Fields) : Type 0 where
   pub unread : List ℕ
   pub source : source_of rem b ≡ Some unread
-  pub stands : Stands xs rows b.state unread
+  pub stands : StandsBehind xs rows b.state unread
   pub fit : Fit rows
   pub expected : b.expected ≡ width_of rows
 
-stands_as : (xs : List ℕ) (rows : List Fields) (f g : List (List ℕ)) (s t : State) (y : List ℕ) → f ≡ g → s ≡ t → Stands xs (rows ++ g ∷ []) t y → Stands xs (rows ++ f ∷ []) s y
+stands_as : (xs : List ℕ) (rows : List Fields) (f g : List (List ℕ)) (s t : State) (y : List ℕ) → f ≡ g → s ≡ t → StandsBehind xs (rows ++ g ∷ []) t y → StandsBehind xs (rows ++ f ∷ []) s y
 stands_as xs rows f g s t y d e h = rw (d, e) h
 
 expected_more : (rows : List Fields) (f : List (List ℕ)) (after : Option ℕ) → IfSome (width_of rows) (λ e. after ≡ Some e) × (after ≡ Some (length f)) → after ≡ width_of (rows ++ f ∷ [])
@@ -293,7 +293,7 @@ expected_more (x ∷ xs) f after h = h.0
 
 -- a record that is read behind even rows is one more row, and the rows stay even
 pub went : {R : Type 0} (rem : R → Option (List ℕ)) (a b : Reader R) (xs y : List ℕ) (rows : List Fields) (f : List (List ℕ))
-    → a.config ≡ default_config → a.flexible ≡ false → a.expected ≡ width_of rows → Fit rows → source_of rem a ≡ Some y → Stands xs rows a.state y → b.failed ≡ false
+    → a.config ≡ default_config → a.flexible ≡ false → a.expected ≡ width_of rows → Fit rows → source_of rem a ≡ Some y → StandsBehind xs rows a.state y → b.failed ≡ false
     → ReadRecord rem a b true f → Went rem b xs (rows ++ f ∷ [])
 went rem a b xs y rows f ec ef ew fit ex st ok r =
     let (p, next, same, state, rest) = took_is default_config a.state b.state y (pending_of (rem b.rdr) b) f (rw (ec, ex) at r.0) in

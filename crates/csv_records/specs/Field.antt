@@ -68,8 +68,8 @@ abbrev pub thousandths_of : List ℕ → ℕ
 thousandths_of field = 1000 * digits_value 10 (whole_part field) + digits_value 10 (fraction field) * 10 ^ (3 - length (fraction field))
 
 -- a number from the least to the most
-abbrev pub in_range : ℕ → ℕ → ℕ → Result ℕ Fault
-in_range least most n = if nat_le least n && nat_le n most then Ok n else Err fault.OutOfRange
+abbrev pub csv_number_within : ℕ → ℕ → ℕ → Result ℕ Fault
+csv_number_within least most n = if nat_le least n && nat_le n most then Ok n else Err fault.OutOfRange
 
 -- the fault of a field that says no number of the kind that is asked for
 abbrev pub spelling_fault : List ℕ → Fault
@@ -78,12 +78,12 @@ spelling_fault field = if is_decimal field then fault.NotWhole else fault.WrongK
 -- the tests of a whole number
 unfoldable pub whole_number : ℕ → ℕ → List ℕ → Result ℕ Fault
 whole_number least most field =
-    if are_digits field then in_range least most (digits_value 10 field)
+    if are_digits field then csv_number_within least most (digits_value 10 field)
     else Err (spelling_fault field)
 
 -- the tests of a number of thousandths, its range in wholes
 unfoldable pub thousandths : ℕ → ℕ → List ℕ → Result ℕ Fault
 thousandths least most field =
-    if are_digits field then in_range (1000 * least) (1000 * most) (1000 * digits_value 10 field)
-    else (if is_in_thousandths field then in_range (1000 * least) (1000 * most) (thousandths_of field)
+    if are_digits field then csv_number_within (1000 * least) (1000 * most) (1000 * digits_value 10 field)
+    else (if is_in_thousandths field then csv_number_within (1000 * least) (1000 * most) (thousandths_of field)
     else Err (spelling_fault field))

@@ -47,7 +47,7 @@ table_within most bytes = table_from (take most (all_records bytes))
 
 -- the table that a value holds
 abbrev pub table_in : Records → Table
-table_in t = record { rows = map fields_of t.rows.items; uneven = t.uneven }
+table_in t = record { rows = map fields_of t.rows.items; uneven = if t.uneven then Some (length t.rows.items + 1) else None }
 
 -- a refusal of `csv` for another number of fields
 abbrev pub is_uneven : ErrorKind → Bool

@@ -12,7 +12,7 @@ use Rattle.csv_records.specs.declared.walk.Halt.TheVariants as halt
 use Rattle.csv_records.specs.declared.walk.Walk.{Walk}
 
 -- the records of xs are these rows and the ones that follow from the state s and the bytes y
-pub record Stands (xs : List ℕ) (rows : List Fields) (s : State) (y : List ℕ) : Type 0 where
+pub record StandsBehind (xs : List ℕ) (rows : List Fields) (s : State) (y : List ℕ) : Type 0 where
   pub fuel : ℕ
   pub enough : length y < fuel
   pub between : ends_at_end s ≡ false
@@ -44,15 +44,15 @@ pub record HasGiven (bytes : List ℕ) (most : ℕ) (rows : List Fields) (w : Wa
   pub fit : Fit rows
   pub unread : List ℕ
   pub source : source_of (λ s. Some s.now) w.reader ≡ Some unread
-  pub stands : Stands (strip_bom bytes) rows w.reader.state unread
+  pub stands : StandsBehind (strip_bom bytes) rows w.reader.state unread
 
 -- the table with these rows, and the number of the uneven record behind them
 abbrev pub tabled : List Fields → Option ℕ → Table
 tabled rows uneven = record { rows = rows; uneven = uneven }
 
 -- a step of a walk that has given these rows: one more; or they are all, or all but an uneven one behind them; or memory was wanting
-abbrev pub Steps : List ℕ → ℕ → List Fields → Walk → Result Bool Halt → Type 0
-Steps bytes most rows w (Ok true) = HasGiven bytes most (rows ++ fields_of w.row ∷ []) w
-Steps bytes most rows w (Ok false) = table_within most bytes ≡ tabled rows None
-Steps bytes most rows w (Err halt.Uneven) = table_within most bytes ≡ tabled rows (Some (length rows + 1))
-Steps bytes most rows w (Err halt.Memory) = Unit {0}
+abbrev pub AdvancesWalk : List ℕ → ℕ → List Fields → Walk → Result Bool Halt → Type 0
+AdvancesWalk bytes most rows w (Ok true) = HasGiven bytes most (rows ++ fields_of w.row ∷ []) w
+AdvancesWalk bytes most rows w (Ok false) = table_within most bytes ≡ tabled rows None
+AdvancesWalk bytes most rows w (Err halt.Uneven) = table_within most bytes ≡ tabled rows (Some (length rows + 1))
+AdvancesWalk bytes most rows w (Err halt.Memory) = Unit {0}

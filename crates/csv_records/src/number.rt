@@ -3,7 +3,7 @@
 ghost use Rattle.std.specs.Prelude.{◌≡◌, ◌-◌, ◌*◌, ◌+◌, ◌^◌, ◌<◌, ◌≤◌, true, IfOk, min, length, position};
 ghost use Rattle.std.specs.Str.{all_ascii_digits};
 ghost use Rattle.std.specs.Str.Parse.{digits_value};
-ghost use Rattle.csv_records.specs.Field.{are_digits, fraction, in_range, is_decimal, is_in_thousandths, is_point, spelling_fault, thousandths, thousandths_of, whole_number, whole_part};
+ghost use Rattle.csv_records.specs.Field.{are_digits, fraction, csv_number_within, is_decimal, is_in_thousandths, is_point, spelling_fault, thousandths, thousandths_of, whole_number, whole_part};
 
 /// What is wrong with a field that is to be a number.
 #[derive(Clone, Copy, Debug, PartialEq, Drop)]
@@ -82,8 +82,8 @@ fn spelling_fault(field: &[u8]) -> Fault
     }
 }
 
-fn in_range(least: u64, most: u64, number: u64) -> Result<u64, Fault>
-    ensures value { result ≡ in_range least most number }
+fn csv_number_within(least: u64, most: u64, number: u64) -> Result<u64, Fault>
+    ensures value { result ≡ csv_number_within least most number }
     ensures most { IfOk result (λ n. n ≤ most) }
 {
     if least <= number && number <= most {
@@ -102,7 +102,7 @@ pub fn whole_number(field: &[u8], least: u32, most: u32) -> Result<u32, Fault>
     if !are_digits(field) {
         return Err(spelling_fault(field));
     }
-    match in_range(u64::from(least), u64::from(most), value_of(field)) {
+    match csv_number_within(u64::from(least), u64::from(most), value_of(field)) {
         Ok(number) => Ok(number as u32),
         Err(fault) => Err(fault),
     }
@@ -147,9 +147,9 @@ pub fn thousandths(field: &[u8], least: u32, most: u32) -> Result<u64, Fault>
     let least = 1000 * u64::from(least);
     let most = 1000 * u64::from(most);
     if are_digits(field) {
-        in_range(least, most, value_of(field).saturating_mul(1000))
+        csv_number_within(least, most, value_of(field).saturating_mul(1000))
     } else if is_in_thousandths(field) {
-        in_range(least, most, thousandths_of(field))
+        csv_number_within(least, most, thousandths_of(field))
     } else {
         Err(spelling_fault(field))
     }

@@ -13,9 +13,22 @@ use std::alloc::{AllocError, Global};
 pub struct Records {
     /// The records, each with as many fields as the first.
     pub rows: Vec<ByteRecord>,
-    /// The number of the record behind them, counted from 1, that was read and has another number of
-    /// fields, if there is one.
-    pub uneven: Option<u64>,
+    /// Whether the record behind them was read and has another number of fields.
+    pub uneven: bool,
+}
+
+impl Records {
+    /// The number of the uneven record behind them, counted from 1, if there is one.
+    pub fn uneven_row(&self) -> Option<u64>
+        ensures value { result ≡ (table_in self.now).uneven }
+        ensures place { IfSome result (λ k. k ≡ length self.now.rows.items + 1) }
+    {
+        if self.uneven {
+            Some(self.rows.len() as u64 + 1)
+        } else {
+            None
+        }
+    }
 }
 
 pub(crate) fn is_uneven(error: &Error) -> bool
@@ -28,8 +41,7 @@ pub(crate) fn is_uneven(error: &Error) -> bool
 /// first record's. What stands behind those `most` isn't read. Any other refusal of `csv` is answered as
 /// want of memory.
 pub fn records_of(alloc: Global, bytes: &[u8], most: usize) -> Result<Records, AllocError>
-    ensures records { IfOk result (λ t. table_in t ≡ table_within most bytes.now) }
-    ensures place { IfOk result (λ t. IfSome t.uneven (λ k. k ≡ length t.rows.items + 1)) }
+    ensures { IfOk result (λ t. table_in t ≡ table_within most bytes.now) }
 {
     let rdr = ReaderBuilder::new()
         .has_headers(false)
@@ -42,15 +54,14 @@ pub fn records_of(alloc: Global, bytes: &[u8], most: usize) -> Result<Records, A
                 if !is_uneven(&error) {
                     return Err(AllocError);
                 }
-                let uneven = rows.len() as u64 + 1;
-                return Ok(Records {
-                    rows,
-                    uneven: Some(uneven),
-                });
+                return Ok(Records { rows, uneven: true });
             }
         }
     }
-    Ok(Records { rows, uneven: None })
+    Ok(Records {
+        rows,
+        uneven: false,
+    })
 }
 
 fn is_blank(byte: u8) -> bool

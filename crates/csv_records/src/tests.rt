@@ -22,7 +22,7 @@ fn records(rt: HostRuntime) -> Result<(), Fail> {
     for (text, most, rows, uneven) in TEXTS {
         let records = records_of(rt.alloc(), text.as_bytes(), most).expect(&rt, "records");
         assert_eq!(rt; records.rows.len(), rows, "{text}");
-        assert_eq!(rt; records.uneven, uneven, "{text}");
+        assert_eq!(rt; records.uneven_row(), uneven, "{text}");
     }
     Ok(())
 }

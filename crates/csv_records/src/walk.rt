@@ -2,7 +2,7 @@
 
 ghost use Rattle.std.specs.Prelude.{◌≡◌, ℕ, List, []};
 ghost use Rattle.csv_records.specs.Table.{Fields};
-ghost use Rattle.csv_records.specs.Walk.{HasGiven, Steps};
+ghost use Rattle.csv_records.specs.Walk.{HasGiven, AdvancesWalk};
 
 use crate::records::is_uneven;
 use csv::{ByteRecord, Reader, ReaderBuilder};
@@ -43,7 +43,7 @@ impl<'a> Walk<'a> {
     /// isn't read. Once there is none the walk is over.
     pub fn advance(&mut self) -> Result<bool, Halt>
         ensures { (bytes : List ℕ) (most : ℕ) (rows : List Fields) → HasGiven bytes most rows self.old
-            → Steps bytes most rows self.new result }
+            → AdvancesWalk bytes most rows self.new result }
     {
         if self.left == 0 {
             return Ok(false);

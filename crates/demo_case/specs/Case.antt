@@ -1,12 +1,12 @@
 -- The made case of a number: the film, the network, the setup, and the planner's task of the three.
 use Rattle.std.specs.Prelude.{ℕ, ◌+◌, ◌*◌, ◌%◌, List, [], ◌∷◌, map, false}
+use Rattle.lab_model.specs.Limits.{all_ahead}
 use Rattle.std.specs.List.{flat_map}
 use Rattle.lab_model.specs.declared.setup.Setup.{Setup}
 use Rattle.lab_model.specs.declared.trace.Period.{Period}
 use Rattle.lab_model.specs.Film.{Film, film}
 use Rattle.lab_model.specs.Ladder.{rungs_below}
 use Rattle.lab_model.specs.Weighing.{weighing}
-use Rattle.player_core.specs.Available.{all_ahead}
 use Rattle.player_core.specs.Scene.{Task, task_of}
 use Rattle.demo_case.specs.Draws.{draw, draws_from, state_after}
 

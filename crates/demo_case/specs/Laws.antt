@@ -9,8 +9,8 @@ abbrev pub most_number : ℕ
 most_number = 2147483647
 
 -- the most labels of a made case: 160 frontiers, and in each at most 484 values, which are 121 sums of utilities by 4 first rungs
-abbrev pub most_labels : ℕ
-most_labels = 77440
+abbrev pub most_demo_labels : ℕ
+most_demo_labels = 77440
 
 -- the labels that the planner may make for a made case
 abbrev pub demo_budget : ℕ
@@ -18,7 +18,7 @@ demo_budget = 200000
 
 -- the frontiers of a made case have no more labels
 abbrev pub DemoIsSmall : Type 0
-DemoIsSmall = (n : ℕ) → n ≤ most_number → labels_in (demo_task n) (frontier (demo_task n)) ≤ most_labels
+DemoIsSmall = (n : ℕ) → n ≤ most_number → labels_in (demo_task n) (frontier (demo_task n)) ≤ most_demo_labels
 
 -- so no segment spends the budget
 abbrev pub DemoFitsBudget : Type 0

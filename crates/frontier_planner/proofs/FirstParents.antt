@@ -15,11 +15,10 @@ use Rattle.std.proofs.lemmas.List.Elements.{Contains-append_left, Contains-get_o
 use Rattle.std.proofs.lemmas.List.Sorted.{Contains-permutation, IsPermutation-sym, ranks_by}
 use Rattle.lab_model.specs.declared.label.Label.{Label}
 use Rattle.lab_model.specs.Film.{rungs_of, segments_of}
-use Rattle.labels.specs.declared.label.Grid.{Grid}
 use Rattle.player_core.specs.Scene.{Task}
 use Rattle.labels.specs.Covers.{HasAbove}
 use Rattle.labels.specs.Frontier.{is_same, undominated}
-use Rattle.labels.specs.Grid.{IsGrid, multiple_above, multiple_below, rounded}
+use Rattle.labels.specs.Grid.{IsGrid, Rounding, multiple_above, multiple_below, rounded}
 use Rattle.labels.specs.Grown.{grown, successors, CanPlan, grown_labels}
 use Rattle.labels.specs.Labels.{Dominates, next_label, start_label}
 use Rattle.labels.specs.Read.{leads_to, no_label, parent_of}
@@ -157,7 +156,7 @@ lead_dominates : (step : ℕ) (a b : Label) → LeadsBy step a b → Dominates a
 lead_dominates step a b h = let more = h.2 in (h.0, h.1, omega (arith, ints, more))
 
 -- where a label leads another by a step of the grid, its rounded value is greater
-round_leads : (d : Grid) → IsGrid d → (a b : Label) → LeadsBy d.value a b → Dominates (rounded d a) (rounded d b) × ((rounded d b).v <ℤ (rounded d a).v)
+round_leads : (d : Rounding) → IsGrid d → (a b : Label) → LeadsBy d.value a b → Dominates (rounded d a) (rounded d b) × ((rounded d b).v <ℤ (rounded d a).v)
 round_leads d is a b h =
     let some = is.value.0 in (
       round_inherits d is a b (lead_dominates d.value a b h),
@@ -169,7 +168,7 @@ apart v h = absurd (omega (arith, ints, h))
 
 -- ---- what is enough
 
-module _ (d : Grid) (g : Task) (case : CanPlan d g) (i : ℕ) (low : suc i < segments_of g.film) (r : ℕ) (rung : r < rungs_of g.film) (kept : List Followed) (enough : AreEnough d g (suc i) (grown_labels d g i) kept) where
+module _ (d : Rounding) (g : Task) (case : CanPlan d g) (i : ℕ) (low : suc i < segments_of g.film) (r : ℕ) (rung : r < rungs_of g.film) (kept : List Followed) (enough : AreEnough d g (suc i) (grown_labels d g i) kept) where
   abbrev at : ℕ → ℕ × Label
   at k = get_or (grown_labels d g i) k (0, no_label)
 
@@ -263,7 +262,7 @@ module _ (d : Grid) (g : Task) (case : CanPlan d g) (i : ℕ) (low : suc i < seg
       record { labels = own_first.labels ∙ grown_is; parents = λ k here some. parent_first ks own_first k here }
 
 -- the same, with the segment before
-pub next_parents : (d : Grid) (g : Task) → CanPlan d g → (i r : ℕ) (kept : List Followed) (made ks : List Candidate) → 0 < i → i < segments_of g.film → r < rungs_of g.film
+pub next_parents : (d : Rounding) (g : Task) → CanPlan d g → (i r : ℕ) (kept : List Followed) (made ks : List Candidate) → 0 < i → i < segments_of g.film → r < rungs_of g.film
     → AreEnough d g i (grown_labels d g (i - 1)) kept → made ≡ map (follower d g i r) kept → AreFirst made ks → HaveParents d g i r ks
 next_parents d g case zero r kept made ks some low rung enough same h = absurd (omega (arith, some))
 next_parents d g case (suc i) r kept made ks some low rung enough same h =
@@ -271,7 +270,7 @@ next_parents d g case (suc i) r kept made ks some low rung enough same h =
     first_parents d g case i low r rung kept (subst (λ n. AreEnough d g (suc i) (grown_labels d g n) kept) e enough) made ks same h
 
 -- the start label alone is the coarse frontier of segment 0
-pub first_start : (d : Grid) (g : Task) (i r : ℕ) (ks : List Candidate) (l : Label) → i ≡ 0 → l ≡ rounded d (start_label g r) → ks ≡ record { label = l; parent = 0 } ∷ [] → HaveParents d g i r ks
+pub first_start : (d : Rounding) (g : Task) (i r : ℕ) (ks : List Candidate) (l : Label) → i ≡ 0 → l ≡ rounded d (start_label g r) → ks ≡ record { label = l; parent = 0 } ∷ [] → HaveParents d g i r ks
 first_start d g i r ks l first start is = record {
   labels = ap labels_in is ∙ ap (λ (x : Label). x ∷ []) start ∙ sym (grown_first d g r) ∙ ap (λ n. grown d g n r) (sym first);
   parents = λ k here some. absurd (omega (arith, first, some));

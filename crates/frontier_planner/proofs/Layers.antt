@@ -13,7 +13,7 @@ use Rattle.lab_model.specs.Ladder.{rungs_below}
 use Rattle.lab_model.proofs.Rungs.{rungs_more}
 use Rattle.lab_model.specs.Film.{segments_of}
 use Rattle.label_arena.specs.Chains.{Holdings}
-use Rattle.labels.specs.declared.label.Grid.{Grid}
+use Rattle.labels.specs.Grid.{Rounding}
 use Rattle.frontier_planner.specs.declared.frontiers.Frontiers.{Frontiers}
 use Rattle.frontier_planner.specs.declared.frontiers.Layer.{Layer}
 use Rattle.frontier_planner.specs.declared.plans.PlanErr.{PlanErr}
@@ -40,11 +40,11 @@ held_at chains chain n r v h low =
 -- ---- all layers
 
 -- no layers
-pub hold_none : (d : Grid) (g : Task) (layers : List Layer) → layers ≡ [] → HoldAll d g layers
+pub hold_none : (d : Rounding) (g : Task) (layers : List Layer) → layers ≡ [] → HoldAll d g layers
 hold_none d g layers none i x low = let long = ap length none in absurd (omega (arith, low, long))
 
 -- one layer more
-pub hold_more : (d : Grid) (g : Task) (layers more : List Layer) (l : Layer) → HoldAll d g layers → HoldsFrontiers d g (length layers) l → more ≡ layers ++ l ∷ [] → HoldAll d g more
+pub hold_more : (d : Rounding) (g : Task) (layers more : List Layer) (l : Layer) → HoldAll d g layers → HoldsFrontiers d g (length layers) l → more ≡ layers ++ l ∷ [] → HoldAll d g more
 hold_more d g layers more l h one pushed i x low =
     let long = ap length pushed ∙ length-append layers (l ∷ []) in
     subst (λ ls. HoldsFrontiers d g i (get_or ls i x)) (sym pushed)
@@ -54,14 +54,14 @@ hold_more d g layers more l h one pushed i x low =
     subst (λ n. HoldsFrontiers d g n (get_or (layers ++ l ∷ []) n x)) e (subst (HoldsFrontiers d g (length layers)) (sym (get_or-append_seam layers l [] x)) one)) (cases_lt i (length layers)))
 
 -- where a segment has more labels than are left, the budget is spent at it
-pub spent_here : (d : Grid) (g : Task) (budget left i s : ℕ) → i < segments_of g.film → left + labels_before g (grown d g) i ≡ budget → (s ≡ i) × (left < length (grown_labels d g i)) → SpentAt g (grown d g) budget s
+pub spent_here : (d : Rounding) (g : Task) (budget left i s : ℕ) → i < segments_of g.film → left + labels_before g (grown d g) i ≡ budget → (s ≡ i) × (left < length (grown_labels d g i)) → SpentAt g (grown d g) budget s
 spent_here d g budget left i s low sum h =
     let more = before_next g (grown d g) i in
     let above = h.1 in
     subst (SpentAt g (grown d g) budget) (sym h.0) (record { inside = low; before = omega (arith, sum); above = omega (arith, sum, more, above) })
 
 -- where a segment has no answer there is none for all
-pub frontiers_stop : (d : Grid) (g : Task) (budget left i : ℕ) (a b : Holdings) (r : Result ℕ PlanErr) (s : Result Frontiers PlanErr) (e : PlanErr) → i < segments_of g.film → left + labels_before g (grown d g) i ≡ budget
+pub frontiers_stop : (d : Rounding) (g : Task) (budget left i : ℕ) (a b : Holdings) (r : Result ℕ PlanErr) (s : Result Frontiers PlanErr) (e : PlanErr) → i < segments_of g.film → left + labels_before g (grown d g) i ≡ budget
     → r ≡ Err e → IsErrAnd s (λ x. x ≡ e) → SegmentAnswer d g i left a b r → FrontiersAnswer d g budget s
 frontiers_stop d g budget left i a b r (Ok v) e low sum is same h = absurd same
 frontiers_stop d g budget left i a b r (Err x) e low sum is same h = stopped x (subst (SegmentAnswer d g i left a b) (is ∙ ap Err (sym same)) h)

@@ -13,7 +13,7 @@ use Rattle.label_arena.specs.declared.walk.Step.{Step}
 use Rattle.label_arena.specs.declared.node.NodeId.{NodeId}
 use Rattle.label_arena.proofs.Counts.{all_zero}
 use Rattle.label_arena.proofs.Parents.{in_ids}
-use Rattle.labels.specs.declared.label.Grid.{Grid}
+use Rattle.labels.specs.Grid.{Rounding}
 use Rattle.player_core.specs.Scene.{Task}
 use Rattle.labels.specs.Frontier.{by_rung}
 use Rattle.labels.specs.Grown.{grown, grown_labels}
@@ -59,7 +59,7 @@ number_before rungs i q r some low = let before = number_below rungs (i - 1) i q
 
 -- ---- chains that stay
 
-module _ (d : Grid) (g : Task) (a b : Holdings) (number : ℕ) (stay : (c : ℕ) → c < number → chain_at b c ≡ chain_at a c) where
+module _ (d : Rounding) (g : Task) (a b : Holdings) (number : ℕ) (stay : (c : ℕ) → c < number → chain_at b c ≡ chain_at a c) where
   -- what stands in such a chain
   pub stands_still : (segment : ℕ) (x : Reached) → segment * rungs_of g.film + x.rung < number → StandsAt g a segment x → StandsAt g b segment x
   stands_still segment x low h =
@@ -100,7 +100,7 @@ module _ (d : Grid) (g : Task) (a b : Holdings) (number : ℕ) (stay : (c : ℕ)
 -- ---- an arena without frontiers
 
 -- holds those below the first number
-pub holds_none : (d : Grid) (g : Task) (a : Holdings) (chains room : ℕ) → chains ≡ segments_of g.film * rungs_of g.film → a ≡ empty_holdings chains room → HoldsBelow d g a 0
+pub holds_none : (d : Rounding) (g : Task) (a : Holdings) (chains room : ℕ) → chains ≡ segments_of g.film * rungs_of g.film → a ≡ empty_holdings chains room → HoldsBelow d g a 0
 holds_none d g a chains room all is = record {
   count = ap (λ (x : Holdings). length x.chains) is ∙ length-replicate chains (linked_chain [] false) ∙ all;
   holds = λ i q rung low. absurd (omega (arith, low));
@@ -113,7 +113,7 @@ holds_none d g a chains room all is = record {
     get_or-replicate_same (suc n) (suc c) = get_or-replicate_same n c
 
 -- it has no nodes in chains
-pub count_none : (d : Grid) (g : Task) (a : Holdings) → HoldsBelow d g a 0 → node_count a ≡ 0
+pub count_none : (d : Rounding) (g : Task) (a : Holdings) → HoldsBelow d g a 0 → node_count a ≡ 0
 count_none d g a h = all_zero (λ (x : LinkedChain). length x.nodes) (linked_chain [] false) a.chains (λ c low. ap (λ (x : LinkedChain). length x.nodes) (h.empty c (omega arith)))
 
 -- ---- the labels of a segment
@@ -126,7 +126,7 @@ pairs_in q (s ∷ ns) = ap (λ ps. (q, s.label) ∷ ps) (pairs_in q ns)
 abbrev own : ℕ → Standing → Reached
 own q s = record { rung = q; label = s.label; node = s.node }
 
-module _ (d : Grid) (g : Task) (a : Holdings) (segment : ℕ) where
+module _ (d : Rounding) (g : Task) (a : Holdings) (segment : ℕ) where
   -- no rungs have no labels
   pub reached_none : (reached : List Reached) → reached ≡ [] → (map pair_of reached ≡ by_rung 0 (grown d g segment)) × ((x : Reached) → Contains reached x → StandsAt g a segment x)
   reached_none reached none = (ap (map pair_of) none, λ x there. absurd (none_at x (subst (λ xs. Contains xs x) none there)))
@@ -167,7 +167,7 @@ chain_short a c sound low =
     omega (arith, one, long, few)
 
 -- their nodes stand in sealed chains
-pub before_sealed : (d : Grid) (g : Task) (a : Holdings) (segment number : ℕ) (before : List Reached) → HoldsBelow d g a number → segment * rungs_of g.film ≤ number → AreBefore d g a segment before → HaveNodes a before
+pub before_sealed : (d : Rounding) (g : Task) (a : Holdings) (segment number : ℕ) (before : List Reached) → HoldsBelow d g a number → segment * rungs_of g.film ≤ number → AreBefore d g a segment before → HaveNodes a before
 before_sealed d g a zero number before h low b x there = absurd (none_at x (subst (λ xs. Contains xs x) (b.first refl) there))
 before_sealed d g a (suc i) number before h low b x there =
     let stands = (b.later (omega arith)).stand x there in
@@ -178,7 +178,7 @@ before_sealed d g a (suc i) number before h low b x there =
 
 -- ---- one frontier more
 
-module _ (d : Grid) (g : Task) (a b : Holdings) (i r : ℕ) (frontier : List Candidate) (before : List Reached) (h : HoldsBelow d g a (i * rungs_of g.film + r)) (low : i < segments_of g.film) (rung : r < rungs_of g.film)
+module _ (d : Rounding) (g : Task) (a b : Holdings) (i r : ℕ) (frontier : List Candidate) (before : List Reached) (h : HoldsBelow d g a (i * rungs_of g.film + r)) (low : i < segments_of g.film) (rung : r < rungs_of g.film)
     (added : AddsFrontier a b (i * rungs_of g.film + r) frontier before) (with_parents : HaveParents d g i r frontier) (b4 : AreBefore d g a i before) where
   abbrev number : ℕ
   number = i * rungs_of g.film + r
@@ -236,13 +236,13 @@ module _ (d : Grid) (g : Task) (a b : Holdings) (i r : ℕ) (frontier : List Can
   before_more = before_still d g a b number stay i before (omega arith) b4
 
 -- a chain that is still empty is open
-pub number_open : (d : Grid) (g : Task) (a : Holdings) (number c : ℕ) → HoldsBelow d g a number → number ≤ c → c < segments_of g.film * rungs_of g.film → (c < length a.chains) × ((chain_at a c).sealed ≡ false) × ((chain_at a c).nodes ≡ [])
+pub number_open : (d : Rounding) (g : Task) (a : Holdings) (number c : ℕ) → HoldsBelow d g a number → number ≤ c → c < segments_of g.film * rungs_of g.film → (c < length a.chains) × ((chain_at a c).sealed ≡ false) × ((chain_at a c).nodes ≡ [])
 number_open d g a number c h late low =
     let count = h.count in
     (omega (arith, count, low), ap (λ (x : LinkedChain). x.sealed) (h.empty c late), ap (λ (x : LinkedChain). x.nodes) (h.empty c late))
 
 -- the chains of a segment below the number hold its frontiers
-pub segment_held : (d : Grid) (g : Task) (a : Holdings) (number segment : ℕ) → HoldsBelow d g a number → (segment + 1) * rungs_of g.film ≤ number → HoldsSegment d g a segment
+pub segment_held : (d : Rounding) (g : Task) (a : Holdings) (number segment : ℕ) → HoldsBelow d g a number → (segment + 1) * rungs_of g.film ≤ number → HoldsSegment d g a segment
 segment_held d g a number segment h low = record {
   count = h.count;
   holds = λ q rung. let inside = number_below (rungs_of g.film) segment (segment + 1) q rung (omega arith) in h.holds segment q rung (omega (arith, inside, low));

@@ -10,7 +10,7 @@ use Rattle.std.proofs.lemmas.List.Elements.{Contains-get_or}
 use Rattle.std.proofs.lemmas.List.FromFn.{length-map-range_with_len}
 use Rattle.lab_model.specs.declared.label.Label.{Label}
 use Rattle.lab_model.specs.Film.{rungs_of, segments_of}
-use Rattle.labels.specs.declared.label.Grid.{Grid}
+use Rattle.labels.specs.Grid.{Rounding}
 use Rattle.frontier_planner.specs.declared.frontiers.Layer.{Layer}
 use Rattle.labels.specs.Grown.{grown, grown_labels}
 use Rattle.player_core.specs.Scene.{Task}
@@ -34,7 +34,7 @@ module _ {Y : Type 0} where
 
 -- ---- the chains of the layers
 
-module _ (d : Grid) (g : Task) (layers : List Layer) (h : HoldPlan d g layers) where
+module _ (d : Rounding) (g : Task) (layers : List Layer) (h : HoldPlan d g layers) where
   inside : (i : ℕ) → i < segments_of g.film → i < length layers
   inside i low = let count = h.count in omega (arith, count, low)
 
@@ -65,14 +65,14 @@ module _ (d : Grid) (g : Task) (layers : List Layer) (h : HoldPlan d g layers) w
   chain_few i q low rung = let most = h.few in let within = chain_within g (grown d g) i q low rung in omega (arith, most, within)
 
 -- a label of a chain stands among the segment's
-pub label_there : (d : Grid) (g : Task) (i q k : ℕ) (e : Label) (chain : List Label) → chain ≡ grown d g i q → q < rungs_of g.film → k < length chain → Contains (grown_labels d g i) (q, get_or chain k e)
+pub label_there : (d : Rounding) (g : Task) (i q k : ℕ) (e : Label) (chain : List Label) → chain ≡ grown d g i q → q < rungs_of g.film → k < length chain → Contains (grown_labels d g i) (q, get_or chain k e)
 label_there d g i q k e chain is rung low =
     in_by_rung (rungs_of g.film) (grown d g i) q (get_or chain k e) rung (subst (λ ls. Contains ls (get_or chain k e)) is (Contains-get_or chain k e low))
 
 -- ---- a chain with its names
 
 -- of a segment that has a next one
-pub named_yes : (d : Grid) (g : Task) (i q : ℕ) (labels : List Label) (names : List ℕ) → i + 1 < segments_of g.film → labels ≡ grown d g i q → names ≡ flat_map (λ l. names_read d g i (q, l)) (grown d g i q)
+pub named_yes : (d : Rounding) (g : Task) (i q : ℕ) (labels : List Label) (names : List ℕ) → i + 1 < segments_of g.film → labels ≡ grown d g i q → names ≡ flat_map (λ l. names_read d g i (q, l)) (grown d g i q)
     → record { labels = labels; names = names } ≡ chain_read d g i q
 named_yes d g i q labels names low is are =
     let more = nat_lt (suc i) (segments_of g.film) in
@@ -81,7 +81,7 @@ named_yes d g i q labels names low is are =
     ap (λ (ls : List Label). record { labels = ls; names = names }) is ∙ ap (λ (ns : List ℕ). record { labels = grown d g i q; names = ns }) all
 
 -- and of the last one
-pub named_no : (d : Grid) (g : Task) (i q : ℕ) (labels : List Label) (names : List ℕ) → segments_of g.film ≤ i + 1 → labels ≡ grown d g i q → names ≡ [] → record { labels = labels; names = names } ≡ chain_read d g i q
+pub named_no : (d : Rounding) (g : Task) (i q : ℕ) (labels : List Label) (names : List ℕ) → segments_of g.film ≤ i + 1 → labels ≡ grown d g i q → names ≡ [] → record { labels = labels; names = names } ≡ chain_read d g i q
 named_no d g i q labels names late is none =
     let more = nat_lt (suc i) (segments_of g.film) in
     let made = flat_map (names_of_label g (grown d g) i q) (grown d g i q) in
@@ -89,11 +89,11 @@ named_no d g i q labels names late is none =
     ap (λ (ls : List Label). record { labels = ls; names = names }) is ∙ ap (λ (ns : List ℕ). record { labels = grown d g i q; names = ns }) all
 
 -- a name
-pub name_one : (d : Grid) (g : Task) (i r : ℕ) (c : ℕ × Label) (n : ℕ) (chain : List Label) (l : Label) → n ≡ place_above chain l → chain ≡ grown d g (i + 1) r → l ≡ next_label g (i + 1) c.0 c.1 r
+pub name_one : (d : Rounding) (g : Task) (i r : ℕ) (c : ℕ × Label) (n : ℕ) (chain : List Label) (l : Label) → n ≡ place_above chain l → chain ≡ grown d g (i + 1) r → l ≡ next_label g (i + 1) c.0 c.1 r
     → n ≡ place_above (grown d g (suc i) r) (next_label g (suc i) c.0 c.1 r)
 name_one d g i r c n chain l is same next =
     is ∙ ap (λ ls. place_above ls l) same ∙ ap (place_above (grown d g (i + 1) r)) next ∙ ap (λ k. place_above (grown d g k r) (next_label g k c.0 c.1 r)) (add-one i)
 
 -- a start
-pub start_one : (d : Grid) (g : Task) (q n : ℕ) (chain : List Label) (l : Label) → n ≡ place_above chain l → chain ≡ grown d g 0 q → l ≡ start_label g q → n ≡ place_above (grown d g 0 q) (start_label g q)
+pub start_one : (d : Rounding) (g : Task) (q n : ℕ) (chain : List Label) (l : Label) → n ≡ place_above chain l → chain ≡ grown d g 0 q → l ≡ start_label g q → n ≡ place_above (grown d g 0 q) (start_label g q)
 start_one d g q n chain l is same start = is ∙ ap (λ ls. place_above ls l) same ∙ ap (place_above (grown d g 0 q)) start

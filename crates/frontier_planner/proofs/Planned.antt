@@ -5,7 +5,6 @@ use Rattle.std.specs.Result.{IsErrAnd}
 use Rattle.std.specs.List.{Contains}
 use Rattle.lab_model.specs.declared.label.Label.{Label}
 use Rattle.lab_model.specs.Film.{rungs_of, segments_of}
-use Rattle.labels.specs.declared.label.Grid.{Grid}
 use Rattle.frontier_planner.specs.declared.frontiers.Frontiers.{Frontiers}
 use Rattle.frontier_planner.specs.declared.frontiers.Layer.{Layer}
 use Rattle.frontier_planner.specs.declared.planner.Outline.{Outline}
@@ -16,7 +15,7 @@ use Rattle.frontier_planner.specs.declared.plans.PlanErr.{PlanErr}
 use Rattle.frontier_planner.specs.declared.plans.PlanErr.TheVariants as fault
 use Rattle.player_core.specs.Scene.{Task}
 use Rattle.labels.specs.Frontier.{frontier}
-use Rattle.labels.specs.Grid.{exact}
+use Rattle.labels.specs.Grid.{Rounding, exact}
 use Rattle.labels.specs.Grown.{grown, CanPlan, grown_labels}
 use Rattle.frontier_planner.specs.Layers.{FrontiersAnswer, HoldAll, HoldPlan, rungs_read}
 use Rattle.labels.specs.Parts.{ChainParts, plan_parts}
@@ -31,7 +30,7 @@ use Rattle.labels.proofs.Same.{before_same, bound_same, certificate_same, list_s
 use Rattle.labels.proofs.HasForm.{bound_short, certificate_form}
 use Rattle.labels.proofs.Sound.{coarse_settles, exact_agrees}
 
-module _ (d : Grid) (g : Task) (case : CanPlan d g) (budget : ℕ) where
+module _ (d : Rounding) (g : Task) (case : CanPlan d g) (budget : ℕ) where
   -- the list that is read from the end is the plan's
   pub list_is : (last : ℕ) (c : ℕ × Label) (rungs : List ℕ) → last ≡ segments_of g.film - 1 → c ≡ end_of_plan g (grown d g) → rungs ≡ rungs_read d g last c → rungs ≡ list_of_plan d g (grown d g)
   unfolding list_of_plan
@@ -170,24 +169,24 @@ module _ (g : Task) (case : CanPlan exact g) (budget : ℕ) where
   list_answer (Err fault.Memory) h = tt
 
 -- on a grid that is 1, 1 the bound of a list is its score
-pub list_bound : (d : Grid) (g : Task) → CanPlan d g → (budget : ℕ) (r : Result BoundedList PlanErr) → ListAnswer d g (grown d g) budget r → d ≡ exact → IfOk r (λ b. b.bound ≡ b.score)
+pub list_bound : (d : Rounding) (g : Task) → CanPlan d g → (budget : ℕ) (r : Result BoundedList PlanErr) → ListAnswer d g (grown d g) budget r → d ≡ exact → IfOk r (λ b. b.bound ≡ b.score)
 list_bound d g case budget (Ok b) h e = bound_is_score g (subst (λ x. CanPlan x g) e case) budget b (subst (λ x. IsListOf x g (grown x g) budget b) e h)
 list_bound d g case budget (Err x) h e = tt
 
 -- on a grid that is 1, 1 the list is that of the frontiers
-pub exact_list : (d : Grid) (g : Task) → CanPlan d g → (budget : ℕ) (r : Result BoundedList PlanErr) → ListAnswer d g (grown d g) budget r → d ≡ exact → ListAnswer exact g (frontier g) budget r
+pub exact_list : (d : Rounding) (g : Task) → CanPlan d g → (budget : ℕ) (r : Result BoundedList PlanErr) → ListAnswer d g (grown d g) budget r → d ≡ exact → ListAnswer exact g (frontier g) budget r
 exact_list d g case budget r h e = list_answer g (subst (λ x. CanPlan x g) e case) budget r (subst (λ x. ListAnswer x g (grown x g) budget r) e h)
 
 -- on a grid that is 1, 1 the bound is the score
-pub exact_bound : (d : Grid) (g : Task) → CanPlan d g → (budget : ℕ) (r : Result CoarsePlan PlanErr) → CoarseAnswer d g budget r → d ≡ exact → IfOk r (λ c. c.bound ≡ c.plan.score)
+pub exact_bound : (d : Rounding) (g : Task) → CanPlan d g → (budget : ℕ) (r : Result CoarsePlan PlanErr) → CoarseAnswer d g budget r → d ≡ exact → IfOk r (λ c. c.bound ≡ c.plan.score)
 exact_bound d g case budget (Ok c) h e =
     bound_is_score g (subst (λ x. CanPlan x g) e case) budget (list_in c.plan c.bound) (subst (λ x. IsListOf x g (grown x g) budget (list_in c.plan c.bound)) e h.list)
 exact_bound d g case budget (Err x) h e = tt
 
 -- on a grid that is 1, 1
-pub exact_answer : (d : Grid) (g : Task) → CanPlan d g → (budget : ℕ) (r : Result CoarsePlan PlanErr) → CoarseAnswer d g budget r → ExactAnswer d g budget r
+pub exact_answer : (d : Rounding) (g : Task) → CanPlan d g → (budget : ℕ) (r : Result CoarsePlan PlanErr) → CoarseAnswer d g budget r → ExactAnswer d g budget r
 exact_answer d g case budget r h e = plan_answer g (subst (λ x. CanPlan x g) e case) budget r (subst (λ x. CoarseAnswer x g budget r) e h)
 
 -- on a grid that is 1, 1 the coarse plan is the plan, and its score is the bound
-pub exact_plan : (d : Grid) (g : Task) → CanPlan d g → (budget : ℕ) (p : Plan) (most : ℤ) → d ≡ exact → IsPlanOf d g (grown d g) budget p most → IsPlanOf exact g (frontier g) budget p p.score
+pub exact_plan : (d : Rounding) (g : Task) → CanPlan d g → (budget : ℕ) (p : Plan) (most : ℤ) → d ≡ exact → IsPlanOf d g (grown d g) budget p most → IsPlanOf exact g (frontier g) budget p p.score
 exact_plan d g case budget p most e h = plan_is g (subst (λ x. CanPlan x g) e case) budget p most (subst (λ x. IsPlanOf x g (grown x g) budget p most) e h)

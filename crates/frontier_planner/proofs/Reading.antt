@@ -14,7 +14,7 @@ use Rattle.frontier_planner.specs.Linked.{HoldsAll, HoldsFrontier, StandsAt, Sta
 use Rattle.frontier_planner.proofs.Linking.{number_inside}
 use Rattle.lab_model.specs.declared.label.Label.{Label}
 use Rattle.lab_model.specs.Film.{rungs_of, segments_of}
-use Rattle.labels.specs.declared.label.Grid.{Grid}
+use Rattle.labels.specs.Grid.{Rounding}
 use Rattle.labels.specs.Labels.{AreRungs, label_at, next_label}
 use Rattle.player_core.specs.Scene.{IsTask, Task}
 use Rattle.labels.specs.Near.{CanFollow}
@@ -40,7 +40,7 @@ best_whole g [] some = absurd (omega (arith, some))
 best_whole g (c ∷ cs) some = ap (λ b. best_of (ends_higher g) b cs) (cond_same (ends_higher g c c) c)
 
 -- a coarse frontier's segment has a label
-pub labels_some : (d : Grid) (g : Task) → CanPlan d g → (i : ℕ) → i < segments_of g.film → 0 < length (grown_labels d g i)
+pub labels_some : (d : Rounding) (g : Task) → CanPlan d g → (i : ℕ) → i < segments_of g.film → 0 < length (grown_labels d g i)
 labels_some d g case i low =
     let rungs = case.task.film.rungs.0 in
     let rung : 0 < rungs_of g.film = omega (arith, rungs) in
@@ -50,7 +50,7 @@ labels_some d g case i low =
     omega (arith, inside)
 
 -- and so has the last segment
-pub last_some : (d : Grid) (g : Task) → CanPlan d g → (last : List Reached) → map pair_of last ≡ grown_labels d g (segments_of g.film - 1) → 0 < length last
+pub last_some : (d : Rounding) (g : Task) → CanPlan d g → (last : List Reached) → map pair_of last ≡ grown_labels d g (segments_of g.film - 1) → 0 < length last
 last_some d g case last is =
     let some = case.task.film.segments.0 in
     let many = labels_some d g case (segments_of g.film - 1) (omega (arith, some)) in
@@ -58,7 +58,7 @@ last_some d g case last is =
     omega (arith, many, same)
 
 -- a label of the last segment weighs no more than this
-pub end_fits : (d : Grid) (g : Task) → CanPlan d g → (last : List Reached) → map pair_of last ≡ grown_labels d g (segments_of g.film - 1) → (x : Reached) → Contains last x → x.label.p ≤ 2000000000000000
+pub end_fits : (d : Rounding) (g : Task) → CanPlan d g → (last : List Reached) → map pair_of last ≡ grown_labels d g (segments_of g.film - 1) → (x : Reached) → Contains last x → x.label.p ≤ 2000000000000000
 end_fits d g case last is x there =
     let some = case.task.film.segments.0 in
     let delay = (label_follows d g case (segments_of g.film - 1) (pair_of x) (omega (arith, some)) (subst (λ cs. Contains cs (pair_of x)) is (in_map pair_of last x there))).delay in
@@ -114,7 +114,7 @@ none_more a base r c k b none at tells fails q low there =
 
 -- ---- parents
 
-module _ (d : Grid) (g : Task) (a : Holdings) (h : HoldsAll d g a) (i : ℕ) (some : 1 ≤ i) (low : i < segments_of g.film) (x : Reached) (stands : StandsAt g a i x) where
+module _ (d : Rounding) (g : Task) (a : Holdings) (h : HoldsAll d g a) (i : ℕ) (some : 1 ≤ i) (low : i < segments_of g.film) (x : Reached) (stands : StandsAt g a i x) where
   -- the frontier in which the label stands
   own_frontier : HoldsFrontier d g a i x.rung
   own_frontier = h.holds i x.rung stands.0 (number_inside (segments_of g.film) (rungs_of g.film) i x.rung low stands.0)
@@ -161,7 +161,7 @@ module _ (d : Grid) (g : Task) (a : Holdings) (h : HoldsAll d g a) (i : ℕ) (so
       (sym (ap pair_of all) ∙ linked.2, subst (StandsAt g a (i - 1)) all at)
 
 -- the rungs up to a label are those up to its parent, and its own
-pub rungs_next : (d : Grid) (g : Task) (i : ℕ) (c b : ℕ × Label) → 1 ≤ i → b ≡ parent_of d g (grown d g) (i - 1) c → rungs_read d g i c ≡ rungs_read d g (i - 1) b ++ c.0 ∷ []
+pub rungs_next : (d : Rounding) (g : Task) (i : ℕ) (c b : ℕ × Label) → 1 ≤ i → b ≡ parent_of d g (grown d g) (i - 1) c → rungs_read d g i c ≡ rungs_read d g (i - 1) b ++ c.0 ∷ []
 rungs_next d g zero c b some is = absurd (omega (arith, some))
 rungs_next d g (suc i) c b some is =
     let e : suc i - 1 ≡ i = omega arith in

@@ -13,7 +13,7 @@ use Rattle.std.proofs.lemmas.List.Elements.{Contains-append_left, Contains-get_o
 use Rattle.std.proofs.lemmas.List.Sorted.{Contains-permutation, IsPermutation-sym, ranks_by}
 use Rattle.lab_model.specs.declared.label.Label.{Label}
 use Rattle.lab_model.specs.Film.{rungs_of, segments_of}
-use Rattle.labels.specs.declared.label.Grid.{Grid}
+use Rattle.labels.specs.Grid.{Rounding}
 use Rattle.labels.specs.Grown.{CanPlan, grown_labels}
 use Rattle.labels.specs.Labels.{came_at, next_label, request_at}
 use Rattle.player_core.specs.Scene.{IsTask, Task}
@@ -128,7 +128,7 @@ none_after_rung xs i d h low m there = none_behind (λ (a b : Followed). is_lt (
 
 -- ---- what is enough
 
-module _ (d : Grid) (g : Task) (case : CanPlan d g) (i : ℕ) (low : suc i < segments_of g.film) where
+module _ (d : Rounding) (g : Task) (case : CanPlan d g) (i : ℕ) (low : suc i < segments_of g.film) where
   -- a label that waits can be followed
   pub waiting_follows : (c : ℕ × Label) → Contains (grown_labels d g i) c → (c.0 < rungs_of g.film) × CanFollow (waiting g (suc i) c).1
   waiting_follows c h =
@@ -194,7 +194,7 @@ module _ (d : Grid) (g : Task) (case : CanPlan d g) (i : ℕ) (low : suc i < seg
 -- ---- the same, with the segment before
 
 -- labels in order that wait can be followed
-pub sorted_follow : (d : Grid) (g : Task) → CanPlan d g → (i : ℕ) (labels : List (ℕ × Label)) (waits sorted : List Followed) → 1 ≤ i → i < segments_of g.film → labels ≡ grown_labels d g (i - 1)
+pub sorted_follow : (d : Rounding) (g : Task) → CanPlan d g → (i : ℕ) (labels : List (ℕ × Label)) (waits sorted : List Followed) → 1 ≤ i → i < segments_of g.film → labels ≡ grown_labels d g (i - 1)
     → AreWaiting g i labels waits → IsPermutation waits sorted → All (λ (c : Followed). CanFollow c.label) sorted
 sorted_follow d g case zero labels waits sorted some low is made moved k e inside = absurd (omega (arith, some))
 sorted_follow d g case (suc i) labels waits sorted some low is made moved k e inside =
@@ -206,7 +206,7 @@ sorted_follow d g case (suc i) labels waits sorted some low is made moved k e in
     subst (λ (y : Followed). CanFollow y.label) b.2 (waiting_follows d g case i low (at d g case i low b.0) (there d g case i low b.0 b.1)).1
 
 -- their leaders are enough
-pub sorted_enough : (d : Grid) (g : Task) → CanPlan d g → (i : ℕ) (labels : List (ℕ × Label)) (waits sorted kept : List Followed) (most : ℕ) → 1 ≤ i → i < segments_of g.film → labels ≡ grown_labels d g (i - 1)
+pub sorted_enough : (d : Rounding) (g : Task) → CanPlan d g → (i : ℕ) (labels : List (ℕ × Label)) (waits sorted kept : List Followed) (most : ℕ) → 1 ≤ i → i < segments_of g.film → labels ≡ grown_labels d g (i - 1)
     → AreWaiting g i labels waits → IsPermutation waits sorted → CoversChange g i most → AreLeaders (most + d.value) sorted kept → AreEnough d g i (grown_labels d g (i - 1)) kept
 sorted_enough d g case zero labels waits sorted kept most some low is made moved covers lead = absurd (omega (arith, some))
 sorted_enough d g case (suc i) labels waits sorted kept most some low is made moved covers lead =

@@ -6,7 +6,7 @@ use Rattle.lab_model.specs.Film.{rungs_of, segments_of}
 use Rattle.label_arena.specs.Chains.{Holdings, Standing, StandsIn, StandsSealed, chain_at, linked_chain}
 use Rattle.label_arena.specs.declared.node.NodeId.{NodeId}
 use Rattle.label_arena.specs.declared.walk.Step.{Step}
-use Rattle.labels.specs.declared.label.Grid.{Grid}
+use Rattle.labels.specs.Grid.{Rounding}
 use Rattle.player_core.specs.Scene.{Task}
 use Rattle.labels.specs.Grown.{grown, grown_labels}
 use Rattle.labels.specs.Read.{no_label, parent_of}
@@ -45,41 +45,41 @@ abbrev pub StandsOn : Task → Holdings → ℕ → NodeId → Type 0
 StandsOn g a segment k = (q : ℕ) × (q < rungs_of g.film) × StandsIn a (segment * rungs_of g.film + q) k
 
 -- the labels of a segment, by rung, then place, as they stand in the arena
-pub record AreReached (d : Grid) (g : Task) (a : Holdings) (segment : ℕ) (reached : List Reached) : Type 0 where
+pub record AreReached (d : Rounding) (g : Task) (a : Holdings) (segment : ℕ) (reached : List Reached) : Type 0 where
   pub labels : map pair_of reached ≡ grown_labels d g segment
   pub stand : (x : Reached) → Contains reached x → StandsAt g a segment x
 
 -- the labels of the segment before one, and none for segment 0
-pub record AreBefore (d : Grid) (g : Task) (a : Holdings) (segment : ℕ) (reached : List Reached) : Type 0 where
+pub record AreBefore (d : Rounding) (g : Task) (a : Holdings) (segment : ℕ) (reached : List Reached) : Type 0 where
   pub first : segment ≡ 0 → reached ≡ []
   pub later : 0 < segment → AreReached d g a (segment - 1) reached
 
 -- ---- frontiers in the arena
 
 -- a node of a later segment is linked to the first label of the segment before whose rounded successor its label is
-abbrev pub IsLinked : Grid → Task → Holdings → ℕ → ℕ → Standing → Type 0
+abbrev pub IsLinked : Rounding → Task → Holdings → ℕ → ℕ → Standing → Type 0
 IsLinked d g a segment rung s =
     0 < segment → (x : Reached) × (s.parent ≡ Some x.node) × (pair_of x ≡ parent_of d g (grown d g) (segment - 1) (rung, s.label)) × StandsAt g a (segment - 1) x
 
 -- a sealed chain holds the coarse frontier of a segment and a rung
-pub record HoldsFrontier (d : Grid) (g : Task) (a : Holdings) (segment rung : ℕ) : Type 0 where
+pub record HoldsFrontier (d : Rounding) (g : Task) (a : Holdings) (segment rung : ℕ) : Type 0 where
   pub sealed : (chain_at a (segment * rungs_of g.film + rung)).sealed ≡ true
   pub labels : labels_held (chain_at a (segment * rungs_of g.film + rung)).nodes ≡ grown d g segment rung
   pub linked : (s : Standing) → Contains (chain_at a (segment * rungs_of g.film + rung)).nodes s → IsLinked d g a segment rung s
 
 -- the chains below a number hold their frontiers, and the others are open and empty
-pub record HoldsBelow (d : Grid) (g : Task) (a : Holdings) (number : ℕ) : Type 0 where
+pub record HoldsBelow (d : Rounding) (g : Task) (a : Holdings) (number : ℕ) : Type 0 where
   pub count : length a.chains ≡ segments_of g.film * rungs_of g.film
   pub holds : (i q : ℕ) → q < rungs_of g.film → i * rungs_of g.film + q < number → HoldsFrontier d g a i q
   pub empty : (c : ℕ) → number ≤ c → chain_at a c ≡ linked_chain [] false
 
 -- the chains of a segment hold its frontiers
-pub record HoldsSegment (d : Grid) (g : Task) (a : Holdings) (segment : ℕ) : Type 0 where
+pub record HoldsSegment (d : Rounding) (g : Task) (a : Holdings) (segment : ℕ) : Type 0 where
   pub count : length a.chains ≡ segments_of g.film * rungs_of g.film
   pub holds : (q : ℕ) → q < rungs_of g.film → HoldsFrontier d g a segment q
 
 -- all chains hold their frontiers
-abbrev pub HoldsAll : Grid → Task → Holdings → Type 0
+abbrev pub HoldsAll : Rounding → Task → Holdings → Type 0
 HoldsAll d g a = HoldsBelow d g a (segments_of g.film * rungs_of g.film)
 
 -- ---- a frontier that is added

@@ -4,10 +4,9 @@ use Rattle.std.specs.List.{Contains}
 use Rattle.std.specs.Ordering.{ordering_then, nat_cmp}
 use Rattle.std.specs.declared.cmp.Ordering.{Ordering}
 use Rattle.lab_model.specs.declared.label.Label.{Label}
-use Rattle.labels.specs.declared.label.Grid.{Grid}
 use Rattle.player_core.specs.Scene.{Task}
 use Rattle.labels.specs.Frontier.{undominated}
-use Rattle.labels.specs.Grid.{rounded}
+use Rattle.labels.specs.Grid.{Rounding, rounded}
 use Rattle.labels.specs.Grown.{grown, grown_labels}
 use Rattle.labels.specs.Labels.{next_label}
 use Rattle.labels.specs.Read.{no_label, parent_of}
@@ -28,7 +27,7 @@ abbrev pub labels_in : List Candidate → List Label
 labels_in cs = map (λ c. c.label) cs
 
 -- the rounded successor, to a segment on a rung, of a label that is followed
-abbrev pub follower : Grid → Task → ℕ → ℕ → Followed → Candidate
+abbrev pub follower : Rounding → Task → ℕ → ℕ → Followed → Candidate
 follower d g segment rung c = record { label = rounded d (next_label g segment c.rung c.label rung); parent = c.place }
 
 -- of candidates these have the labels that no other dominates, each once, with the least of its parents
@@ -38,11 +37,11 @@ pub record AreFirst (candidates kept : List Candidate) : Type 0 where
   pub first : (k c : Candidate) → Contains kept k → Contains candidates c → c.label ≡ k.label → k.parent ≤ c.parent
 
 -- the parent's place is that of the first label of the segment before whose rounded successor this one is
-pub record HasParent (d : Grid) (g : Task) (segment rung : ℕ) (k : Candidate) : Type 0 where
+pub record HasParent (d : Rounding) (g : Task) (segment rung : ℕ) (k : Candidate) : Type 0 where
   pub inside : k.parent < length (grown_labels d g (segment - 1))
   pub is : slice_index_or (grown_labels d g (segment - 1)) k.parent (0, no_label) ≡ parent_of d g (grown d g) (segment - 1) (rung, k.label)
 
 -- these are the coarse frontier of a segment and a rung, each label with the place of its parent
-pub record HaveParents (d : Grid) (g : Task) (segment rung : ℕ) (kept : List Candidate) : Type 0 where
+pub record HaveParents (d : Rounding) (g : Task) (segment rung : ℕ) (kept : List Candidate) : Type 0 where
   pub labels : labels_in kept ≡ grown d g segment rung
   pub parents : (k : Candidate) → Contains kept k → 0 < segment → HasParent d g segment rung k

@@ -4,7 +4,7 @@ use Rattle.std.specs.List.{Contains}
 use Rattle.lab_model.specs.declared.label.Label.{Label}
 use Rattle.lab_model.specs.Film.{rungs_of}
 use Rattle.lab_model.specs.Weighing.{change_of}
-use Rattle.labels.specs.declared.label.Grid.{Grid}
+use Rattle.labels.specs.Grid.{Rounding}
 use Rattle.labels.specs.Labels.{Dominates, next_label, request_at}
 use Rattle.player_core.specs.Scene.{Task}
 use Rattle.labels.specs.Near.{CanFollow}
@@ -44,12 +44,12 @@ pub record AreLeaders (slack : ℕ) (labels kept : List Followed) : Type 0 where
   pub above : (c : Followed) → Contains labels c → (b : Followed) × Contains kept b × ((b ≡ c) ⊎ LeadsBy slack b.label c.label)
 
 -- the successor of the first, to a segment on each rung, leads that of the second by a step of the grid
-abbrev pub LeadsOn : Grid → Task → ℕ → Followed → ℕ × Label → Type 0
+abbrev pub LeadsOn : Rounding → Task → ℕ → Followed → ℕ × Label → Type 0
 LeadsOn d g segment c b = (r : ℕ) → r < rungs_of g.film → LeadsBy d.value (next_label g segment c.rung c.label r) (next_label g segment b.0 b.1 r)
 
 -- for a segment it is enough to follow these instead of the labels before it: they can be followed as some of those are,
 -- and the others have successors that are led by a step of the grid
-pub record AreEnough (d : Grid) (g : Task) (segment : ℕ) (labels : List (ℕ × Label)) (kept : List Followed) : Type 0 where
+pub record AreEnough (d : Rounding) (g : Task) (segment : ℕ) (labels : List (ℕ × Label)) (kept : List Followed) : Type 0 where
   pub follow : (c : Followed) → Contains kept c → (c.rung < rungs_of g.film) × CanFollow c.label
   pub inside : (c : Followed) → Contains kept c → c.place < length labels
   pub within : (c : Followed) → Contains kept c → (r : ℕ)

@@ -1,28 +1,23 @@
 //! What is planned.
 
-ghost use Rattle.std.specs.Prelude.{◌≡◌, ◌-◌, ◌<◌, ◌≤◌};
+ghost use Rattle.std.specs.Prelude.{◌≡◌, ◌+◌, ◌-◌, ◌<◌, ◌≤◌};
 ghost use Rattle.lab_model.specs.Number.{IsNear};
 ghost use Rattle.lab_model.specs.Film.{rungs_of, segments_of};
-ghost use Rattle.labels.specs.Grid.{IsGrid, rounded};
-ghost use Rattle.labels.specs.Labels.{came_at, end_value, next_label, request_at, start_label};
+ghost use Rattle.labels.specs.Grid.{rounded};
+ghost use Rattle.labels.specs.Labels.{came_at, end_value, start_label};
 ghost use Rattle.labels.specs.Near.{CanFollow};
 ghost use Rattle.labels.specs.Read.{has_table};
 ghost use Rattle.frontier_planner.specs.Planning.{IsPlanning};
 
 use lab_model::{Label, Weights};
-use labels::{
-    Grid, done_on, end_value, next_on, request_on, round_label, start_on, successor_done, value_on,
-};
+use labels::{Grid, RungLabel, end_value, round_label, start_on};
 use player_core::Scene;
 use std::marker::Model;
-
-/// The grid on which nothing changes.
-const EXACT: Grid = Grid { time: 1, value: 1 };
 
 /// What is planned: a scene, and the grid on which labels are rounded.
 #[derive(Drop)]
 pub(crate) struct Brief<'a> {
-    scene: Scene<'a>,
+    scene: &'a Scene<'a>,
     grid: Grid,
 }
 
@@ -32,19 +27,18 @@ impl<'a> Model for Brief<'a> {
 
     ghost Value = { Planning };
 
-    ghost view = { λ b. record { scene = b.scene; grid = b.grid } };
+    ghost view = { λ b. record { scene = b.scene.now; grid = b.grid } };
 
-    ghost invariant = { λ b. CanPlan b.grid b.scene };
+    ghost invariant = { λ b. CanPlan b.grid b.scene.now };
 }
 
 impl<'a> Brief<'a> {
     /// The brief of a scene and a grid.
-    pub(crate) fn new(scene: Scene<'a>, grid: Grid) -> Brief<'a>
-        requires { IsGrid grid }
-        ensures value { result ≡ record { scene = scene.entry; grid = grid } }
+    pub(crate) fn new(scene: &'a Scene<'a>, grid: Grid) -> Brief<'a>
+        ensures value { result ≡ record { scene = scene.entry.now; grid = grid } }
         ensures can { IsPlanning result }
     {
-        prove!(scene.film().segments() > 0);
+        prove!(scene.film().segments() > 0 && grid.time() > 0);
         Brief { scene, grid }
     }
 
@@ -84,7 +78,7 @@ impl<'a> Brief<'a> {
         ensures value { result ≡ self.now.grid.value }
         ensures can { IsPlanning self.now }
     {
-        self.grid.value as u64
+        self.grid.value() as u64
     }
 
     /// The label on the grid. Its value lies within 9 * 10^17 of 0.
@@ -92,10 +86,18 @@ impl<'a> Brief<'a> {
         requires { IsNear 900000000000000000 label.v }
         ensures { result ≡ rounded self.now.grid label }
     {
-        if self.grid == EXACT {
+        if self.grid == Grid::exact() {
             return label;
         }
         round_label(self.grid, label)
+    }
+
+    /// The scene.
+    pub(crate) fn scene(&self) -> &'a Scene<'a>
+        ensures value { result.now ≡ self.now.scene }
+        ensures can { IsPlanning self.now }
+    {
+        self.scene
     }
 
     /// The label of segment 0 on a rung.
@@ -103,28 +105,20 @@ impl<'a> Brief<'a> {
         requires { rung < rungs_of self.now.scene.film }
         ensures { result ≡ start_label self.now.scene rung }
     {
-        start_on(&self.scene, rung)
+        start_on(self.scene, rung)
     }
 
-    /// The successor, to segment `segment` on `rung`, of a label of the segment before with its rung.
-    pub(crate) fn next(&self, segment: u16, old: (u8, Label), rung: u8) -> Label
+    /// The label of the segment before one, with its rung.
+    pub(crate) fn label_before(&self, segment: u16, old: (u8, Label)) -> RungLabel<'a>
         requires segment { (1 ≤ segment) × (segment < segments_of self.now.scene.film) }
-        requires old_rung { old.0 < rungs_of self.now.scene.film }
-        requires old { CanFollow old.1 }
-        requires rung { rung < rungs_of self.now.scene.film }
-        ensures { result ≡ next_label self.now.scene segment old.0 old.1 rung }
+        requires rung { old.0 < rungs_of self.now.scene.film }
+        requires label { CanFollow old.1 }
+        ensures scene { result.scene ≡ self.now.scene }
+        ensures next { result.segment + 1 ≡ segment }
+        ensures rung { result.rung ≡ old.0 }
+        ensures label { result.label ≡ old.1 }
     {
-        next_on(&self.scene, segment, old.0, old.1, rung)
-    }
-
-    /// The instant at which a segment is asked for after a label of the segment before.
-    pub(crate) fn request(&self, segment: u16, old: Label) -> u64
-        requires segment { segment < segments_of self.now.scene.film }
-        requires old { CanFollow old }
-        ensures value { result ≡ request_at self.now.scene segment old }
-        ensures limit { result ≤ 2000000000000000 }
-    {
-        request_on(&self.scene, segment, old)
+        RungLabel::new(self.scene, segment - 1, old.0, old.1)
     }
 
     /// The instant at which a segment is done on a rung that is asked for at an instant, at most 2 * 10^15.
@@ -134,32 +128,8 @@ impl<'a> Brief<'a> {
         requires rung { rung < rungs_of self.now.scene.film }
         ensures { result ≡ came_at self.now.scene request segment rung }
     {
-        done_on(&self.scene, request, segment, rung)
-    }
-
-    /// The same successor, where the segment is done at an instant.
-    pub(crate) fn next_done(&self, segment: u16, old: (u8, Label), rung: u8, done: u64) -> Label
-        requires segment { (1 ≤ segment) × (segment < segments_of self.now.scene.film) }
-        requires old_rung { old.0 < rungs_of self.now.scene.film }
-        requires old { CanFollow old.1 }
-        requires rung { rung < rungs_of self.now.scene.film }
-        requires done { done ≡ came_at self.now.scene
-            (request_at self.now.scene segment old.1) segment rung }
-        ensures { result ≡ next_label self.now.scene segment old.0 old.1 rung }
-    {
-        let (old_rung, label) = old;
-        successor_done(&self.scene, segment, old_rung, label, rung, done)
-    }
-
-    /// The value of the successor.
-    pub(crate) fn next_value(&self, segment: u16, old: (u8, Label), rung: u8) -> i64
-        requires segment { segment < segments_of self.now.scene.film }
-        requires old_rung { old.0 < rungs_of self.now.scene.film }
-        requires old { CanFollow old.1 }
-        requires rung { rung < rungs_of self.now.scene.film }
-        ensures { result ≡ (next_label self.now.scene segment old.0 old.1 rung).v }
-    {
-        value_on(&self.scene, segment, old.0, old.1.v, rung)
+        let size = self.scene.film().size(segment, rung);
+        self.scene.clock().finish(request, size).done
     }
 
     /// What a label comes to at the end, in thousandths of a point.

@@ -13,7 +13,7 @@ use crate::chains::{Reached, add_frontier, chain_count, chain_of, reached_labels
 use crate::grow::frontier;
 use crate::plans::PlanErr;
 use crate::thin::{Followed, labels_to_follow};
-use lab_model::Label;
+use lab_model::{Budget, Label};
 use label_arena::Arena;
 use std::alloc::{AllocError, Global};
 
@@ -91,19 +91,19 @@ pub struct Frontiers {
     pub labels: u32,
 }
 
-/// The frontiers of all segments, which may have as many labels as the budget, at most 1000000.
-pub fn grown_frontiers(alloc: Global, brief: &Brief, budget: u32) -> Result<Frontiers, PlanErr>
-    requires { budget ≤ 1000000 }
+/// The frontiers of all segments, which may have as many labels as the budget.
+pub fn grown_frontiers(alloc: Global, brief: &Brief, budget: Budget) -> Result<Frontiers, PlanErr>
     ensures { FrontiersAnswer brief.now.grid brief.now.scene budget result }
 {
     let mut arena = Arena::with_room(alloc, chain_count(brief), 0)?;
-    let mut left = budget;
+    let most = budget.labels();
+    let mut left = most;
     for segment in 0..brief.segments() {
         left = grow_segment(alloc, brief, segment, &mut arena, left)?;
     }
     Ok(Frontiers {
         arena,
-        labels: budget - left,
+        labels: most - left,
     })
 }
 

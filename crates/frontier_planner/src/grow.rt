@@ -180,9 +180,10 @@ fn successors(
         done: brief.done(0, segment, rung),
     };
     for old in followed {
-        let request = brief.request(segment, old.label);
+        let here = brief.label_before(segment, (old.rung, old.label));
+        let request = here.request();
         known = fetch_at(brief, segment, rung, request, known);
-        let next = brief.next_done(segment, (old.rung, old.label), rung, known.done);
+        let next = here.next_done(rung, known.done);
         made.push(Candidate {
             label: brief.round(next),
             parent: old.place,

@@ -56,15 +56,12 @@ fn name_of(
         (next_label brief.now.scene (segment + 1) reached.0 reached.1 rung) }
 {
     prove!(brief.segments() > 0);
+    let here = brief.label_before(segment + 1, reached);
     if finder.climbs {
-        let value = brief.next_value(segment + 1, reached, rung);
+        let value = here.next_value(rung);
         return place_of_value(chain, hint, value) as u32;
     }
-    first_above(
-        chain,
-        &finder.levels,
-        brief.next(segment + 1, reached, rung),
-    )
+    first_above(chain, &finder.levels, here.next(rung))
 }
 
 /// The name that stands so many places before the end, as a hint for the next one, and 0 where there is none.

@@ -1,11 +1,11 @@
 //! The planner.
 
 ghost use Rattle.std.specs.Prelude.{◌≡◌, ◌≤◌, IfOk, length};
-ghost use Rattle.lab_model.specs.Film.{segments_of};
+ghost use Rattle.lab_model.specs.Limits.{all_ahead, most_budget};
+ghost use Rattle.lab_model.specs.Film.{IsWithin, segments_of};
 ghost use Rattle.lab_model.specs.Fit.{SetupFits};
-ghost use Rattle.player_core.specs.Available.{all_ahead};
 ghost use Rattle.labels.specs.Frontier.{frontier};
-ghost use Rattle.labels.specs.Grid.{IsGrid, exact};
+ghost use Rattle.labels.specs.Grid.{exact};
 ghost use Rattle.labels.specs.Grown.{grown};
 ghost use Rattle.player_core.specs.Scene.{task_of};
 ghost use Rattle.frontier_planner.specs.Linked.{HoldsAll};
@@ -17,13 +17,12 @@ use crate::chains::reached_labels;
 use crate::frontiers::{Frontiers, Layer, grown_frontiers, layers_of};
 use crate::names::{chains, starts};
 use crate::plans::{BoundedList, CoarsePlan, PlanErr};
-use crate::read::{best_end, rungs_to, value_of_list};
-use lab_model::{Label, Manifest, Setup};
+use crate::read::{best_end, rungs_to};
+use lab_model::{Budget, Label, Manifest, Setup};
 use label_arena::Arena;
-use labels::{Grid, Plan};
+use labels::{Grid, Plan, value_of_list};
 use network_clock::Clock;
 use player_core::Scene;
-use player_core::limits::ALL_AHEAD_MS;
 use std::alloc::{AllocError, Global};
 
 /// The frontiers, with the list that is read off them.
@@ -59,14 +58,13 @@ fn ending_of(alloc: Global, brief: &Brief, arena: &Arena) -> Result<Ending, Allo
 }
 
 /// The frontiers of a brief, which may have as many labels as the budget, and the list that is read off them.
-fn outline_of(alloc: Global, brief: &Brief, budget: u32) -> Result<Outline, PlanErr>
-    requires { (1 ≤ budget) × (budget ≤ 1000000) }
+fn outline_of(alloc: Global, brief: &Brief, budget: Budget) -> Result<Outline, PlanErr>
     ensures { OutlineAnswer brief.now.grid brief.now.scene budget result }
 {
     prove!(brief.segments() > 0);
     let Frontiers { arena, labels } = grown_frontiers(alloc, brief, budget)?;
     let Ending { end, rungs } = ending_of(alloc, brief, &arena)?;
-    let score = value_of_list(brief, &rungs);
+    let score = value_of_list(brief.scene(), &rungs);
     let list = BoundedList {
         rungs,
         score,
@@ -77,8 +75,7 @@ fn outline_of(alloc: Global, brief: &Brief, budget: u32) -> Result<Outline, Plan
 }
 
 /// The list of a brief, whose frontiers may have as many labels as the budget.
-fn list_of(alloc: Global, brief: &Brief, budget: u32) -> Result<BoundedList, PlanErr>
-    requires { (1 ≤ budget) × (budget ≤ 1000000) }
+fn list_of(alloc: Global, brief: &Brief, budget: Budget) -> Result<BoundedList, PlanErr>
     ensures { ListAnswer brief.now.grid brief.now.scene
         (grown brief.now.grid brief.now.scene) budget result }
 {
@@ -95,11 +92,11 @@ fn layers_within(alloc: Global, brief: &Brief, arena: Arena) -> Result<Vec<Layer
 }
 
 /// The plan of a brief, whose frontiers may have as many labels as the budget.
-fn plan_of(alloc: Global, brief: &Brief, budget: u32) -> Result<CoarsePlan, PlanErr>
-    requires { (1 ≤ budget) × (budget ≤ 1000000) }
+fn plan_of(alloc: Global, brief: &Brief, budget: Budget) -> Result<CoarsePlan, PlanErr>
     ensures { CoarseAnswer brief.now.grid brief.now.scene budget result }
 {
     prove!(brief.segments() > 0);
+    prove!(budget.labels() > 0);
     let Outline { list, arena } = outline_of(alloc, brief, budget)?;
     let layers = layers_within(alloc, brief, arena)?;
     let plan = Plan {
@@ -117,54 +114,34 @@ fn plan_of(alloc: Global, brief: &Brief, budget: u32) -> Result<CoarsePlan, Plan
 }
 
 /// The list on a grid with its score and a bound, as `plan_from` has them, without what certifies it: neither names nor
-/// starts are sought, and no chain is copied. `ahead` is at most 120000000 milliseconds, and the budget 1 to 1000000:
-/// `BudgetSpent` names the first segment at whose end the frontiers have more labels. On the grid 1, 1 the list is the
-/// best one, and the bound is its score.
+/// starts are sought, and no chain is copied. `BudgetSpent` names the first segment at whose end the frontiers have more
+/// labels than the budget. On the grid 1, 1 the list is the best one, and the bound is its score.
 pub fn list_from(
     alloc: Global,
-    film: &Manifest,
-    clock: &Clock,
-    setup: &Setup,
-    ahead: u32,
+    scene: &Scene<'_>,
     grid: Grid,
-    budget: u32,
+    budget: Budget,
 ) -> Result<BoundedList, PlanErr>
-    requires setup { SetupFits setup.now film.now }
-    requires ahead { ahead ≤ 120000000 }
-    requires grid { IsGrid grid }
-    requires budget { (1 ≤ budget) × (budget ≤ 1000000) }
-    ensures coarse { let task = task_of film.now clock.now setup.now ahead in
-        ListAnswer grid task (grown grid task) budget result }
-    ensures exact { let task = task_of film.now clock.now setup.now ahead in
-        grid ≡ exact → ListAnswer exact task (frontier task) budget result }
+    ensures coarse { ListAnswer grid scene.now (grown grid scene.now) budget result }
+    ensures exact { grid ≡ exact → ListAnswer exact scene.now (frontier scene.now) budget result }
     ensures bound { grid ≡ exact → IfOk result (λ b. b.bound ≡ b.score) }
 {
-    let scene = Scene::new(film, clock, setup, ahead);
-    list_of(alloc, &Brief::new(scene, grid), budget)
+    list_of(alloc, &Brief::new(&*scene, grid), budget)
 }
 
-/// The plan on a grid, where `ahead` milliseconds of media, at most 120000000, are there at instant 0. The
-/// frontiers may have as many labels as the budget, 1 to 1000000: `BudgetSpent` names the first segment at whose
-/// end they have more.
+/// The plan of a scene on a grid. The frontiers may have as many labels as the budget: `BudgetSpent` names the first
+/// segment at whose end they have more.
 pub fn plan_from(
     alloc: Global,
-    film: &Manifest,
-    clock: &Clock,
-    setup: &Setup,
-    ahead: u32,
+    scene: &Scene<'_>,
     grid: Grid,
-    budget: u32,
+    budget: Budget,
 ) -> Result<CoarsePlan, PlanErr>
-    requires setup { SetupFits setup.now film.now }
-    requires ahead { ahead ≤ 120000000 }
-    requires grid { IsGrid grid }
-    requires budget { (1 ≤ budget) × (budget ≤ 1000000) }
-    ensures coarse { CoarseAnswer grid (task_of film.now clock.now setup.now ahead) budget result }
-    ensures exact { ExactAnswer grid (task_of film.now clock.now setup.now ahead) budget result }
+    ensures coarse { CoarseAnswer grid scene.now budget result }
+    ensures exact { ExactAnswer grid scene.now budget result }
     ensures bound { grid ≡ exact → IfOk result (λ c. c.bound ≡ c.plan.score) }
 {
-    let scene = Scene::new(film, clock, setup, ahead);
-    plan_of(alloc, &Brief::new(scene, grid), budget)
+    plan_of(alloc, &Brief::new(&*scene, grid), budget)
 }
 
 /// The plan of a film on demand: the best rung list, with its frontiers. They may have as many labels as the
@@ -177,9 +154,12 @@ pub fn plan(
     budget: u32,
 ) -> Result<Plan, PlanErr>
     requires setup { SetupFits setup.now film.now }
-    requires budget { (1 ≤ budget) × (budget ≤ 1000000) }
+    requires budget { IsWithin 1 most_budget budget }
     ensures { PlanAnswer (task_of film.now clock.now setup.now all_ahead) budget result }
 {
-    let exact = Grid { time: 1, value: 1 };
-    Ok(plan_from(alloc, film, clock, setup, ALL_AHEAD_MS, exact, budget)?.plan)
+    let Some(budget) = Budget::new(budget) else {
+        unreachable!()
+    };
+    let scene = Scene::on_demand(film, clock, setup);
+    Ok(plan_from(alloc, &scene, Grid::exact(), budget)?.plan)
 }

@@ -112,18 +112,3 @@ pub fn rungs_to(
     rungs.push(reached.rung)?;
     Ok(rungs)
 }
-
-/// What the labels along a rung list end at.
-pub fn value_of_list(brief: &Brief, rungs: &[u8]) -> i128
-    requires { AreRungs
-        brief.now.scene (segments_of brief.now.scene.film) rungs.now }
-    ensures { result ≡ list_value brief.now.scene rungs.now }
-{
-    prove!(brief.segments() > 0);
-    let mut label = brief.start(rungs[0]);
-    for segment in 1..brief.segments() {
-        let old_rung = rungs[segment as usize - 1];
-        label = brief.next(segment, (old_rung, label), rungs[segment as usize]);
-    }
-    brief.end_value(label)
-}

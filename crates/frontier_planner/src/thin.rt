@@ -39,13 +39,15 @@ fn waiting_labels(
     before: &[Reached],
 ) -> Result<Vec<Followed>, AllocError>
     requires segment { (1 ≤ segment) × (segment < segments_of brief.now.scene.film) }
-    requires before { All (λ c. CanFollow c.label) before.now }
+    requires before { All
+        (λ c. (c.rung < rungs_of brief.now.scene.film) × CanFollow c.label) before.now }
     ensures { IfOk result (λ v. AreWaiting brief.now.scene segment
         (map pair_of before.now) v.items) }
 {
     let mut waits = Vec::with_capacity(alloc, before.len())?;
     for old in before {
-        let request = brief.request(segment, old.label);
+        let here = brief.label_before(segment, (old.rung, old.label));
+        let request = here.request();
         let place = waits.len();
         waits.push(Followed {
             rung: old.rung,

@@ -1,17 +1,17 @@
 //! The planner on a grid.
 
 ghost use Rattle.std.specs.Prelude.{◌≡◌, ◌≤◌, IfOk};
+ghost use Rattle.lab_model.specs.Limits.{all_ahead, most_budget};
 ghost use Rattle.lab_model.specs.Fit.{SetupFits};
-ghost use Rattle.player_core.specs.Available.{all_ahead};
 ghost use Rattle.player_core.specs.Scene.{task_of};
-ghost use Rattle.labels.specs.Grid.{IsGrid, exact};
+ghost use Rattle.labels.specs.Grid.{exact};
 ghost use Rattle.frontier_planner.specs.Planned.{CoarseAnswer, ExactAnswer};
 ghost use Rattle.gap_plan.specs.Gap.{CertifiesGap};
 
 use frontier_planner::{CoarsePlan, Grid, PlanErr, plan_from};
-use lab_model::{Manifest, Setup};
+use lab_model::{Budget, Manifest, Setup};
 use network_clock::Clock;
-use player_core::limits::ALL_AHEAD_MS;
+use player_core::Scene;
 use std::alloc::Global;
 
 /// The plan of a film on demand on a grid: the rung list that is read off the coarse frontiers with its true value, and
@@ -26,8 +26,7 @@ pub fn plan_coarse(
     budget: u32,
 ) -> Result<CoarsePlan, PlanErr>
     requires setup { SetupFits setup.now film.now }
-    requires grid { IsGrid grid }
-    requires budget { (1 ≤ budget) × (budget ≤ 1000000) }
+    requires budget { (1 ≤ budget) × (budget ≤ most_budget) }
     ensures coarse { CoarseAnswer grid (task_of film.now clock.now setup.now all_ahead)
         budget result }
     // Its gap certificate has a text and is valid.
@@ -38,5 +37,8 @@ pub fn plan_coarse(
         budget result }
     ensures bound { grid ≡ exact → IfOk result (λ c. c.bound ≡ c.plan.score) }
 {
-    plan_from(alloc, film, clock, setup, ALL_AHEAD_MS, grid, budget)
+    match Budget::new(budget) {
+        Some(budget) => plan_from(alloc, &Scene::on_demand(film, clock, setup), grid, budget),
+        None => unreachable!(),
+    }
 }

@@ -123,8 +123,6 @@ impl Inputs {
         ensures { IfOk result (λ c. IsGapCertificate (plan_gap self.now.film c)) }
     {
         assert!(rt; self.setup.fits(&self.film));
-        assert!(rt; 1 <= grid.time && grid.time <= 10_000);
-        assert!(rt; 1 <= grid.value && grid.value <= 1_000_000);
         assert!(rt; 1 <= budget && budget <= 1_000_000);
         match plan_coarse(alloc, &self.film, &self.clock, &self.setup, grid, budget) {
             Ok(coarse) => Ok(coarse),
@@ -169,10 +167,7 @@ const TABLE_PLANS: [Row; 4] = [
 fn assert_plans(rt: &impl Abort, alloc: Global, case: &Case, rows: &[Row]) -> Result<(), Fail> {
     let inputs = Inputs::of(alloc, case)?;
     for ((time, value), told) in rows {
-        let grid = Grid {
-            time: *time,
-            value: *value,
-        };
+        let grid = Grid::new(*time, *value).ok_or("not a grid")?;
         let coarse = inputs
             .plan(rt, alloc, grid, 200_000)
             .map_err(|_| "no plan")?;
@@ -193,15 +188,14 @@ fn coarse_plans(rt: HostRuntime) -> Result<(), Fail> {
 }
 
 /// The grid of the example coarse-grid.
-const COARSE: Grid = Grid {
-    time: 4000,
-    value: 1,
-};
+fn coarse_grid() -> Result<Grid, Fail> {
+    Ok(Grid::new(4000, 1).ok_or("not a grid")?)
+}
 
 #[test]
 fn coarse_budget(rt: HostRuntime) -> Result<(), Fail> {
     let alloc = rt.alloc();
-    let answer = Inputs::of(alloc, &SLOW)?.plan(&rt, alloc, COARSE, 11);
+    let answer = Inputs::of(alloc, &SLOW)?.plan(&rt, alloc, coarse_grid()?, 11);
     assert_eq!(rt;
         answer.map(|c| c.bound),
         Err(PlanErr::BudgetSpent { segment: 2 })
@@ -244,7 +238,7 @@ end
 fn coarse_grid_text(rt: HostRuntime) -> Result<(), Fail> {
     let alloc = rt.alloc();
     let inputs = Inputs::of(alloc, &SLOW)?;
-    let Ok(coarse) = inputs.plan(&rt, alloc, COARSE, 200_000) else {
+    let Ok(coarse) = inputs.plan(&rt, alloc, coarse_grid()?, 200_000) else {
         return Err("no plan".into());
     };
     let mut out = SureSink::new(alloc);

@@ -19,52 +19,52 @@ abbrev pub json_of : List ℕ → Option Data
 json_of bytes = if is_utf8 bytes then read bytes else None
 
 -- the same value, or that the bytes are no JSON
-abbrev pub value_of : List ℕ → Result Data Fault
-value_of bytes = or_fault fault.NotJson (json_of bytes)
+abbrev pub json_value_of : List ℕ → Result Data Fault
+json_value_of bytes = or_fault fault.NotJson (json_of bytes)
 
 -- the value, if it is an object
 abbrev pub object_of : Data → Result Data Fault
 object_of d = if is_some (as_object d) then Ok d else Err fault.WrongKind
 
 -- the members, one by one
-abbrev pub members_of : Items → List Data
-members_of no_items = []
-members_of (item d ds) = d ∷ members_of ds
+abbrev pub json_members : Items → List Data
+json_members no_items = []
+json_members (item d ds) = d ∷ json_members ds
 
 -- the members of a list
 abbrev pub list_of : Data → Result (List Data) Fault
-list_of d = or_fault fault.WrongKind (option_map members_of (as_array d))
+list_of d = or_fault fault.WrongKind (option_map json_members (as_array d))
 
 -- the value under a key of an object
 abbrev pub member_of : List ℕ → Data → Result Data Fault
 member_of key d = or_fault fault.MissingKey (get key d)
 
 -- a number from the least to the most
-abbrev pub in_range : ℕ → ℕ → ℕ → Result ℕ Fault
-in_range least most n = if nat_le least n && nat_le n most then Ok n else Err fault.OutOfRange
+abbrev pub json_number_within : ℕ → ℕ → ℕ → Result ℕ Fault
+json_number_within least most n = if nat_le least n && nat_le n most then Ok n else Err fault.OutOfRange
 
 -- a number that `as_u64` gives is tested by its range; another whole one is negative, and so out of range
-abbrev pub whole_of : ℕ → ℕ → Num → Option ℕ → Result ℕ Fault
-whole_of least most x (Some n) = in_range least most n
-whole_of least most x None = if is_some (as_i64 x) then Err fault.OutOfRange else Err fault.NotWhole
+abbrev pub whole_json_number : ℕ → ℕ → Num → Option ℕ → Result ℕ Fault
+whole_json_number least most x (Some n) = json_number_within least most n
+whole_json_number least most x None = if is_some (as_i64 x) then Err fault.OutOfRange else Err fault.NotWhole
 
 -- the tests of a number that was found: that it is whole, and its range
 abbrev pub number_found : ℕ → ℕ → Option Num → Result ℕ Fault
-number_found least most (Some x) = whole_of least most x (as_u64 x)
+number_found least most (Some x) = whole_json_number least most x (as_u64 x)
 number_found least most None = Err fault.WrongKind
 
 -- the tests of a number: its kind, that it is whole, and its range
-abbrev pub number_of : ℕ → ℕ → Data → Result ℕ Fault
-number_of least most d = number_found least most (as_number d)
+abbrev pub json_number_of : ℕ → ℕ → Data → Result ℕ Fault
+json_number_of least most d = number_found least most (as_number d)
 
 -- the number that a member is, if there is the member
 abbrev pub member_number : ℕ → ℕ → Result Data Fault → Result ℕ Fault
-member_number least most (Ok d) = number_of least most d
+member_number least most (Ok d) = json_number_of least most d
 member_number least most (Err f) = Err f
 
 -- the number under a key of an object
-abbrev pub number_at : List ℕ → ℕ → ℕ → Data → Result ℕ Fault
-number_at key least most d = member_number least most (member_of key d)
+abbrev pub json_number_at : List ℕ → ℕ → ℕ → Data → Result ℕ Fault
+json_number_at key least most d = member_number least most (member_of key d)
 
 -- the list that a member is, if there is the member
 abbrev pub member_list : Result Data Fault → Result (List Data) Fault
@@ -76,12 +76,12 @@ abbrev pub list_at : List ℕ → Data → Result (List Data) Fault
 list_at key d = member_list (member_of key d)
 
 -- a call answered the value, as `seen` sees it, or the fault
-abbrev pub Answers : {X Y E : Type 0} → (X → Y) → Result X E → Result Y E → Type 0
-Answers seen (Ok x) r = r ≡ Ok (seen x)
-Answers seen (Err e) r = r ≡ Err e
+abbrev pub AnswersJson : {X Y E : Type 0} → (X → Y) → Result X E → Result Y E → Type 0
+AnswersJson seen (Ok x) r = r ≡ Ok (seen x)
+AnswersJson seen (Err e) r = r ≡ Err e
 
 -- the same, but that the call may have been out of memory
-abbrev pub Reads : {X Y : Type 0} → (X → Y) → Result X ReadErr → Result Y Fault → Type 0
-Reads seen (Ok x) r = r ≡ Ok (seen x)
-Reads seen (Err errors.Memory) r = Unit {0}
-Reads seen (Err (errors.Fault f)) r = r ≡ Err f
+abbrev pub ReadsJson : {X Y : Type 0} → (X → Y) → Result X ReadErr → Result Y Fault → Type 0
+ReadsJson seen (Ok x) r = r ≡ Ok (seen x)
+ReadsJson seen (Err errors.Memory) r = Unit {0}
+ReadsJson seen (Err (errors.Fault f)) r = r ≡ Err f

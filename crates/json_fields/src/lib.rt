@@ -8,7 +8,7 @@
 
 ghost use Rattle.std.specs.Prelude.{◌≡◌, ◌≤◌, IfOk, map};
 ghost use Rattle.serde_json.specs.View.{view};
-ghost use Rattle.json_fields.specs.Fields.{list_at, list_of, member_of, number_at, number_of, object_of, value_of, Answers, Reads};
+ghost use Rattle.json_fields.specs.Fields.{list_at, list_of, member_of, json_number_at, json_number_of, object_of, json_value_of, AnswersJson, ReadsJson};
 
 use serde_json::{Category, Value};
 use std::alloc::Global;
@@ -40,7 +40,7 @@ pub enum ReadErr {
 /// The value of a whole JSON text. The fault is `NotJson`, exactly where `serde_json` refuses the
 /// bytes for another cause than memory.
 pub fn json_value(alloc: Global, bytes: &[u8]) -> Result<Value, ReadErr>
-    ensures { Reads view result (value_of bytes.now) }
+    ensures { ReadsJson view result (json_value_of bytes.now) }
 {
     match Value::from_slice(alloc, bytes) {
         Ok(value) => Ok(value),
@@ -53,7 +53,7 @@ pub fn json_value(alloc: Global, bytes: &[u8]) -> Result<Value, ReadErr>
 
 /// The value itself, if it is an object; else `WrongKind`.
 pub fn object_from(value: &Value) -> Result<&Value, Fault>
-    ensures { Answers (λ v. view v.now) result (object_of (view value.now)) }
+    ensures { AnswersJson (λ v. view v.now) result (object_of (view value.now)) }
 {
     if value.is_object() {
         Ok(value)
@@ -65,7 +65,7 @@ pub fn object_from(value: &Value) -> Result<&Value, Fault>
 /// The members of a list; of another value `WrongKind`.
 #[tactic(auto, using(crate::proofs::Members::members_view))]
 pub fn list_from(value: &Value) -> Result<&[Value], Fault>
-    ensures { Answers (λ v. map view v.now) result (list_of (view value.now)) }
+    ensures { AnswersJson (λ v. map view v.now) result (list_of (view value.now)) }
 {
     match value.as_array() {
         Some(values) => Ok(values),
@@ -75,7 +75,7 @@ pub fn list_from(value: &Value) -> Result<&[Value], Fault>
 
 /// The value under a key of an object; `MissingKey` where it is lacking.
 pub fn member_from<'a>(object: &'a Value, key: &str) -> Result<&'a Value, Fault>
-    ensures { Answers (λ v. view v.now) result (member_of key.now (view object.now)) }
+    ensures { AnswersJson (λ v. view v.now) result (member_of key.now (view object.now)) }
 {
     match object.get(key) {
         Some(value) => Ok(value),
@@ -85,7 +85,7 @@ pub fn member_from<'a>(object: &'a Value, key: &str) -> Result<&'a Value, Fault>
 
 /// A whole number from `least` to `most`; else `WrongKind`, `NotWhole` or `OutOfRange`, the first that holds.
 pub fn number_from(value: &Value, least: u32, most: u32) -> Result<u32, Fault>
-    ensures { Answers (λ n. n) result (number_of least most (view value.now)) }
+    ensures { AnswersJson (λ n. n) result (json_number_of least most (view value.now)) }
 {
     let Some(number) = value.as_number() else {
         return Err(Fault::WrongKind);
@@ -108,14 +108,14 @@ pub fn number_from(value: &Value, least: u32, most: u32) -> Result<u32, Fault>
 /// The whole number from `least` to `most` under a key of an object; else `MissingKey`, or the fault
 /// of [`number_from`].
 pub fn number_under(object: &Value, key: &str, least: u32, most: u32) -> Result<u32, Fault>
-    ensures { Answers (λ n. n) result (number_at key.now least most (view object.now)) }
+    ensures { AnswersJson (λ n. n) result (json_number_at key.now least most (view object.now)) }
 {
     number_from(member_from(object, key)?, least, most)
 }
 
 /// The members of the list under a key of an object; else `MissingKey` or `WrongKind`.
 pub fn list_under<'a>(object: &'a Value, key: &str) -> Result<&'a [Value], Fault>
-    ensures { Answers (λ v. map view v.now) result (list_at key.now (view object.now)) }
+    ensures { AnswersJson (λ v. map view v.now) result (list_at key.now (view object.now)) }
 {
     list_from(member_from(object, key)?)
 }

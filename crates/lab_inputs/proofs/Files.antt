@@ -15,7 +15,7 @@ use Rattle.lab_inputs.specs.declared.fetch.FileErr.TheVariants as err
 use Rattle.lab_inputs.specs.declared.stop.FileFault.{FileFault}
 use Rattle.lab_inputs.specs.declared.stop.FileFault.TheVariants as fault
 use Rattle.lab_inputs.specs.Files.{Files, bytes_of, file_in}
-use Rattle.lab_inputs.specs.Roles.{NamedFile, row_of}
+use Rattle.lab_inputs.specs.Roles.{NamedFile, role_row}
 use Rattle.lab_inputs.specs.Stages.{Asks, AsksSome, Reads, err_of}
 
 -- the shelf was asked for nothing
@@ -27,7 +27,7 @@ pub asks_all : (files : List NamedFile) (old new : Shelved) → Asks files old n
 asks_all files old new a = record { asked = files; later = []; split = sym (append-nil files); asks = a }
 
 -- a call that wanted memory counts, or does not
-pub fetch_wanted : (file : NamedFile) (old new : Shelved) → Fetches old file.1 ((row_of file.0).limit + 1) new (Err fetch.Memory) → AsksSome (file ∷ []) old new
+pub fetch_wanted : (file : NamedFile) (old new : Shelved) → Fetches old file.1 ((role_row file.0).limit + 1) new (Err fetch.Memory) → AsksSome (file ∷ []) old new
 fetch_wanted file old new f = elim f.asked as (λ x. AsksSome (file ∷ []) old new) [
   | inl more ↦ record { asked = file ∷ []; later = []; split = refl; asks = record { asked = more; files = f.files; faults = f.faults; sure = f.sure; steady = f.steady } }
   | inr same ↦ record { asked = []; later = file ∷ []; split = refl; asks = record { asked = same ∙ sym (append-nil old.asked); files = f.files; faults = f.faults; sure = f.sure; steady = f.steady } }

@@ -21,10 +21,10 @@ use Rattle.trace_reader.specs.TraceCsv.{trace_csv_of}
 use Rattle.trace_reader.proofs.Accepted.{trace_csv-limits, trace_json-limits}
 use Rattle.lab_inputs.specs.declared.role.Role.{Role}
 use Rattle.lab_inputs.specs.declared.role.Role.TheVariants as role
-use Rattle.utility_table.specs.Table.{utilities_of}
+use Rattle.utility_table.specs.Table.{table_utilities}
 use Rattle.utility_table.proofs.Limits.{utilities-fit}
 use Rattle.lab_inputs.specs.Contents.{ContentValues, IsTable, is_csv, trace_of, with_certificate, with_film, with_network, with_seeks, with_table}
-use Rattle.lab_inputs.specs.Roles.{NamedFile, certificate_role, later_files, optional_file, row_of, trace_files, trace_role, traces_from}
+use Rattle.lab_inputs.specs.Roles.{NamedFile, certificate_role, later_files, optional_file, role_row, trace_files, trace_role, traces_from}
 use Rattle.lab_inputs.proofs.Steps.{ok_same}
 use Rattle.lab_inputs.proofs.Tables.{no_table_is, table_is}
 
@@ -45,13 +45,13 @@ network_within name bytes v w h k =
     subst AreWithin x.2 (record { film = k.film; table = k.table; networks = All-push (λ (n : Text × List Period). IsTrace n.1) v.networks (name, x.0) k.networks limits })
 
 -- what one file more adds keeps the limits
-pub adds_within : (r : Role) (name bytes : Text) (v w : ContentValues) → (row_of r).adds name v bytes ≡ Ok w → AreWithin v → AreWithin w
+pub adds_within : (r : Role) (name bytes : Text) (v w : ContentValues) → (role_row r).adds name v bytes ≡ Ok w → AreWithin v → AreWithin w
 adds_within role.Manifest name bytes v w h k =
     let x = map_ok-ok (with_film v) (manifest_of bytes) w h in
     let film = manifest-limits bytes x.0 x.1 in
     subst AreWithin x.2 (record { film = film; table = no_table_is x.0 film; networks = k.networks })
 adds_within role.Utilities name bytes v w h k =
-    let x = map_ok-ok (with_table v) (utilities_of bytes (segments_of v.film) (rungs_of v.film)) w h in
+    let x = map_ok-ok (with_table v) (table_utilities bytes (segments_of v.film) (rungs_of v.film)) w h in
     let fit = utilities-fit bytes (segments_of v.film) (rungs_of v.film) x.0 k.film.rungs k.film.segments x.1 in
     subst AreWithin x.2 (record { film = k.film; table = table_is v.film x.0 k.film fit; networks = k.networks })
 adds_within role.Trace name bytes v w h k = network_within name bytes v w h k
@@ -84,10 +84,10 @@ count_kept : (v w : ContentValues) → w.networks ≡ v.networks → length w.ne
 count_kept v w e = let k = ap length e in omega (arith, k)
 
 -- one file more adds as many networks as its role says
-pub adds_count : (r : Role) (name bytes : Text) (v w : ContentValues) → (row_of r).adds name v bytes ≡ Ok w → length w.networks ≡ length v.networks + networks_in r
+pub adds_count : (r : Role) (name bytes : Text) (v w : ContentValues) → (role_row r).adds name v bytes ≡ Ok w → length w.networks ≡ length v.networks + networks_in r
 unfolding networks_in
 adds_count role.Manifest name bytes v w h = let x = map_ok-ok (with_film v) (manifest_of bytes) w h in count_kept v w (sym (ap (λ (u : ContentValues). u.networks) x.2))
-adds_count role.Utilities name bytes v w h = let x = map_ok-ok (with_table v) (utilities_of bytes (segments_of v.film) (rungs_of v.film)) w h in count_kept v w (sym (ap (λ (u : ContentValues). u.networks) x.2))
+adds_count role.Utilities name bytes v w h = let x = map_ok-ok (with_table v) (table_utilities bytes (segments_of v.film) (rungs_of v.film)) w h in count_kept v w (sym (ap (λ (u : ContentValues). u.networks) x.2))
 adds_count role.Trace name bytes v w h =
     let x = map_ok-ok (with_network name v) (trace_of name bytes) w h in
     sym (ap (λ (u : ContentValues). length u.networks) x.2) ∙ length-append v.networks ((name, x.0) ∷ [])

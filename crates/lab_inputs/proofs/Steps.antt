@@ -31,8 +31,8 @@ use Rattle.lab_inputs.specs.declared.stop.Halt.{Halt}
 use Rattle.lab_inputs.specs.declared.stop.Halt.TheVariants as halt
 use Rattle.lab_inputs.specs.Contents.{ContentValues, film_alone}
 use Rattle.lab_inputs.specs.Files.{AreAccepted, Files, at_role, bytes_of, contents_from, film_in, read_as, request_of, with_file, with_files}
-use Rattle.lab_inputs.specs.Roles.{NamedFile, files_by, files_of, film_files, row_of, trace_files, trace_role, traces_from}
-use Rattle.lab_inputs.specs.Stages.{Asks, AsksFor, AsksSome, AsksUpTo, Comes, Reads, Tells, file_of, halt_of}
+use Rattle.lab_inputs.specs.Roles.{NamedFile, files_by, files_of, film_files, role_row, trace_files, trace_role, traces_from}
+use Rattle.lab_inputs.specs.Stages.{Asks, AsksFor, AsksSome, AsksUpTo, Comes, Reads, Tells, named_file, halt_of}
 use Rattle.lab_inputs.proofs.Files.{asks_all, asks_none}
 
 -- these files were asked for, and then those
@@ -122,15 +122,15 @@ trace_more v names name files place e n =
     rw (e, same) (sym (from_more v 1 names name))
 
 -- the file at a place, with those before it and those behind it
-pub at_file : (items : List FileName) (i : ℕ) (d : FileName) → i < length items → map file_of items ≡ map file_of (take i items) ++ file_of (get_or items i d) ∷ map file_of (drop (i + 1) items)
+pub at_file : (items : List FileName) (i : ℕ) (d : FileName) → i < length items → map named_file items ≡ map named_file (take i items) ++ named_file (get_or items i d) ∷ map named_file (drop (i + 1) items)
 at_file items i d lt =
-    let parts : map file_of (take i items ++ drop i items) ≡ map file_of items = rw (take-append-drop i items) refl in
+    let parts : map named_file (take i items ++ drop i items) ≡ map named_file items = rw (take-append-drop i items) refl in
     let rest : drop i items ≡ get_or items i d ∷ drop (i + 1) items = rw (add-one, drop-cons items i d) refl in
-    sym parts ∙ map-append file_of (take i items) (drop i items) ∙ ap (λ l. map file_of (take i items) ++ map file_of l) rest
+    sym parts ∙ map-append named_file (take i items) (drop i items) ∙ ap (λ l. map named_file (take i items) ++ map named_file l) rest
 
 -- the files up to a place and the one there
-pub next_file : (items : List FileName) (i : ℕ) (d : FileName) → i < length items → map file_of (take (i + 1) items) ≡ map file_of (take i items) ++ file_of (get_or items i d) ∷ []
-next_file items i d lt = ap (map file_of) (rw (add-one, take-suc items i d lt) refl) ∙ map-append file_of (take i items) (get_or items i d ∷ [])
+pub next_file : (items : List FileName) (i : ℕ) (d : FileName) → i < length items → map named_file (take (i + 1) items) ≡ map named_file (take i items) ++ named_file (get_or items i d) ∷ []
+next_file items i d lt = ap (map named_file) (rw (add-one, take-suc items i d lt) refl) ∙ map-append named_file (take i items) (get_or items i d ∷ [])
 
 -- the manifest gives no film
 pub film_halts : {X : Type 0} (seen : X → ContentValues) (manifest : Text) (later : List NamedFile) (old new : Shelved) (r : Result Film FileErr) (e : FileErr) (h : Halt) → r ≡ Err e → h ≡ halt_of role.Manifest e

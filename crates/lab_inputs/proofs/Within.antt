@@ -17,7 +17,7 @@ use Rattle.lab_inputs.specs.declared.stop.Setting.{Setting}
 use Rattle.lab_inputs.specs.Contents.{ContentValues, film_alone}
 use Rattle.lab_inputs.specs.Files.{Files, at_role, bytes_of, contents_from, film_in, read_as, with_file, with_files}
 use Rattle.lab_inputs.specs.Inputs.{InputValues, contents_of, inputs_of, inputs_on}
-use Rattle.lab_inputs.specs.Roles.{NamedFile, later_files, row_of}
+use Rattle.lab_inputs.specs.Roles.{NamedFile, later_files, role_row}
 use Rattle.lab_inputs.specs.Settings.{Fits, misfit, ready_of, settled, unless_misfit}
 use Rattle.lab_inputs.proofs.Fits.{all_fits}
 use Rattle.lab_inputs.proofs.Roles.{AreWithin, adds_count, adds_within, among_cons, among_more, among_none, networks_among, networks_named}
@@ -25,11 +25,11 @@ use Rattle.lab_inputs.proofs.Steps.{ok_same, read_ok, role_ok}
 use Rattle.lab_inputs.proofs.Tables.{no_table_is}
 
 -- the bytes of a file that adds something, and what they add
-added : (file : NamedFile) (files : Files) (v w : ContentValues) → with_file v file files ≡ Ok w → (bytes : Text) × ((row_of file.0).adds file.1 v bytes ≡ Ok w)
+added : (file : NamedFile) (files : Files) (v w : ContentValues) → with_file v file files ≡ Ok w → (bytes : Text) × ((role_row file.0).adds file.1 v bytes ≡ Ok w)
 unfolding with_file
 added file files v w h =
-    let x = then_ok (bytes_of file.0 (files file.1)) (λ bytes. read_as ((row_of file.0).adds file.1 v bytes)) w h in
-    (x.0, read_ok ((row_of file.0).adds file.1 v x.0) w x.2)
+    let x = then_ok (bytes_of file.0 (files file.1)) (λ bytes. read_as ((role_row file.0).adds file.1 v bytes)) w h in
+    (x.0, read_ok ((role_row file.0).adds file.1 v x.0) w x.2)
 
 files_within : (later : List NamedFile) (files : Files) (v w : ContentValues) → with_files v later files ≡ Ok w → AreWithin v → AreWithin w × (length w.networks ≡ length v.networks + networks_among later)
 files_within [] files v w h k =
@@ -62,7 +62,7 @@ from_within manifest later files v h =
     (y.0, omega (arith, count))
 
 -- one file more adds its networks to those of the files before it
-pub one_more_counted : (r : Role) (name : Text) (v w : ContentValues) (before : List NamedFile) → length v.networks ≡ networks_among before → (bytes : Text) × ((row_of r).adds name v bytes ≡ Ok w)
+pub one_more_counted : (r : Role) (name : Text) (v w : ContentValues) (before : List NamedFile) → length v.networks ≡ networks_among before → (bytes : Text) × ((role_row r).adds name v bytes ≡ Ok w)
     → length w.networks ≡ networks_among (before ++ (r, name) ∷ [])
 one_more_counted r name v w before h x =
     let one = adds_count r name x.0 v w x.1 in

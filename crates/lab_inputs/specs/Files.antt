@@ -12,7 +12,7 @@ use Rattle.lab_inputs.specs.declared.stop.FileFault.TheVariants as fault
 use Rattle.lab_inputs.specs.declared.stop.Stop.{Stop}
 use Rattle.lab_inputs.specs.declared.stop.Stop.TheVariants as stop
 use Rattle.lab_inputs.specs.Contents.{ContentValues, film_alone}
-use Rattle.lab_inputs.specs.Roles.{NamedFile, row_of}
+use Rattle.lab_inputs.specs.Roles.{NamedFile, role_row}
 
 -- the bytes of each file by its name, and none where there is no such file
 abbrev pub Files : Type 0
@@ -20,12 +20,12 @@ Files = Text → Option Text
 
 -- what a shelf is asked for: the name of the file, and one byte more than its limit
 abbrev pub request_of : NamedFile → Text × ℕ
-request_of file = (file.1, (row_of file.0).limit + 1)
+request_of file = (file.1, (role_row file.0).limit + 1)
 
 -- the bytes of a file that is there and within its limit
 abbrev pub bytes_of : Role → Option Text → Result Text FileFault
 bytes_of role None = Err fault.NotRead
-bytes_of role (Some bytes) = if nat_lt (row_of role).limit (length bytes) then Err fault.TooLong else Ok bytes
+bytes_of role (Some bytes) = if nat_lt (role_row role).limit (length bytes) then Err fault.TooLong else Ok bytes
 
 -- what a reader makes of bytes
 abbrev pub read_as : {A : Type 0} → Result A Refusal → Result A FileFault
@@ -49,7 +49,7 @@ film_in name = file_in manifest_of (role.Manifest, name)
 
 -- what one file more makes of what those before it hold
 unfoldable pub with_file : ContentValues → NamedFile → Files → Result ContentValues FileFault
-with_file v file = file_in ((row_of file.0).adds file.1 v) file
+with_file v file = file_in ((role_row file.0).adds file.1 v) file
 
 -- the same of all these files
 abbrev pub with_files : ContentValues → List NamedFile → Files → Result ContentValues Stop

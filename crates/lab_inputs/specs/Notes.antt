@@ -14,7 +14,7 @@ use Rattle.lab_inputs.specs.declared.stop.Setting.{Setting}
 use Rattle.lab_inputs.specs.declared.stop.Setting.TheVariants as setting
 use Rattle.lab_inputs.specs.declared.stop.Stop.{Stop}
 use Rattle.lab_inputs.specs.declared.stop.Stop.TheVariants as stop
-use Rattle.lab_inputs.specs.Roles.{row_of}
+use Rattle.lab_inputs.specs.Roles.{role_row}
 
 -- the word of a kind of fault
 abbrev pub kind_word : Kind → Text
@@ -66,5 +66,5 @@ setting_fields (setting.Rule place) = codes "rule" ∷ decimal place ∷ []
 
 -- the line of a stop
 abbrev pub stop_note : Stop → Text
-stop_note (stop.File role why) = codes "abrlab: " ++ ((row_of role).words ++ (codes " file: " ++ fields_line (fault_fields why)))
+stop_note (stop.File role why) = codes "abrlab: " ++ ((role_row role).words ++ (codes " file: " ++ fields_line (fault_fields why)))
 stop_note (stop.Settings setting) = codes "abrlab: settings: " ++ fields_line (setting_fields setting)

@@ -11,7 +11,7 @@ use Rattle.lab_words.specs.declared.Verb.TheVariants as verb
 use Rattle.lab_words.specs.Command.{CommandWords}
 use Rattle.manifest_reader.specs.Manifest.{manifest_of}
 use Rattle.seek_script.specs.Script.{seeks_of}
-use Rattle.utility_table.specs.Table.{utilities_of}
+use Rattle.utility_table.specs.Table.{table_utilities}
 use Rattle.lab_inputs.specs.declared.role.Role.{Role}
 use Rattle.lab_inputs.specs.declared.role.Role.TheVariants as role
 use Rattle.lab_inputs.specs.Contents.{ContentValues, trace_of, with_certificate, with_film, with_network, with_seeks, with_table}
@@ -25,38 +25,38 @@ pub record RoleRow : Type 0 where
   pub adds : Text → ContentValues → Text → Result ContentValues Refusal
 
 -- the row of each role; the bytes of a certificate are read later
-abbrev pub row_of : Role → RoleRow
-row_of role.Manifest = record {
+abbrev pub role_row : Role → RoleRow
+role_row role.Manifest = record {
   limit = 67108864;
   words = codes "manifest";
   adds = λ name v bytes. map_ok (with_film v) (manifest_of bytes);
 }
-row_of role.Utilities = record {
+role_row role.Utilities = record {
   limit = 67108864;
   words = codes "utilities";
-  adds = λ name v bytes. map_ok (with_table v) (utilities_of bytes (segments_of v.film) (rungs_of v.film));
+  adds = λ name v bytes. map_ok (with_table v) (table_utilities bytes (segments_of v.film) (rungs_of v.film));
 }
-row_of role.Trace = record {
+role_row role.Trace = record {
   limit = 67108864;
   words = codes "trace";
   adds = λ name v bytes. map_ok (with_network name v) (trace_of name bytes);
 }
-row_of (role.TraceAt place) = record {
+role_row (role.TraceAt place) = record {
   limit = 67108864;
   words = codes "trace " ++ decimal place;
   adds = λ name v bytes. map_ok (with_network name v) (trace_of name bytes);
 }
-row_of role.Seeks = record {
+role_row role.Seeks = record {
   limit = 67108864;
   words = codes "seeks";
   adds = λ name v bytes. map_ok (with_seeks v) (seeks_of bytes (segments_of v.film));
 }
-row_of role.Certificate = record {
+role_row role.Certificate = record {
   limit = 536870912;
   words = codes "certificate";
   adds = λ name v bytes. Ok (with_certificate v bytes);
 }
-row_of role.PriceCertificate = record {
+role_row role.PriceCertificate = record {
   limit = 67108864;
   words = codes "certificate";
   adds = λ name v bytes. Ok (with_certificate v bytes);

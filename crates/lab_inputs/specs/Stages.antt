@@ -104,8 +104,8 @@ halt_of role err.Memory = halt.NoMemory
 halt_of role (err.Stopped why) = halt.Stopped (stop.File role why)
 
 -- a file that a command names, without where its name lies in memory
-abbrev pub file_of : FileName → NamedFile
-file_of file = (file.role, file.name.now)
+abbrev pub named_file : FileName → NamedFile
+named_file file = (file.role, file.name.now)
 
 -- a network behind its name, without where the name lies in memory
 abbrev pub network_of : Network → Text × List Period

@@ -9,11 +9,11 @@ ghost use Rattle.lab_model.specs.Steps.{map_ok};
 ghost use Rattle.lab_words.specs.Command.{view};
 ghost use Rattle.manifest_reader.specs.Manifest.{manifest_of};
 ghost use Rattle.seek_script.specs.Script.{seeks_of};
-ghost use Rattle.utility_table.specs.Table.{utilities_of};
+ghost use Rattle.utility_table.specs.Table.{table_utilities};
 ghost use Rattle.lab_inputs.specs.Contents.{film_alone, is_csv, no_table, trace_of, with_certificate, with_film, with_network, with_seeks, with_table};
 ghost use Rattle.lab_inputs.specs.Files.{film_in, with_file};
 ghost use Rattle.lab_inputs.specs.Inputs.{contents_of};
-ghost use Rattle.lab_inputs.specs.Roles.{film_files, row_of};
+ghost use Rattle.lab_inputs.specs.Roles.{film_files, role_row};
 ghost use Rattle.lab_inputs.specs.Stages.{Comes, Reads, network_of};
 
 use crate::fetch::{FileErr, fetch_file};
@@ -139,7 +139,7 @@ impl Contents {
     fn take_table(&mut self, alloc: Global, bytes: &[u8]) -> Result<(), InputFault>
         ensures { Gives (λ done. self.new) result
             (map_ok (with_table self.old)
-            (utilities_of bytes.now (segments_of self.old.film) (rungs_of self.old.film))) }
+            (table_utilities bytes.now (segments_of self.old.film) (rungs_of self.old.film))) }
     {
         let (segments, rungs) = (self.manifest.segments(), self.manifest.rungs());
         self.table = read_utilities(alloc, bytes, segments, rungs)?.rows;
@@ -182,7 +182,7 @@ impl Contents {
         bytes: Vec<u8>,
     ) -> Result<(), InputFault>
         ensures { Gives (λ done. self.new) result
-            ((row_of role).adds name.now self.old bytes.items) }
+            ((role_row role).adds name.now self.old bytes.items) }
     {
         match role {
             Role::Manifest => self.take_film(alloc, &bytes),
@@ -208,7 +208,7 @@ impl Contents {
             (with_file self.old (role, name.now))
             (F.shelved shelf.old) result (F.shelved shelf.new) }
         ensures adds { OnOk result ((bytes : Text)
-            × ((row_of role).adds name.now self.old bytes ≡ Ok self.new)) }
+            × ((role_row role).adds name.now self.old bytes ≡ Ok self.new)) }
     {
         let bytes = fetch_file(alloc, shelf, role, name)?;
         Ok(self.take_bytes(alloc, role, name, bytes)?)

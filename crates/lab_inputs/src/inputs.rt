@@ -3,6 +3,7 @@
 ghost use Rattle.std.specs.Prelude.{◌≡◌, ◌/◌, ◌≤◌, IfOk, IfSome, length, map, option_map, string_bytes};
 ghost use Rattle.std.specs.List.{All, slice_get};
 ghost use Rattle.lab_model.specs.Film.{segments_of};
+ghost use Rattle.lab_model.specs.Limits.{all_ahead};
 ghost use Rattle.lab_model.specs.Row.{AreUtilities};
 ghost use Rattle.lab_model.specs.Seeks.{SeeksFit};
 ghost use Rattle.lab_words.specs.Command.{named};
@@ -18,7 +19,7 @@ use crate::film_words::FilmWords;
 use crate::settings::misfit;
 use crate::stop::{Halt, Setting, Stop};
 use lab_io::Shelf;
-use lab_model::{Manifest, Seek, Setup, Weights};
+use lab_model::{Ahead, Manifest, Seek, Setup, Weights};
 use lab_words::NamedRule;
 use std::alloc::Global;
 use std::marker::Model;
@@ -35,11 +36,11 @@ pub struct Inputs {
     seeks: Vec<Seek>,
     certificate: Vec<u8>,
     rules: Vec<NamedRule>,
-    live: Option<u32>,
+    live: Option<Ahead>,
 }
 
 impl Model for Inputs {
-    ghost use Rattle.std.specs.Prelude.{◌≤◌, IfSome, length, map};
+    ghost use Rattle.std.specs.Prelude.{◌≤◌, length, map};
     ghost use Rattle.lab_words.specs.Command.{named};
     ghost use Rattle.std.specs.List.{All};
     ghost use Rattle.lab_model.specs.Film.{segments_of};
@@ -62,7 +63,6 @@ impl Model for Inputs {
 
     ghost invariant = { λ i. SeeksFit i.seeks.items (segments_of i.manifest)
         × All (λ r. IsRuleWithin r.1) (map named i.rules.items)
-        × IfSome i.live (λ ms. ms ≤ 120000000)
         × (length i.networks.items ≤ 64) };
 }
 
@@ -93,6 +93,17 @@ fn weights_of(
     }
 }
 
+/// The media that are there at instant 0, if the film is live.
+fn media_ahead(live: Option<u32>) -> Option<Ahead>
+    requires { IfSome live (λ ms. ms ≤ all_ahead) }
+    ensures { result ≡ live }
+{
+    match live {
+        Some(ms) => Ahead::new(ms),
+        None => None,
+    }
+}
+
 impl Inputs {
     /// What a command is about whose files hold this.
     fn of(words: FilmWords, contents: Contents) -> Inputs
@@ -120,7 +131,7 @@ impl Inputs {
             seeks: contents.seeks,
             certificate: contents.certificate,
             rules: command.rules,
-            live: command.live,
+            live: media_ahead(command.live),
         }
     }
 
@@ -184,10 +195,9 @@ impl Inputs {
         self.rules.first()
     }
 
-    /// Of a live film the milliseconds of media that are there at instant 0, at most 120000000.
-    pub fn live(&self) -> Option<u32>
-        ensures value { result ≡ self.now.live }
-        ensures within { IfSome result (λ ms. ms ≤ 120000000) }
+    /// Of a live film the media that are there at instant 0.
+    pub fn live(&self) -> Option<Ahead>
+        ensures { result ≡ self.now.live }
     {
         self.live
     }

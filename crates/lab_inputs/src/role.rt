@@ -4,8 +4,8 @@ ghost use Rattle.std.specs.Prelude.{◌≡◌, ◌++◌, IfOk, OnOk, codes, map,
 ghost use Rattle.std.specs.Fmt.{decimal};
 ghost use Rattle.lab_io.specs.Sink.{Puts};
 ghost use Rattle.lab_words.specs.Command.{view};
-ghost use Rattle.lab_inputs.specs.Roles.{certificate_role, later_files, optional_file, row_of, trace_files, trace_role};
-ghost use Rattle.lab_inputs.specs.Stages.{file_of};
+ghost use Rattle.lab_inputs.specs.Roles.{certificate_role, later_files, optional_file, role_row, trace_files, trace_role};
+ghost use Rattle.lab_inputs.specs.Stages.{named_file};
 
 use lab_io::{PutErr, Sink, put_number, put_text};
 use lab_words::{Command, Verb};
@@ -41,7 +41,7 @@ pub(crate) struct FileName<'a> {
 impl Role {
     /// The most bytes of a file.
     pub(crate) fn limit(self) -> u64
-        ensures { result ≡ (row_of self).limit }
+        ensures { result ≡ (role_row self).limit }
     {
         match self {
             Role::Manifest
@@ -56,7 +56,7 @@ impl Role {
 
     /// Says what a file is for.
     pub(crate) fn put<E: Sink>(self, err: &mut E) -> Result<(), PutErr>
-        ensures { Puts (E.seen err.old) (row_of self).words (E.seen err.new) result }
+        ensures { Puts (E.seen err.old) (role_row self).words (E.seen err.new) result }
     {
         match self {
             Role::Manifest => put_text(err, "manifest"),
@@ -96,7 +96,7 @@ fn trace_role(verb: Verb, place: usize) -> Role
 
 /// The traces that a command names.
 fn trace_files(alloc: Global, command: &Command) -> Result<Vec<FileName<'_>>, AllocError>
-    ensures { IfOk result (λ files. map file_of files.items ≡
+    ensures { IfOk result (λ files. map named_file files.items ≡
         trace_files (view command.entry.now).verb (view command.entry.now).traces) }
 {
     let mut files = Vec::new(alloc);
@@ -124,8 +124,8 @@ fn push_named<'a>(
     role: Role,
     name: &'a Option<String>,
 ) -> Result<(), AllocError>
-    ensures { OnOk result (map file_of files.new.items
-        ≡ map file_of files.old.items
+    ensures { OnOk result (map named_file files.new.items
+        ≡ map named_file files.old.items
         ++ optional_file role (option_map string_bytes name.entry.now)) }
 {
     if let Some(name) = name {
@@ -136,7 +136,7 @@ fn push_named<'a>(
 
 /// The files that come behind the manifest, in the order of refusals.
 pub(crate) fn later_files(alloc: Global, command: &Command) -> Result<Vec<FileName<'_>>, AllocError>
-    ensures { IfOk result (λ later. map file_of later.items
+    ensures { IfOk result (λ later. map named_file later.items
         ≡ later_files (view command.entry.now)) }
 {
     let mut later = Vec::new(alloc);

@@ -1,5 +1,6 @@
 pub mod Number
 pub mod Film
+pub mod Limits
 pub mod Cycle
 pub mod Row
 pub mod Weighing

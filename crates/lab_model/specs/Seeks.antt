@@ -2,6 +2,7 @@
 use Rattle.std.specs.Prelude.{ℕ, ◌+◌, ◌≤◌, ◌<◌, List, length, slice_index_or}
 use Rattle.std.specs.List.{All}
 use Rattle.lab_model.specs.declared.context.Seek.{Seek}
+use Rattle.lab_model.specs.Limits.{latest_seek, most_seeks}
 
 -- the seek at a place of a script
 abbrev pub seek_no : List Seek → ℕ → Seek
@@ -13,7 +14,7 @@ AreRising seeks = (k : ℕ) → k + 1 < length seeks → (seek_no seeks k).at_ms
 
 -- at most 16 seeks, at strictly rising instants up to 1000000000 ms, each to one of so many segments
 pub record SeeksFit (seeks : List Seek) (segments : ℕ) : Type 0 where
-  pub count : length seeks ≤ 16
-  pub instants : All (λ s. s.at_ms ≤ 1000000000) seeks
+  pub count : length seeks ≤ most_seeks
+  pub instants : All (λ s. s.at_ms ≤ latest_seek) seeks
   pub rising : AreRising seeks
   pub targets : All (λ s. s.to < segments) seeks

@@ -5,6 +5,7 @@
 mod context;
 mod fault;
 mod label;
+mod limit;
 mod manifest;
 mod number;
 mod rule;
@@ -16,6 +17,7 @@ mod weights;
 pub use context::{Context, NoMemory, Played, Seek};
 pub use fault::{InputFault, Key, Kind, Refusal};
 pub use label::Label;
+pub use limit::{ALL_AHEAD_MS, Ahead, Budget, MOST_BUDGET};
 pub use manifest::{
     MOST_BITRATE_KBPS, MOST_RUNGS, MOST_SEGMENT_BITS, MOST_SEGMENT_MS, MOST_SEGMENTS, Manifest,
 };

@@ -9,21 +9,22 @@ use Rattle.std.specs.Str.Parse.{digits_value}
 use Rattle.clap.specs.Walk.{Row, all_of}
 use Rattle.indexmap.specs.IndexSet.{insert_all, insert_key}
 use Rattle.lab_model.specs.Film.{IsWithin}
+use Rattle.lab_model.specs.Limits.{all_ahead, most_budget, most_buffer}
 use Rattle.lab_model.specs.Rules.{RuleKind, fixed, listed, throughput, bola, mpc}
 use Rattle.lab_model.proofs.Rows.{weighing_within}
 use Rattle.lab_model.specs.Row.{AreWeights}
 use Rattle.lab_model.specs.Weighing.{IsWeighing, weighing}
-use Rattle.lab_words.specs.Limits.{AreWeighed, IsBudget, IsGrid, IsRuleWithin, IsWithinLimits}
+use Rattle.lab_words.specs.Limits.{AreWeighed, IsBudget, AreGridWords, IsRuleWithin, IsWithinLimits}
 use Rattle.lab_words.specs.Rules.{has_colon, named_rule, named_rules, rule_of, rule_of_kind}
-use Rattle.lab_words.specs.Spelling.{Text, all_numbers, at_most, grid_by, grid_of, has_comma, in_range, is_number, never_falls, number_of, numbers_of, pieces_of, unless_falling, utilities_of}
+use Rattle.lab_words.specs.Spelling.{Text, all_numbers, at_most, grid_by, grid_of, has_comma, in_range, is_number, never_falls, number_of, numbers_of, pieces_of, unless_falling, utilities_spelled}
 use Rattle.lab_words.specs.Check.{check_agrees, check_app, check_in}
 use Rattle.lab_words.specs.Command.{CommandWords, blank, view}
 use Rattle.lab_words.specs.Demo.{demo_app, demo_in}
-use Rattle.lab_words.specs.Plan.{grid_if, grid_in, plan_agrees, plan_app, plan_in}
+use Rattle.lab_words.specs.Plan.{grid_if, grid_words_in, plan_agrees, plan_app, plan_in}
 use Rattle.lab_words.specs.Settings.{SettingsWords, UtilitiesWords, settings_in, utilities_by, utilities_in, with_settings}
 use Rattle.lab_words.specs.Compare.{budget_in, compare_agrees, compare_app, compare_in, distinct, few, rules_in, traces_in}
 use Rattle.lab_words.specs.Simulate.{players_by, players_in, several_players, simulate_agrees, simulate_app, simulate_in}
-use Rattle.lab_words.specs.Table.{accepted}
+use Rattle.lab_words.specs.Table.{accepted_words}
 use Rattle.lab_model.specs.OptionSteps.{◌>>=◌}
 use Rattle.lab_model.proofs.OptionSteps.{then_some}
 use Rattle.lab_words.specs.Values.{Either, first, second, Understands, if_agreed, is_given, one_of, is_stray, several, some_plain, number_in, number_if, number_unless, unless_barred, optional, optional_number, required_text}
@@ -119,8 +120,8 @@ pub record IsRising (ns : List ℕ) : Type 0 where
   pub each : All (IsWithin 0 1000000) ns
   pub rise : (k : ℕ) → k + 1 < length ns → slice_index ns k ≤ slice_index ns (k + 1)
 
-utilities_within : (text : Text) (ns : List ℕ) → utilities_of text ≡ Some ns → IsRising ns
-unfolding utilities_of
+utilities_within : (text : Text) (ns : List ℕ) → utilities_spelled text ≡ Some ns → IsRising ns
+unfolding utilities_spelled
 utilities_within text ns h =
     let read = went unless_falling (numbers_of 16 0 1000000 text) ns h in
     let kept = chosen (never_falls read.0) (Some read.0) ns read.2 in
@@ -134,7 +135,7 @@ weighing_of ns switch stall startup up weights =
 
 weighed_by : (given : Either) (u : UtilitiesWords) (switch stall startup : ℕ) → utilities_by given ≡ Some u → AreWeights switch stall startup → AreWeighed u.1 u.0 switch stall startup
 weighed_by (first text) u switch stall startup h weights =
-    let read = mapped (λ (ns : List ℕ). (ns, None)) (utilities_of text) u h in
+    let read = mapped (λ (ns : List ℕ). (ns, None)) (utilities_spelled text) u h in
     let W : UtilitiesWords → Type 0 = λ v. AreWeighed v.1 v.0 switch stall startup in
     subst W (sym read.2) (weighing_of read.0 switch stall startup (utilities_within text read.0 read.1) weights)
 weighed_by (second name) u switch stall startup h weights =
@@ -188,10 +189,10 @@ optional_within least most name rows o h =
         let read = mapped (λ (n : ℕ). Some n) (number_of least most text) o e in
         subst (λ (x : Option ℕ). IfSome x (IsWithin least most)) (sym read.2) (number_within least most text read.0 read.1)
 
-live_within : (rows : List Row) (live : Option ℕ) → optional_number 0 120000000 (codes "live") rows ≡ Some live → IfSome live (λ ms. ms ≤ 120000000)
-live_within rows live h = below live (optional_within 0 120000000 (codes "live") rows live h)
+live_within : (rows : List Row) (live : Option ℕ) → optional_number 0 all_ahead (codes "live") rows ≡ Some live → IfSome live (λ ms. ms ≤ all_ahead)
+live_within rows live h = below live (optional_within 0 all_ahead (codes "live") rows live h)
   where
-    below : (o : Option ℕ) → IfSome o (IsWithin 0 120000000) → IfSome o (λ ms. ms ≤ 120000000)
+    below : (o : Option ℕ) → IfSome o (IsWithin 0 all_ahead) → IfSome o (λ ms. ms ≤ all_ahead)
     below None w = tt
     below (Some ms) w = w.1
 
@@ -220,28 +221,28 @@ barred_default default least most name rows n h =
     by_given (Some m) e = cc
 
 budget_within : (regret near : Bool) (rows : List Row) (n : ℕ) → budget_in regret near rows ≡ Some n → IsBudget regret n
-budget_within true near rows n h = unless_within near 200000 1 1000000 (codes "budget") rows n (lit≤ tt, lit≤ tt) h
-budget_within false near rows n h = sym (barred_default 0 1 1000000 (codes "budget") rows n h)
+budget_within true near rows n h = unless_within near 200000 1 most_budget (codes "budget") rows n (lit≤ tt, lit≤ tt) h
+budget_within false near rows n h = sym (barred_default 0 1 most_budget (codes "budget") rows n h)
 
-grid_by_within : (time value : Text) (g : ℕ × ℕ) → grid_by time value ≡ Some g → IsGrid g.0 g.1
+grid_by_within : (time value : Text) (g : ℕ × ℕ) → grid_by time value ≡ Some g → AreGridWords g.0 g.1
 grid_by_within time value g h =
     let ms = then_some (number_of 1 10000 time) _ g h in
     let thousandths = then_some (number_of 1 1000000 value) _ g ms.2 in
     let same : (ms.0, thousandths.0) ≡ g = cc (thousandths.2) in
-    subst (λ (p : ℕ × ℕ). IsGrid p.0 p.1) same (inr (number_within 1 10000 time ms.0 ms.1, number_within 1 1000000 value thousandths.0 thousandths.1))
+    subst (λ (p : ℕ × ℕ). AreGridWords p.0 p.1) same (inr (number_within 1 10000 time ms.0 ms.1, number_within 1 1000000 value thousandths.0 thousandths.1))
 
-grid_of_within : (text : Text) (g : ℕ × ℕ) → grid_of text ≡ Some g → IsGrid g.0 g.1
+grid_of_within : (text : Text) (g : ℕ × ℕ) → grid_of text ≡ Some g → AreGridWords g.0 g.1
 unfolding grid_of
 grid_of_within text g h = grid_by_within (before_first (λ b. b == 44) text) (after_first (λ b. b == 44) text) g (chosen (has_comma text) _ g h).1
 
-grid_within : (rows : List Row) (g : ℕ × ℕ) → grid_in rows ≡ Some g → IsGrid g.0 g.1
-unfolding grid_in
+grid_within : (rows : List Row) (g : ℕ × ℕ) → grid_words_in rows ≡ Some g → AreGridWords g.0 g.1
+unfolding grid_words_in
 grid_within rows g h =
     let given = then_some (optional (codes "coarse") rows) grid_if g h in
     by_given given.0 given.2
   where
-    by_given : (text : Option Text) → grid_if text ≡ Some g → IsGrid g.0 g.1
-    by_given None e = let same : (0, 0) ≡ g = cc in subst (λ (p : ℕ × ℕ). IsGrid p.0 p.1) same (inl (refl, refl))
+    by_given : (text : Option Text) → grid_if text ≡ Some g → AreGridWords g.0 g.1
+    by_given None e = let same : (0, 0) ≡ g = cc in subst (λ (p : ℕ × ℕ). AreGridWords p.0 p.1) same (inl (refl, refl))
     by_given (Some text) e = grid_of_within text g e
 
 were_agreed : (agrees : CommandWords → Bool) (x y : CommandWords) → if_agreed agrees x ≡ Some y → (agrees x ≡ true) × (x ≡ y)
@@ -263,13 +264,13 @@ option_within default least most name rows n d h =
 -- ---- a command
 
 record AreWithin (s : SettingsWords) : Type 0 where
-  buffer : IsWithin 1 10000000 s.buffer_ms
+  buffer : IsWithin 1 most_buffer s.buffer_ms
   weights : AreWeighed s.table s.utilities s.switch s.stall s.startup
 
 settings_within : (rows : List Row) (s : SettingsWords) → settings_in rows ≡ Some s → AreWithin s
 unfolding settings_in utilities_in
 settings_within rows s h =
-    let buffer = then_some (number_in 25000 1 10000000 (codes "buffer") rows) _ s h in
+    let buffer = then_some (number_in 25000 1 most_buffer (codes "buffer") rows) _ s h in
     let utilities = then_some (utilities_in rows) _ s buffer.2 in
     let switch = then_some (number_in 0 0 1000000 (codes "switch") rows) _ s utilities.2 in
     let stall = then_some (number_in 100 0 1000000 (codes "stall") rows) _ s switch.2 in
@@ -278,7 +279,7 @@ settings_within rows s h =
     let made : SettingsWords = record { buffer_ms = buffer.0; utilities = utilities.0.0; table = utilities.0.1; switch = switch.0; stall = stall.0; startup = startup.0 } in
     let same : made ≡ s = cc (startup.2) in
     subst AreWithin same (record {
-      buffer = option_within 25000 1 10000000 (codes "buffer") rows buffer.0 (lit≤ tt, lit≤ tt) buffer.1;
+      buffer = option_within 25000 1 most_buffer (codes "buffer") rows buffer.0 (lit≤ tt, lit≤ tt) buffer.1;
       weights = weighed_by given.0 utilities.0 switch.0 stall.0 startup.0 given.2 (record {
         switch_fits = (option_within 0 0 1000000 (codes "switch") rows switch.0 (lit≤ tt, lit≤ tt) switch.1).1;
         stall_fits = (option_within 100 0 1000000 (codes "stall") rows stall.0 (lit≤ tt, lit≤ tt) stall.1).1;
@@ -350,7 +351,7 @@ simulate_within rows c h =
     let players = then_some (players_in rows) _ c trace.2 in
     let settings = then_some (settings_in rows) _ c players.2 in
     let seeks = then_some (optional (codes "seeks") rows) _ c settings.2 in
-    let live = then_some (optional_number 0 120000000 (codes "live") rows) _ c seeks.2 in
+    let live = then_some (optional_number 0 all_ahead (codes "live") rows) _ c seeks.2 in
     let within = settings_within rows settings.0 settings.1 in
     let made : CommandWords = record (with_settings settings.0 (blank verb.Simulate)) {
       manifest = manifest.0;
@@ -467,9 +468,9 @@ plan_within rows c h =
     let manifest = then_some (required_text (codes "manifest") rows) _ c h in
     let trace = then_some (required_text (codes "trace") rows) _ c manifest.2 in
     let settings = then_some (settings_in rows) _ c trace.2 in
-    let budget = then_some (number_unless (is_given (codes "near") rows) 200000 1 1000000 (codes "budget") rows) _ c settings.2 in
-    let live = then_some (optional_number 0 120000000 (codes "live") rows) _ c budget.2 in
-    let grid = then_some (grid_in rows) _ c live.2 in
+    let budget = then_some (number_unless (is_given (codes "near") rows) 200000 1 most_budget (codes "budget") rows) _ c settings.2 in
+    let live = then_some (optional_number 0 all_ahead (codes "live") rows) _ c budget.2 in
+    let grid = then_some (grid_words_in rows) _ c live.2 in
     let within = settings_within rows settings.0 settings.1 in
     let made : CommandWords = record (with_settings settings.0 (blank verb.Plan)) {
       manifest = manifest.0;
@@ -488,7 +489,7 @@ plan_within rows c h =
       spoken = no_rules;
       buffer = λ film. within.buffer;
       weights = λ film. within.weights;
-      own = unless_within (is_given (codes "near") rows) 200000 1 1000000 (codes "budget") rows budget.0 (lit≤ tt, lit≤ tt) budget.1;
+      own = unless_within (is_given (codes "near") rows) 200000 1 most_budget (codes "budget") rows budget.0 (lit≤ tt, lit≤ tt) budget.1;
       live = live_within rows live.0 live.1;
       grid = grid_within rows grid.0 grid.1;
       agreed = agreed.0;
@@ -501,7 +502,7 @@ check_within rows c h =
     let trace = then_some (required_text (codes "trace") rows) _ c manifest.2 in
     let settings = then_some (settings_in rows) _ c trace.2 in
     let certificate = then_some (required_text (codes "certificate") rows) _ c settings.2 in
-    let live = then_some (optional_number 0 120000000 (codes "live") rows) _ c certificate.2 in
+    let live = then_some (optional_number 0 all_ahead (codes "live") rows) _ c certificate.2 in
     let within = settings_within rows settings.0 settings.1 in
     let made : CommandWords = record (with_settings settings.0 (blank verb.Check)) {
       manifest = manifest.0;
@@ -543,11 +544,11 @@ demo_within rows c h =
     })
 
 asked_within : (v : Verb) (words : List Text) (c : CommandWords) → asked_of v words ≡ Some c → IsWithinLimits c
-asked_within verb.Simulate words c h = let rows = went simulate_in (accepted simulate_app words) c h in simulate_within rows.0 c rows.2
-asked_within verb.Compare words c h = let rows = went compare_in (accepted compare_app words) c h in compare_within rows.0 c rows.2
-asked_within verb.Plan words c h = let rows = went plan_in (accepted plan_app words) c h in plan_within rows.0 c rows.2
-asked_within verb.Check words c h = let rows = went check_in (accepted check_app words) c h in check_within rows.0 c rows.2
-asked_within verb.Demo words c h = let rows = went demo_in (accepted demo_app words) c h in demo_within rows.0 c rows.2
+asked_within verb.Simulate words c h = let rows = went simulate_in (accepted_words simulate_app words) c h in simulate_within rows.0 c rows.2
+asked_within verb.Compare words c h = let rows = went compare_in (accepted_words compare_app words) c h in compare_within rows.0 c rows.2
+asked_within verb.Plan words c h = let rows = went plan_in (accepted_words plan_app words) c h in plan_within rows.0 c rows.2
+asked_within verb.Check words c h = let rows = went check_in (accepted_words check_app words) c h in check_within rows.0 c rows.2
+asked_within verb.Demo words c h = let rows = went demo_in (accepted_words demo_app words) c h in demo_within rows.0 c rows.2
 
 -- a call that gave what the words behind a command's name ask for
 pub gives_within : (v : Verb) (words : List Text) (r : Result Command WordsErr) → Understands view r (asked_of v words) → IfOk r (λ c. IsWithinLimits (view c))

@@ -15,7 +15,7 @@ use Rattle.lab_words.specs.Compare.{compare_app}
 use Rattle.lab_words.specs.Demo.{demo_app}
 use Rattle.lab_words.specs.Plan.{plan_app}
 use Rattle.lab_words.specs.Simulate.{simulate_app}
-use Rattle.lab_words.specs.Table.{accepted, is_fault_free, table_app, with_words}
+use Rattle.lab_words.specs.Table.{accepted_words, is_fault_free, table_app, with_words}
 
 -- the command line of `simulate` is of the simple kind
 pub simulate_simple : is_simple_and_free simulate_app ≡ true
@@ -44,8 +44,8 @@ demo_simple = refl
 
 -- the matches of a command that is the simple one b
 pub matched : (a b : App) (ws : List Text) (m : ArgMatches) → a ≡ b → is_simple_and_free b ≡ true → (is_simple_and_free a ≡ true → fault_of a ws ≡ []) → HasMatchesOf a ws m
-    → accepted b ws ≡ Some (rows_of (found_of m))
-unfolding accepted
+    → accepted_words b ws ≡ Some (rows_of (found_of m))
+unfolding accepted_words
 matched a b ws m e simple faults matches =
     let F : App → Type 0 = λ x. (is_simple_and_free x ≡ true → fault_of x ws ≡ []) in
     let M : App → Type 0 = λ x. HasMatchesOf x ws m in
@@ -60,8 +60,8 @@ none_among (k ∷ ks) e h other = refl
 
 -- the refusal of a command that is the simple one b
 pub refused : (a b : App) (ws : List Text) (e : Error) → a ≡ b → is_simple_and_free b ≡ true → (is_simple_and_free a ≡ true → HasKind (fault_of a ws) e) → (kind_of e ≢ OutOfMemory)
-    → accepted b ws ≡ None
-unfolding accepted
+    → accepted_words b ws ≡ None
+unfolding accepted_words
 refused a b ws e same simple kinds other =
     let K : App → Type 0 = λ x. (is_simple_and_free x ≡ true → HasKind (fault_of x ws) e) in
     rw (none_among (fault_of b ws) e (subst K same kinds simple) other) refl

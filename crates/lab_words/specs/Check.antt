@@ -7,6 +7,7 @@ use Rattle.lab_words.specs.Settings.{settings_in, settings_words, with_settings}
 use Rattle.lab_words.specs.Spelling.{Text}
 use Rattle.lab_words.specs.Table.{table_app}
 use Rattle.lab_model.specs.OptionSteps.{◌>>=◌}
+use Rattle.lab_model.specs.Limits.{all_ahead}
 use Rattle.lab_words.specs.Values.{at_most_one, if_agreed, is_given, optional_number, required_text}
 use Rattle.lab_words.specs.declared.Verb.TheVariants as verb
 use Rattle.lab_words.specs.declared.table.Kind.{Kind}
@@ -37,7 +38,7 @@ check_in rows = do
   trace ← required_text (codes "trace") rows
   settings ← settings_in rows
   certificate ← required_text (codes "certificate") rows
-  live ← optional_number 0 120000000 (codes "live") rows
+  live ← optional_number 0 all_ahead (codes "live") rows
   if_agreed check_agrees (record (with_settings settings (blank verb.Check)) {
     manifest = manifest;
     traces = trace ∷ [];

@@ -6,6 +6,7 @@ use Rattle.clap.specs.Simple.{App}
 use Rattle.clap.specs.Walk.{Row}
 use Rattle.indexmap.specs.IndexSet.{insert_all}
 use Rattle.lab_model.specs.Rules.{RuleKind}
+use Rattle.lab_model.specs.Limits.{most_budget}
 use Rattle.lab_words.specs.Command.{CommandWords, blank}
 use Rattle.lab_words.specs.Rules.{named_rule, named_rules}
 use Rattle.lab_words.specs.Settings.{settings_in, settings_words, with_settings}
@@ -54,7 +55,7 @@ traces_in rows = option_and_then (few 64) (several (codes "trace") rows)
 
 -- the budget, which is for regrets alone, and for the best lists, not for bounds by prices
 abbrev pub budget_in : Bool → Bool → List Row → Option ℕ
-budget_in regret near rows = number_unless (not regret || near) (if regret then 200000 else 0) 1 1000000 (codes "budget") rows
+budget_in regret near rows = number_unless (not regret || near) (if regret then 200000 else 0) 1 most_budget (codes "budget") rows
 
 -- not both asked for: regrets, and a viewer who gives downloads up or seeks; nor bounds by prices, and no regrets
 abbrev pub compare_agrees : CommandWords → Bool

@@ -2,6 +2,7 @@
 use Rattle.std.specs.Prelude.{◌≡◌, ◌≤◌, ◌⊎◌, ℕ, Bool, true, false, IfSome, IsSome, List, [], Option, Some, None, length}
 use Rattle.std.specs.List.{All}
 use Rattle.lab_model.specs.Film.{IsWithin}
+use Rattle.lab_model.specs.Limits.{all_ahead, most_budget, most_buffer}
 use Rattle.lab_model.specs.Rules.{RuleKind, fixed, listed, throughput, bola, mpc}
 use Rattle.lab_model.specs.Row.{AreWeights}
 use Rattle.lab_model.specs.Weighing.{IsWeighing, weighing}
@@ -45,20 +46,20 @@ AreWeighed (Some table) utilities switch stall startup = (utilities ≡ []) × A
 
 -- the budget of a comparison: within its limits for regrets, and 0 else
 abbrev pub IsBudget : Bool → ℕ → Type 0
-IsBudget true budget = IsWithin 1 1000000 budget
+IsBudget true budget = IsWithin 1 most_budget budget
 IsBudget false budget = budget ≡ 0
 
 -- what one command alone has: the one rule of one player, the budgets of `compare` and `plan`, the certificate of `check`, the number of `demo`
 abbrev pub HasItsOwn : Verb → CommandWords → Type 0
 HasItsOwn Simulate c = c.players ≡ false → length c.rules ≡ 1
 HasItsOwn Compare c = IsBudget c.regret c.budget
-HasItsOwn Plan c = IsWithin 1 1000000 c.budget
+HasItsOwn Plan c = IsWithin 1 most_budget c.budget
 HasItsOwn Check c = IsSome c.certificate
 HasItsOwn Demo c = c.number ≤ 2147483647
 
 -- no grid, or milliseconds and thousandths of a point within their limits
-abbrev pub IsGrid : ℕ → ℕ → Type 0
-IsGrid time value = ((time ≡ 0) × (value ≡ 0)) ⊎ (IsWithin 1 10000 time × IsWithin 1 1000000 value)
+abbrev pub AreGridWords : ℕ → ℕ → Type 0
+AreGridWords time value = ((time ≡ 0) × (value ≡ 0)) ⊎ (IsWithin 1 10000 time × IsWithin 1 1000000 value)
 
 -- no two options exclude each other
 abbrev pub agrees : Verb → CommandWords → Bool
@@ -72,9 +73,9 @@ agrees Demo c = true
 pub record IsWithinLimits (c : CommandWords) : Type 0 where
   pub counts : AreCounted c.verb (length c.traces) (length c.rules)
   pub spoken : All (λ r. IsRuleWithin r.1) c.rules
-  pub buffer : HasFilm c.verb → IsWithin 1 10000000 c.buffer_ms
+  pub buffer : HasFilm c.verb → IsWithin 1 most_buffer c.buffer_ms
   pub weights : HasFilm c.verb → AreWeighed c.table c.utilities c.switch c.stall c.startup
   pub own : HasItsOwn c.verb c
-  pub live : IfSome c.live (λ ms. ms ≤ 120000000)
-  pub grid : IsGrid c.coarse_time c.coarse_value
+  pub live : IfSome c.live (λ ms. ms ≤ all_ahead)
+  pub grid : AreGridWords c.coarse_time c.coarse_value
   pub agreed : agrees c.verb c ≡ true

@@ -7,6 +7,7 @@ use Rattle.lab_words.specs.Settings.{settings_in, settings_words, with_settings}
 use Rattle.lab_words.specs.Spelling.{Text, grid_of}
 use Rattle.lab_words.specs.Table.{table_app}
 use Rattle.lab_model.specs.OptionSteps.{◌>>=◌}
+use Rattle.lab_model.specs.Limits.{all_ahead, most_budget}
 use Rattle.lab_words.specs.Values.{at_most_one, if_agreed, is_given, number_unless, optional, optional_number, required_text}
 use Rattle.lab_words.specs.declared.Verb.TheVariants as verb
 use Rattle.lab_words.specs.declared.table.Kind.{Kind}
@@ -33,8 +34,8 @@ grid_if None = Some (0, 0)
 grid_if (Some text) = grid_of text
 
 -- the grid of a coarse plan, or zeros
-unfoldable pub grid_in : List Row → Option (ℕ × ℕ)
-grid_in rows = do
+unfoldable pub grid_words_in : List Row → Option (ℕ × ℕ)
+grid_words_in rows = do
   given ← optional (codes "coarse") rows
   grid_if given
 
@@ -48,9 +49,9 @@ plan_in rows = do
   manifest ← required_text (codes "manifest") rows
   trace ← required_text (codes "trace") rows
   settings ← settings_in rows
-  budget ← number_unless (is_given (codes "near") rows) 200000 1 1000000 (codes "budget") rows
-  live ← optional_number 0 120000000 (codes "live") rows
-  grid ← grid_in rows
+  budget ← number_unless (is_given (codes "near") rows) 200000 1 most_budget (codes "budget") rows
+  live ← optional_number 0 all_ahead (codes "live") rows
+  grid ← grid_words_in rows
   if_agreed plan_agrees (record (with_settings settings (blank verb.Plan)) {
     manifest = manifest;
     traces = trace ∷ [];

@@ -2,8 +2,9 @@
 use Rattle.std.specs.Prelude.{ℕ, List, [], ◌∷◌, Option, Some, None, codes, option_map, string_bytes}
 use Rattle.clap.specs.Walk.{Row}
 use Rattle.lab_words.specs.Command.{CommandWords}
-use Rattle.lab_words.specs.Spelling.{Text, utilities_of}
+use Rattle.lab_words.specs.Spelling.{Text, utilities_spelled}
 use Rattle.lab_model.specs.OptionSteps.{◌>>=◌}
+use Rattle.lab_model.specs.Limits.{most_buffer}
 use Rattle.lab_words.specs.Values.{Either, first, second, number_in, one_of}
 use Rattle.lab_words.specs.declared.settings.Settings.{Settings}
 use Rattle.lab_words.specs.declared.table.Kind.{Kind}
@@ -25,7 +26,7 @@ UtilitiesWords = List ℕ × Option Text
 
 -- the utilities that a text spells, or the table that it names
 abbrev pub utilities_by : Either → Option UtilitiesWords
-utilities_by (first text) = option_map (λ utilities. (utilities, None)) (utilities_of text)
+utilities_by (first text) = option_map (λ utilities. (utilities, None)) (utilities_spelled text)
 utilities_by (second name) = Some ([], Some name)
 
 -- the utilities or their table, of which exactly one has to be given
@@ -46,7 +47,7 @@ pub record SettingsWords : Type 0 where
 -- what the options of a command on a manifest say
 unfoldable pub settings_in : List Row → Option SettingsWords
 settings_in rows = do
-  buffer_ms ← number_in 25000 1 10000000 (codes "buffer") rows
+  buffer_ms ← number_in 25000 1 most_buffer (codes "buffer") rows
   utilities ← utilities_in rows
   switch ← number_in 0 0 1000000 (codes "switch") rows
   stall ← number_in 100 0 1000000 (codes "stall") rows

@@ -5,6 +5,7 @@ use Rattle.clap.specs.Simple.{App}
 use Rattle.clap.specs.Walk.{Row}
 use Rattle.lab_words.specs.Command.{CommandWords, blank}
 use Rattle.lab_model.specs.Rules.{RuleKind}
+use Rattle.lab_model.specs.Limits.{all_ahead}
 use Rattle.lab_words.specs.Rules.{named_rule, named_rules}
 use Rattle.lab_words.specs.Settings.{settings_in, settings_words, with_settings}
 use Rattle.lab_words.specs.Spelling.{Text, at_most}
@@ -59,7 +60,7 @@ simulate_in rows = do
   players ← players_in rows
   settings ← settings_in rows
   seeks ← optional (codes "seeks") rows
-  live ← optional_number 0 120000000 (codes "live") rows
+  live ← optional_number 0 all_ahead (codes "live") rows
   if_agreed simulate_agrees (record (with_settings settings (blank verb.Simulate)) {
     manifest = manifest;
     traces = trace ∷ [];

@@ -42,8 +42,8 @@ abbrev pub unless_falling : List ℕ → Option (List ℕ)
 unless_falling ns = if never_falls ns then Some ns else None
 
 -- 1 to 16 utilities joined by `,`, non-decreasing, each from 0 to 1000000
-unfoldable pub utilities_of : Text → Option (List ℕ)
-utilities_of text = option_and_then unless_falling (numbers_of 16 0 1000000 text)
+unfoldable pub utilities_spelled : Text → Option (List ℕ)
+utilities_spelled text = option_and_then unless_falling (numbers_of 16 0 1000000 text)
 
 -- a text has a `,`
 abbrev pub has_comma : Text → Bool

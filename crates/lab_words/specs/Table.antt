@@ -41,5 +41,5 @@ is_fault_free [] = true
 is_fault_free (k ∷ ks) = false
 
 -- the matches of `clap`'s own account of a command, where it finds no fault in the words
-unfoldable pub accepted : App → List Text → Option (List Row)
-accepted app words = if is_fault_free (fault_of app words) then Some (matches_of app words) else None
+unfoldable pub accepted_words : App → List Text → Option (List Row)
+accepted_words app words = if is_fault_free (fault_of app words) then Some (matches_of app words) else None

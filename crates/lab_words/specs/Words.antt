@@ -8,7 +8,7 @@ use Rattle.lab_words.specs.Demo.{demo_app, demo_in}
 use Rattle.lab_words.specs.Plan.{plan_app, plan_in}
 use Rattle.lab_words.specs.Simulate.{simulate_app, simulate_in}
 use Rattle.lab_words.specs.Spelling.{Text}
-use Rattle.lab_words.specs.Table.{accepted}
+use Rattle.lab_words.specs.Table.{accepted_words}
 use Rattle.lab_words.specs.declared.Verb.{Verb}
 use Rattle.lab_words.specs.declared.Verb.TheVariants as verb
 pub use Rattle.lab_words.specs.Command.{CommandWords, named, view}
@@ -30,11 +30,11 @@ verb_of word =
 
 -- what the words behind a command's name ask for
 abbrev pub asked_of : Verb → List Text → Option CommandWords
-asked_of verb.Simulate words = option_and_then simulate_in (accepted simulate_app words)
-asked_of verb.Compare words = option_and_then compare_in (accepted compare_app words)
-asked_of verb.Plan words = option_and_then plan_in (accepted plan_app words)
-asked_of verb.Check words = option_and_then check_in (accepted check_app words)
-asked_of verb.Demo words = option_and_then demo_in (accepted demo_app words)
+asked_of verb.Simulate words = option_and_then simulate_in (accepted_words simulate_app words)
+asked_of verb.Compare words = option_and_then compare_in (accepted_words compare_app words)
+asked_of verb.Plan words = option_and_then plan_in (accepted_words plan_app words)
+asked_of verb.Check words = option_and_then check_in (accepted_words check_app words)
+asked_of verb.Demo words = option_and_then demo_in (accepted_words demo_app words)
 
 -- the first word is a command
 abbrev pub begins_with_verb : List Text → Bool

@@ -4,15 +4,16 @@ ghost use Rattle.std.specs.Prelude.{map, string_bytes};
 ghost use Rattle.clap.specs.Words.{found_of, rows_of};
 ghost use Rattle.lab_words.specs.Command.{view};
 ghost use Rattle.lab_words.specs.Check.{check_app, check_in};
-ghost use Rattle.lab_words.specs.Table.{accepted};
+ghost use Rattle.lab_words.specs.Table.{accepted_words};
 ghost use Rattle.lab_words.specs.Values.{Understands};
 ghost use Rattle.lab_words.specs.Words.{asked_of};
 
-use crate::settings::{MOST_LIVE, SETTINGS, settings_in};
+use crate::settings::{SETTINGS, settings_in};
 use crate::table::{Kind, Word, table_matches};
 use crate::values::{at_most_one, file_name, is_given, optional_number};
 use crate::{Command, Verb, WordsErr};
 use clap::ArgMatches;
+use lab_model::ALL_AHEAD_MS;
 use std::alloc::Global;
 
 /// The words of `check` alone.
@@ -29,7 +30,7 @@ static CHECK: [Word; 6] = [
 /// The matches of `check` on the words behind it.
 fn check_matches<'a>(alloc: Global, words: &'a [String]) -> Result<ArgMatches<'a>, WordsErr>
     ensures { Understands (λ m. rows_of (found_of m)) result
-        (accepted check_app (map string_bytes words.entry.now)) }
+        (accepted_words check_app (map string_bytes words.entry.now)) }
 {
     table_matches(alloc, "check", &CHECK, &SETTINGS, words)
 }
@@ -43,7 +44,7 @@ fn check_in(alloc: Global, matches: &ArgMatches<'_>) -> Result<Command, WordsErr
     let trace = file_name(alloc, matches, "trace")?;
     let settings = settings_in(alloc, matches)?;
     let certificate = file_name(alloc, matches, "certificate")?;
-    let live = optional_number(matches, "live", 0, MOST_LIVE)?;
+    let live = optional_number(matches, "live", 0, ALL_AHEAD_MS)?;
     let gap = is_given(matches, "gap");
     let near = is_given(matches, "near");
     if !at_most_one(&[live.is_some() || near, gap]) {

@@ -4,12 +4,12 @@ ghost use Rattle.std.specs.Prelude.{◌≡◌, IfOk, map, string_bytes};
 ghost use Rattle.clap.specs.Words.{found_of, rows_of};
 ghost use Rattle.lab_words.specs.Command.{named, view};
 ghost use Rattle.lab_words.specs.Compare.{budget_in, compare_app, compare_in, distinct, few, rules_in, traces_in};
-ghost use Rattle.lab_words.specs.Table.{accepted};
+ghost use Rattle.lab_words.specs.Table.{accepted_words};
 ghost use Rattle.lab_words.specs.Values.{Understands};
 ghost use Rattle.lab_words.specs.Words.{asked_of};
 
 use crate::rules::{named_rules, pieces_of};
-use crate::settings::{SETTINGS, settings_in};
+use crate::settings::{DEFAULT_BUDGET, SETTINGS, settings_in};
 use crate::table::{Kind, Word, table_matches};
 use crate::values::{
     at_most_one, file_name, is_given, number_unless, optional_file_name, required_text, several,
@@ -17,6 +17,7 @@ use crate::values::{
 use crate::{Command, NamedRule, Verb, WordsErr};
 use clap::ArgMatches;
 use indexmap::IndexSet;
+use lab_model::MOST_BUDGET;
 use std::alloc::{AllocError, AllocFailed, Global};
 
 /// The words of `compare` alone.
@@ -41,7 +42,7 @@ const MOST_TRACES: usize = 64;
 /// The matches of `compare` on the words behind it.
 fn compare_matches<'a>(alloc: Global, words: &'a [String]) -> Result<ArgMatches<'a>, WordsErr>
     ensures { Understands (λ m. rows_of (found_of m)) result
-        (accepted compare_app (map string_bytes words.entry.now)) }
+        (accepted_words compare_app (map string_bytes words.entry.now)) }
 {
     table_matches(alloc, "compare", &COMPARE, &SETTINGS, words)
 }
@@ -109,8 +110,8 @@ fn budget_in(matches: &ArgMatches<'_>, regret: bool, near: bool) -> Result<u32, 
     ensures { Understands (λ number. number) result
         (budget_in regret near (rows_of (found_of matches.now))) }
 {
-    let default = if regret { 200_000 } else { 0 };
-    number_unless(matches, "budget", !regret || near, default, 1, 1_000_000)
+    let default = if regret { DEFAULT_BUDGET } else { 0 };
+    number_unless(matches, "budget", !regret || near, default, 1, MOST_BUDGET)
 }
 
 /// What `compare` is asked for, by the values of its options.

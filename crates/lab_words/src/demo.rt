@@ -4,7 +4,7 @@ ghost use Rattle.std.specs.Prelude.{map, string_bytes};
 ghost use Rattle.clap.specs.Words.{found_of, rows_of};
 ghost use Rattle.lab_words.specs.Command.{view};
 ghost use Rattle.lab_words.specs.Demo.{demo_app, demo_in};
-ghost use Rattle.lab_words.specs.Table.{accepted};
+ghost use Rattle.lab_words.specs.Table.{accepted_words};
 ghost use Rattle.lab_words.specs.Values.{Understands};
 ghost use Rattle.lab_words.specs.Words.{asked_of};
 
@@ -24,7 +24,7 @@ static DEMO: [Word; 1] = [
 /// The matches of `demo` on the words behind it.
 fn demo_matches<'a>(alloc: Global, words: &'a [String]) -> Result<ArgMatches<'a>, WordsErr>
     ensures { Understands (λ m. rows_of (found_of m)) result
-        (accepted demo_app (map string_bytes words.entry.now)) }
+        (accepted_words demo_app (map string_bytes words.entry.now)) }
 {
     table_matches(alloc, "demo", &DEMO, &[], words)
 }

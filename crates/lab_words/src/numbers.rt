@@ -2,10 +2,11 @@
 
 ghost use Rattle.std.specs.Prelude.{◌≡◌, ◌≤◌, IfOk, IfSome, length, map};
 ghost use Rattle.std.specs.Str.{all_ascii_digits};
-ghost use Rattle.lab_words.specs.Spelling.{grid_by, grid_of, is_number, never_falls, number_of, numbers_of, pieces_of, utilities_of};
+ghost use Rattle.lab_words.specs.Spelling.{grid_by, grid_of, is_number, never_falls, number_of, numbers_of, pieces_of, utilities_spelled};
 ghost use Rattle.lab_words.specs.Values.{Understands};
 
 use crate::WordsErr;
+use lab_model::{MOST_RUNGS, MOST_UTILITY};
 use std::alloc::{AllocError, Global};
 
 fn all_digits(bytes: &[u8]) -> bool
@@ -121,11 +122,11 @@ fn never_falls(numbers: &[u32]) -> bool
 }
 
 /// 1 to 16 utilities joined by `,`, non-decreasing, each from 0 to 1000000.
-#[tactic(auto, unfolding(crate::specs::Spelling::utilities_of))]
+#[tactic(auto, unfolding(crate::specs::Spelling::utilities_spelled))]
 pub(crate) fn utilities_of(alloc: Global, text: &str) -> Result<Vec<u32>, WordsErr>
-    ensures { Understands (λ numbers. numbers.items) result (utilities_of text.now) }
+    ensures { Understands (λ numbers. numbers.items) result (utilities_spelled text.now) }
 {
-    let utilities = numbers_of(alloc, text, 16, 0, 1_000_000)?;
+    let utilities = numbers_of(alloc, text, MOST_RUNGS, 0, MOST_UTILITY)?;
     if never_falls(&utilities) {
         Ok(utilities)
     } else {

@@ -11,10 +11,11 @@ use crate::table::{Kind, Word};
 use crate::values::{OneOf, number_in, one_of};
 use crate::{Command, Verb, WordsErr};
 use clap::ArgMatches;
+use lab_model::{MOST_BUFFER_MS, MOST_WEIGHT};
 use std::alloc::Global;
 
-/// The most media ahead of a live film, in milliseconds.
-pub(crate) const MOST_LIVE: u32 = 120_000_000;
+/// The labels that a plan may have where no budget is given.
+pub(crate) const DEFAULT_BUDGET: u32 = 200_000;
 
 /// Their words.
 #[rattlefmt::skip]
@@ -58,15 +59,15 @@ fn utilities_in(
 pub(crate) fn settings_in(alloc: Global, matches: &ArgMatches<'_>) -> Result<Settings, WordsErr>
     ensures { Understands settings_view result (settings_in (rows_of (found_of matches.now))) }
 {
-    let buffer_ms = number_in(matches, "buffer", 25_000, 1, 10_000_000)?;
+    let buffer_ms = number_in(matches, "buffer", 25_000, 1, MOST_BUFFER_MS)?;
     let (utilities, table) = utilities_in(alloc, matches)?;
     Ok(Settings {
         buffer_ms,
         utilities,
         table,
-        switch: number_in(matches, "switch", 0, 0, 1_000_000)?,
-        stall: number_in(matches, "stall", 100, 0, 1_000_000)?,
-        startup: number_in(matches, "startup", 1, 0, 1_000_000)?,
+        switch: number_in(matches, "switch", 0, 0, MOST_WEIGHT)?,
+        stall: number_in(matches, "stall", 100, 0, MOST_WEIGHT)?,
+        startup: number_in(matches, "startup", 1, 0, MOST_WEIGHT)?,
     })
 }
 

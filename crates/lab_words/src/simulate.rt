@@ -4,18 +4,19 @@ ghost use Rattle.std.specs.Prelude.{map, string_bytes};
 ghost use Rattle.clap.specs.Words.{found_of, rows_of};
 ghost use Rattle.lab_words.specs.Command.{named, view};
 ghost use Rattle.lab_words.specs.Simulate.{players_in, several_players, simulate_app, simulate_in};
-ghost use Rattle.lab_words.specs.Table.{accepted};
+ghost use Rattle.lab_words.specs.Table.{accepted_words};
 ghost use Rattle.lab_words.specs.Values.{Understands};
 ghost use Rattle.lab_words.specs.Words.{asked_of};
 
 use crate::rules::{named_rule, named_rules, pieces_of};
-use crate::settings::{MOST_LIVE, SETTINGS, settings_in};
+use crate::settings::{SETTINGS, settings_in};
 use crate::table::{Kind, Word, table_matches};
 use crate::values::{
     OneOf, at_most_one, file_name, is_given, one_of, optional_file_name, optional_number,
 };
 use crate::{Command, NamedRule, Verb, WordsErr};
 use clap::ArgMatches;
+use lab_model::ALL_AHEAD_MS;
 use std::alloc::Global;
 
 /// The words of `simulate` alone.
@@ -36,7 +37,7 @@ const MOST_PLAYERS: usize = 8;
 /// The matches of `simulate` on the words behind it.
 fn simulate_matches<'a>(alloc: Global, words: &'a [String]) -> Result<ArgMatches<'a>, WordsErr>
     ensures { Understands (λ m. rows_of (found_of m)) result
-        (accepted simulate_app (map string_bytes words.entry.now)) }
+        (accepted_words simulate_app (map string_bytes words.entry.now)) }
 {
     table_matches(alloc, "simulate", &SIMULATE, &SETTINGS, words)
 }
@@ -78,7 +79,7 @@ fn simulate_in(alloc: Global, matches: &ArgMatches<'_>) -> Result<Command, Words
     let (rules, players) = players_in(alloc, matches)?;
     let settings = settings_in(alloc, matches)?;
     let seeks = optional_file_name(alloc, matches, "seeks")?;
-    let live = optional_number(matches, "live", 0, MOST_LIVE)?;
+    let live = optional_number(matches, "live", 0, ALL_AHEAD_MS)?;
     let abandon = is_given(matches, "abandon");
     if !at_most_one(&[live.is_some(), players, abandon || seeks.is_some()]) {
         return Err(WordsErr::Usage);

@@ -2,7 +2,7 @@
 
 ghost use Rattle.std.specs.Prelude.{◌≡◌, None, true, false, IfOk, map, string_bytes};
 ghost use Rattle.clap.specs.Words.{app_of, found_of, is_simple_and_free, rows_of, rule_of};
-ghost use Rattle.lab_words.specs.Table.{accepted, entry_of, plain_app, rule_of_word, table_app, with_words};
+ghost use Rattle.lab_words.specs.Table.{accepted_words, entry_of, plain_app, rule_of_word, table_app, with_words};
 ghost use Rattle.lab_words.specs.Values.{Understands};
 
 use crate::WordsErr;
@@ -96,7 +96,7 @@ pub(crate) fn table_matches<'a>(
     requires { is_simple_and_free
         (table_app name.now (map entry_of own.now) (map entry_of shared.now)) ≡ true }
     ensures { Understands (λ m. rows_of (found_of m)) result
-        (accepted (table_app name.entry.now (map entry_of own.now) (map entry_of shared.now))
+        (accepted_words (table_app name.entry.now (map entry_of own.now) (map entry_of shared.now))
         (map string_bytes words.entry.now)) }
 {
     let Ok(command) = table_command(alloc, name, own, shared) else {

@@ -11,11 +11,10 @@ use Rattle.std.proofs.lemmas.List.Sums.{fails_before_first, passes_at_first}
 use Rattle.lab_model.specs.declared.label.Label.{Label}
 use Rattle.lab_model.specs.Film.{rungs_of, segments_of}
 use Rattle.lab_model.specs.Ladder.{rungs_below}
-use Rattle.labels.specs.declared.label.Grid.{Grid}
 use Rattle.labels.specs.Labels.{Dominates, dominates, next_label, start_label}
 use Rattle.player_core.specs.Scene.{IsTask, Task}
 use Rattle.labels.specs.Parts.{CertificateParts, ChainParts}
-use Rattle.labels.specs.Grid.{IsGrid}
+use Rattle.labels.specs.Grid.{IsGrid, Rounding}
 use Rattle.labels.specs.Grown.{grown}
 use Rattle.labels.specs.Read.{Chains, bound_of, certificate_from, chain_with_names, names_of_label, no_label, place_above}
 use Rattle.labels.specs.Covers.{Covers, HasAbove}
@@ -73,7 +72,7 @@ place_found chain l h =
 
 -- ---- the parts of the certificate
 
-module _ (d : Grid) (g : Task) (chains : Chains) where
+module _ (d : Rounding) (g : Task) (chains : Chains) where
   abbrev c : CertificateParts
   c = certificate_from d g chains
 
@@ -110,7 +109,7 @@ module _ (d : Grid) (g : Task) (chains : Chains) where
 
 -- ---- validity
 
-module _ (d : Grid) (grid : IsGrid d) (g : Task) (is : IsTask g) where
+module _ (d : Rounding) (grid : IsGrid d) (g : Task) (is : IsTask g) where
   abbrev made : CertificateParts
   made = certificate_from d g (grown d g)
 

@@ -8,8 +8,8 @@ use Rattle.lab_model.specs.declared.label.Label.{Label}
 use Rattle.lab_model.specs.Film.{segments_of}
 use Rattle.lab_model.specs.Rules.{listed}
 use Rattle.player_core.specs.State.{Download, Player, playing}
-use Rattle.player_core.specs.Parts.{arrival, arrives, asks, begun, can_ask, loads, request, rung_for}
-use Rattle.player_core.specs.Sound.{IsCase, Runs, Sound}
+use Rattle.player_core.specs.Parts.{arrival, arrives, asks, can_ask, mode_after_arrival, loads, request, rung_for}
+use Rattle.player_core.specs.Sound.{DownloadRuns, IsCase, Sound}
 use Rattle.player_core.proofs.Chain.{is_case}
 use Rattle.player_core.proofs.Runs.{runs_done}
 use Rattle.player_core.proofs.Soundness.{Asks, can_ask_true}
@@ -35,11 +35,11 @@ pub before_next : (g : Task) (rungs : List ℕ) (k : ℕ) → label_at g rungs k
 unfolding label_before
 before_next g rungs k = sym (ap (label_before g rungs) (add-one k))
 
-mode_next : (k : ℕ) → begun (mode_before k) ≡ mode_before (k + 1)
+mode_next : (k : ℕ) → mode_after_arrival (mode_before k) ≡ mode_before (k + 1)
 unfolding mode_before
 mode_next k = begins k ∙ sym (ap mode_before (add-one k))
   where
-    begins : (n : ℕ) → begun (mode_before n) ≡ playing
+    begins : (n : ℕ) → mode_after_arrival (mode_before n) ≡ playing
     begins zero = refl
     begins (suc i) = refl
 
@@ -69,7 +69,7 @@ module _ (g : Task) (is : IsTask g) (rungs : List ℕ) (from : ℕ) (l : Label) 
     loads_t : p.t ≡ (label_at g rungs p.k).t
     loads_t =
         let c = case_along g rungs in
-        let runs : Runs c p.t d = subst (λ o. IfSome o (Runs c p.t)) some h.running in
+        let runs : DownloadRuns c p.t d = subst (λ o. IfSome o (DownloadRuns c p.t)) some h.running in
         let next : d.segment ≡ p.k = subst (λ o. IfSome o (λ e. e.segment ≡ p.k)) some h.of_next in
         let asked : (d.asked ≡ request_at g p.k l) × (d.rung ≡ slice_index rungs p.k) = subst (λ o. IfSome o (λ e. (e.asked ≡ request_at g p.k l) × (e.rung ≡ slice_index rungs p.k))) some a.asked in
         runs_done c (along_case g is rungs fits) p.t d runs none ∙ ap (λ s. came_at g s d.segment d.rung) asked.0 ∙ ap (λ i. came_at g (request_at g p.k l) i d.rung) next
@@ -96,7 +96,7 @@ module _ (g : Task) (is : IsTask g) (rungs : List ℕ) (from : ℕ) (l : Label) 
     loads_listed : p.played ++ (p.loaded ++ segment_on d.segment d.rung ∷ []) ≡ rungs_played rungs (p.k + 1)
     loads_listed =
         let c = case_along g rungs in
-        let runs : Runs c p.t d = subst (λ o. IfSome o (Runs c p.t)) some h.running in
+        let runs : DownloadRuns c p.t d = subst (λ o. IfSome o (DownloadRuns c p.t)) some h.running in
         let next : d.segment ≡ p.k = subst (λ o. IfSome o (λ e. e.segment ≡ p.k)) some h.of_next in
         let asked : (d.asked ≡ request_at g p.k l) × (d.rung ≡ slice_index rungs p.k) = subst (λ o. IfSome o (λ e. (e.asked ≡ request_at g p.k l) × (e.rung ≡ slice_index rungs p.k))) some a.asked in
         let low = runs.segment in
@@ -113,7 +113,7 @@ module _ (g : Task) (is : IsTask g) (rungs : List ℕ) (from : ℕ) (l : Label) 
           label = before_next g rungs p.k;
           spent = a.spent;
           free = a.free;
-          mode = ap begun a.mode ∙ mode_next p.k;
+          mode = ap mode_after_arrival a.mode ∙ mode_next p.k;
           calm = λ zero. absurd (omega (arith, zero));
           startup = λ more. loads_startup;
           came = omega (arith, t);

@@ -9,7 +9,7 @@ use Rattle.lab_model.specs.Film.{rungs_of, segments_of}
 use Rattle.player_core.specs.Scene.{Task}
 use Rattle.labels.specs.Labels.{next_label, start_label}
 use Rattle.labels.specs.Near.{CanFollow}
-use Rattle.labels.specs.declared.label.Grid.{Grid}
+use Rattle.labels.specs.Grid.{Rounding}
 use Rattle.labels.specs.Grown.{grown, CanPlan, grown_labels}
 use Rattle.labels.proofs.Reached.{IsInReach, IsWellInReach, grown_reach, next_reach, reach_follows, start_reach}
 use Rattle.labels.proofs.Walks.{from_by_rung}
@@ -21,7 +21,7 @@ near_wider most more v near wide = let low = near.low in let high = near.high in
 reach_rounds : (i : ℕ) (l : Label) → i < 2000 → IsWellInReach i l → IsNear 900000000000000000 l.v
 reach_rounds i l low h = near_wider _ _ l.v h.value (omega (arith, low))
 
-module _ (d : Grid) (g : Task) (case : CanPlan d g) where
+module _ (d : Rounding) (g : Task) (case : CanPlan d g) where
   few : (i : ℕ) → i < segments_of g.film → i < 2000
   few i low = let most = case.task.film.segments.1 in omega (arith, low, most)
 

@@ -3,18 +3,17 @@ use Rattle.std.proofs.Common.{◌≡◌, ℕ, suc, ◌<◌, ⊎_elim, List, [], 
 use Rattle.std.specs.List.{Contains}
 use Rattle.lab_model.specs.declared.label.Label.{Label}
 use Rattle.lab_model.specs.Film.{rungs_of}
-use Rattle.labels.specs.declared.label.Grid.{Grid}
 use Rattle.player_core.specs.Scene.{Task}
 use Rattle.labels.specs.Labels.{next_label, start_label}
 use Rattle.labels.specs.Frontier.{by_rung, undominated}
-use Rattle.labels.specs.Grid.{IsGrid, rounded}
+use Rattle.labels.specs.Grid.{IsGrid, Rounding, rounded}
 use Rattle.labels.specs.Grown.{grown, successors}
 use Rattle.labels.specs.Covers.{Covers, HasAbove}
 use Rattle.labels.proofs.Kept.{above_undominated, dominates_trans, undominated_in}
 use Rattle.labels.proofs.Rounds.{round_dominates}
 use Rattle.labels.proofs.Walks.{at_head, first_or_rest, from_map, in_by_rung, in_map, none_at}
 
-module _ (d : Grid) (g : Task) where
+module _ (d : Rounding) (g : Task) where
   -- segment 0 has the rounded start label
   pub grown_first : (q : ℕ) → grown d g 0 q ≡ rounded d (start_label g q) ∷ []
   unfolding grown

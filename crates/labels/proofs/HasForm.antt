@@ -14,7 +14,7 @@ use Rattle.lab_model.specs.declared.label.Label.{Label}
 use Rattle.lab_model.specs.Film.{rungs_of, segments_of}
 use Rattle.lab_model.specs.Ladder.{rungs_below}
 use Rattle.player_core.specs.Scene.{IsTask, Task}
-use Rattle.labels.specs.declared.label.Grid.{Grid}
+use Rattle.labels.specs.Grid.{Rounding}
 use Rattle.labels.specs.Frontier.{by_rung}
 use Rattle.labels.specs.Form.{AreChains, HasDigits, HasSignedDigits, IsCertificate, IsChain, IsSpelled, label_count, names_per, place_digits, rung_digits, score_digits}
 use Rattle.labels.specs.Grown.{CanPlan, grown}
@@ -125,7 +125,7 @@ names_count g chains i q low =
 
 -- ---- the certificate
 
-module _ (d : Grid) (g : Task) (case : CanPlan d g) (few : labels_in g (grown d g) ≤ 1000000) where
+module _ (d : Rounding) (g : Task) (case : CanPlan d g) (few : labels_in g (grown d g) ≤ 1000000) where
   few_segments : (i : ℕ) → i < segments_of g.film → i < 2000
   few_segments i low = let most = case.task.film.segments.1 in omega (arith, low, most)
 

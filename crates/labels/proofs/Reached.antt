@@ -12,11 +12,10 @@ use Rattle.network_clock.specs.Network.{period_at}
 use Rattle.network_clock.proofs.Downloads.{done_found}
 use Rattle.network_clock.proofs.Flows.{trace_flows}
 use Rattle.player_core.proofs.Runs.{size_within}
-use Rattle.labels.specs.declared.label.Grid.{Grid}
 use Rattle.labels.specs.Labels.{AreRungs, came_at, label_at, next_label, request_at, start_label, there_at}
 use Rattle.player_core.specs.Scene.{IsTask, Task}
 use Rattle.labels.specs.Near.{CanFollow}
-use Rattle.labels.specs.Grid.{IsGrid, multiple_above, rounded}
+use Rattle.labels.specs.Grid.{IsGrid, Rounding, multiple_above, rounded}
 use Rattle.labels.specs.Grown.{grown}
 use Rattle.labels.proofs.Covered.{rung_at}
 use Rattle.labels.proofs.Grown.{from_first, from_next}
@@ -118,7 +117,7 @@ next_reach g is i q r low before rung l h =
     }
 
 -- a label with room for a step lies within the limits when it is rounded
-pub round_reach : (d : Grid) → IsGrid d → (i : ℕ) (l : Label) → IsWellInReach i l → IsInReach i (rounded d l)
+pub round_reach : (d : Rounding) → IsGrid d → (i : ℕ) (l : Label) → IsWellInReach i l → IsInReach i (rounded d l)
 round_reach d is i l h =
     let time = h.time in
     let delay = h.delay in
@@ -141,7 +140,7 @@ label_reach g is rungs h (suc i) low =
     subst (IsInReach (suc i)) (sym (label_next g rungs i)) (well_in_reach (suc i) (next_label g (suc i) q (label_at g rungs i) r) (next_reach g is i q r low (rung_at g (segments_of g.film) rungs h i (omega arith)) (rung_at g (segments_of g.film) rungs h (suc i) low) (label_at g rungs i) before))
 
 -- the labels that grow on a grid
-pub grown_reach : (d : Grid) → IsGrid d → (g : Task) → IsTask g → (i q : ℕ) → i < segments_of g.film → q < rungs_of g.film → (l : Label) → Contains (grown d g i q) l → IsInReach i l
+pub grown_reach : (d : Rounding) → IsGrid d → (g : Task) → IsTask g → (i q : ℕ) → i < segments_of g.film → q < rungs_of g.film → (l : Label) → Contains (grown d g i q) l → IsInReach i l
 grown_reach d grid g is zero q low rung l h = subst (IsInReach 0) (from_first d g q l h) (round_reach d grid 0 (start_label g q) (start_reach g is q rung))
 grown_reach d grid g is (suc i) r low rung l h =
     let from = from_next d g i r l h in
@@ -157,3 +156,7 @@ reach_follows i l low h =
     let least = h.value.low in
     let most = h.value.high in
     record { time = omega (arith, time, low); delay = omega (arith, delay, low); value = record { low = omega (arith, ints, least, low); high = omega (arith, ints, most, low) } }
+
+-- a label along a rung list may be followed
+pub list_follows : (g : Task) → IsTask g → (rungs : List ℕ) → AreRungs g (segments_of g.film) rungs → (i : ℕ) → i < segments_of g.film → CanFollow (label_at g rungs i)
+list_follows g is rungs fits i low = let few = is.film.segments.1 in reach_follows i (label_at g rungs i) (omega (arith, few, low)) (label_reach g is rungs fits i low)

@@ -10,11 +10,10 @@ use Rattle.std.proofs.lemmas.List.Elements.{All-cons, All-nil, All-push}
 use Rattle.lab_model.proofs.Orders.{≤ℤ_trans}
 use Rattle.lab_model.specs.declared.label.Label.{Label}
 use Rattle.lab_model.specs.Film.{rungs_of, segments_of}
-use Rattle.labels.specs.declared.label.Grid.{Grid}
 use Rattle.labels.specs.Labels.{AreRungs, end_value, label_at, next_label, start_label}
 use Rattle.player_core.specs.Scene.{IsTask, Task}
 use Rattle.labels.specs.Frontier.{is_same}
-use Rattle.labels.specs.Grid.{IsGrid, exact, rounded}
+use Rattle.labels.specs.Grid.{IsGrid, Rounding, exact, rounded}
 use Rattle.labels.specs.Grown.{grown}
 use Rattle.labels.specs.Read.{Chains, best_in, bound_of, end_of_plan, ends_higher, labels_of, leads_to, list_of_plan, list_value, no_label, parent_of, rungs_back}
 use Rattle.labels.specs.Covers.{Covers}
@@ -75,7 +74,7 @@ some_label g chains is c (suc i) low q rung =
 
 -- ---- the list that is read backwards
 
-module _ (d : Grid) (g : Task) where
+module _ (d : Rounding) (g : Task) where
   -- each label has a parent
   pub parent_found : (i : ℕ) (c : ℕ × Label) → Contains (labels_of g (grown d g) (suc i)) c
       → Contains (labels_of g (grown d g) i) (parent_of d g (grown d g) i c) × (rounded d (next_label g (suc i) (parent_of d g (grown d g) i c).0 (parent_of d g (grown d g) i c).1 c.0) ≡ c.1)
@@ -128,7 +127,7 @@ back_leads g (suc i) c h =
 
 -- ---- the plan
 
-module _ (d : Grid) (g : Task) (grid : IsGrid d) (is : IsTask g) where
+module _ (d : Rounding) (g : Task) (grid : IsGrid d) (is : IsTask g) where
   last_is : suc (segments_of g.film - 1) ≡ segments_of g.film
   last_is = let some = is.film.segments.0 in omega (arith, some)
 

@@ -7,9 +7,8 @@ use Rattle.std.specs.Prelude.{ℤ, pos, negsuc, neg_ℤ, ◌+ℤ◌, ◌≤ℤ�
 use Rattle.std.proofs.lemmas.Int.{ints}
 use Rattle.std.proofs.lemmas.Grind.{div_ceil_times}
 use Rattle.lab_model.specs.declared.label.Label.{Label}
-use Rattle.labels.specs.declared.label.Grid.{Grid}
 use Rattle.labels.specs.Labels.{Dominates}
-use Rattle.labels.specs.Grid.{IsGrid, exact, multiple_above, multiple_below, rounded}
+use Rattle.labels.specs.Grid.{IsGrid, Rounding, exact, multiple_above, multiple_below, rounded}
 
 -- a multiple below is no greater, and a multiple of 1 is the number
 pub below_low : (step n : ℕ) → 1 ≤ step → multiple_below step n ≤ n
@@ -30,7 +29,7 @@ above_one (pos n) = let t = div_ceil_times n 1 (omega arith) in let low = t.0 in
 above_one (negsuc n) = let e = below_one (suc n) in ap (λ m. neg_ℤ (pos m)) e
 
 -- the rounded label dominates the label
-pub round_dominates : (d : Grid) → IsGrid d → (l : Label) → Dominates (rounded d l) l
+pub round_dominates : (d : Rounding) → IsGrid d → (l : Label) → Dominates (rounded d l) l
 round_dominates d is l = let time = is.time.0 in let value = is.value.0 in (below_low d.time l.t time, below_low d.time l.p time, (above_high d.value l.v value).0)
 
 -- on the grid 1, 1 nothing changes
@@ -70,7 +69,7 @@ above_in_order step (negsuc n) (pos m) some h = omega (arith, ints)
 above_in_order step (negsuc n) (negsuc m) some h = let less = below_in_order step (suc m) (suc n) some (omega (arith, ints, h)) in omega (arith, ints, less)
 
 -- where a label dominates another, so it is rounded
-pub round_inherits : (d : Grid) → IsGrid d → (a b : Label) → Dominates a b → Dominates (rounded d a) (rounded d b)
+pub round_inherits : (d : Rounding) → IsGrid d → (a b : Label) → Dominates a b → Dominates (rounded d a) (rounded d b)
 round_inherits d is a b h =
     let time = is.time.0 in
     (below_in_order d.time a.t b.t time h.0, below_in_order d.time a.p b.p time h.1, above_in_order d.value b.v a.v is.value.0 h.2)

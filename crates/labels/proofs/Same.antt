@@ -6,7 +6,7 @@ use Rattle.std.proofs.lemmas.Bool.{cases_Bool, cond-false, cond-true, ltb-true}
 use Rattle.lab_model.specs.declared.label.Label.{Label}
 use Rattle.lab_model.specs.Film.{rungs_of, segments_of}
 use Rattle.lab_model.specs.Ladder.{rungs_below}
-use Rattle.labels.specs.declared.label.Grid.{Grid}
+use Rattle.labels.specs.Grid.{Rounding}
 use Rattle.player_core.specs.Scene.{IsTask, Task}
 use Rattle.labels.specs.Labels.{end_value, next_label, start_label}
 use Rattle.labels.specs.Parts.{CertificateParts, ChainParts}
@@ -18,7 +18,7 @@ use Rattle.labels.proofs.Walks.{by_rung_same, flat_map_same, from_rungs, map_sam
 pub record Agree (g : Task) (a b : Chains) : Type 0 where
   pub same : (i q : ℕ) → i < segments_of g.film → q < rungs_of g.film → a i q ≡ b i q
 
-module _ (d : Grid) (g : Task) (a b : Chains) (h : Agree g a b) where
+module _ (d : Rounding) (g : Task) (a b : Chains) (h : Agree g a b) where
   -- a segment has the same labels
   pub labels_same : (i : ℕ) → i < segments_of g.film → labels_of g a i ≡ labels_of g b i
   labels_same i low = by_rung_same (rungs_of g.film) (a i) (b i) (λ q below. h.same i q low below)

@@ -6,12 +6,11 @@ use Rattle.std.proofs.lemmas.List.{get_or_default}
 use Rattle.std.proofs.lemmas.List.Elements.{All-from_get_or, Contains-get_or}
 use Rattle.lab_model.specs.declared.label.Label.{Label}
 use Rattle.lab_model.specs.Film.{rungs_of, segments_of}
-use Rattle.labels.specs.declared.label.Grid.{Grid}
 use Rattle.labels.specs.Labels.{AreRungs, Dominates, end_value, next_label}
 use Rattle.player_core.specs.Scene.{IsTask, Task}
 use Rattle.labels.specs.Parts.{CertificateParts}
 use Rattle.labels.specs.Frontier.{frontier}
-use Rattle.labels.specs.Grid.{IsGrid, exact}
+use Rattle.labels.specs.Grid.{IsGrid, Rounding, exact}
 use Rattle.labels.specs.Grown.{grown}
 use Rattle.labels.specs.Read.{Chains, bound_of, certificate_from, list_of_plan, list_value, no_label}
 use Rattle.labels.specs.Covers.{Covers}
@@ -87,7 +86,7 @@ module _ (g : Task) (is : IsTask g) (c : CertificateParts) (bound : ℤ) (h : Is
 -- ---- plans
 
 -- the coarse plan
-pub coarse_settles : (d : Grid) → IsGrid d → (g : Task) → IsTask g → Settles g (list_of_plan d g (grown d g)) (list_value g (list_of_plan d g (grown d g))) (bound_of g (grown d g))
+pub coarse_settles : (d : Rounding) → IsGrid d → (g : Task) → IsTask g → Settles g (list_of_plan d g (grown d g)) (list_value g (list_of_plan d g (grown d g))) (bound_of g (grown d g))
 coarse_settles d grid g is =
     settled g is (list_of_plan d g (grown d g)) (list_value g (list_of_plan d g (grown d g))) (bound_of g (grown d g)) (list_fits d g grid is) refl (λ others fits. lists_below d g grid is others fits)
 

@@ -3,12 +3,11 @@ use Rattle.std.specs.Prelude.{◌≡◌, ℕ, suc, ◌*◌, ◌≤◌, ◌<◌, 
 use Rattle.std.specs.List.{Contains}
 use Rattle.lab_model.specs.declared.label.Label.{Label}
 use Rattle.lab_model.specs.Film.{rungs_of, segments_of}
-use Rattle.labels.specs.declared.label.Grid.{Grid}
 use Rattle.labels.specs.Labels.{Dominates, end_value, next_label}
 use Rattle.player_core.specs.Scene.{IsTask, Task}
 use Rattle.labels.specs.Parts.{CertificateParts}
 use Rattle.labels.specs.Frontier.{frontier, undominated}
-use Rattle.labels.specs.Grid.{IsGrid, exact}
+use Rattle.labels.specs.Grid.{IsGrid, Rounding, exact}
 use Rattle.labels.specs.Grown.{grown, successors}
 use Rattle.labels.specs.Read.{bound_of, certificate_from, list_of_plan, list_value}
 use Rattle.labels.specs.Valid.{IsValid}
@@ -48,7 +47,7 @@ PlanIsBest =
 -- the list that is read off coarse frontiers has its labels' value, and no rung list has more than their greatest end value
 abbrev pub CoarseIsBound : Type 0
 CoarseIsBound =
-    (d : Grid) → IsGrid d → (g : Task) → IsTask g
+    (d : Rounding) → IsGrid d → (g : Task) → IsTask g
     → Settles g (list_of_plan d g (grown d g)) (list_value g (list_of_plan d g (grown d g))) (bound_of g (grown d g))
 
 -- the certificate that is read off the frontiers is valid with its own score as the bound
@@ -59,7 +58,7 @@ PlanIsAccepted =
 -- the certificate that is read off coarse frontiers is valid with their greatest end value as the bound
 abbrev pub CoarseIsAccepted : Type 0
 CoarseIsAccepted =
-    (d : Grid) → IsGrid d → (g : Task) → IsTask g → IsValid g (certificate_from d g (grown d g)) (bound_of g (grown d g))
+    (d : Rounding) → IsGrid d → (g : Task) → IsTask g → IsValid g (certificate_from d g (grown d g)) (bound_of g (grown d g))
 
 -- a valid certificate proves what it says, whoever wrote it: its list has its score, and no rung list has more than the bound
 abbrev pub ValidIsSound : Type 0

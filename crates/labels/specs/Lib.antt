@@ -1,5 +1,6 @@
 pub mod Labels
 pub mod Near
+pub mod OnRung
 pub mod Parts
 pub mod Form
 pub mod Frontier

@@ -5,11 +5,10 @@ use Rattle.lab_model.specs.declared.label.Label.{Label}
 use Rattle.lab_model.specs.Ladder.{rungs_below}
 use Rattle.lab_model.specs.Film.{rungs_of, segments_of}
 use Rattle.lab_model.specs.declared.setup.Setup.{Setup}
-use Rattle.labels.specs.declared.label.Grid.{Grid}
 use Rattle.player_core.specs.Scene.{Task}
 use Rattle.labels.specs.Labels.{dominates, end_value, label_at, next_label, start_label}
 use Rattle.labels.specs.Frontier.{by_rung, is_same}
-use Rattle.labels.specs.Grid.{rounded}
+use Rattle.labels.specs.Grid.{Rounding, rounded}
 use Rattle.labels.specs.Parts.{CertificateParts, ChainParts}
 
 -- chains of labels, by segment and rung
@@ -42,20 +41,20 @@ abbrev pub bound_of : Task → Chains → ℤ
 bound_of g chains = end_value g (end_of_plan g chains).1
 
 -- whether the rounded successor of the first, to a segment, is the second
-abbrev pub leads_to : Grid → Task → ℕ → ℕ × Label → ℕ × Label → Bool
+abbrev pub leads_to : Rounding → Task → ℕ → ℕ × Label → ℕ × Label → Bool
 leads_to d g segment b c = is_same (rounded d (next_label g segment b.0 b.1 c.0)) c.1
 
 -- the first label of segment `i`, by rung, then place, whose rounded successor is this one of segment `i + 1`
-abbrev pub parent_of : Grid → Task → Chains → ℕ → ℕ × Label → ℕ × Label
+abbrev pub parent_of : Rounding → Task → Chains → ℕ → ℕ × Label → ℕ × Label
 parent_of d g chains i c = unwrap_or (find (λ b. leads_to d g (suc i) b c) (labels_of g chains i)) (0, no_label)
 
 -- the rungs up to a label of a segment, read backwards
-unfoldable pub rungs_back : Grid → Task → Chains → ℕ → ℕ × Label → List ℕ
+unfoldable pub rungs_back : Rounding → Task → Chains → ℕ → ℕ × Label → List ℕ
 rungs_back d g chains zero c = c.0 ∷ []
 rungs_back d g chains (suc i) c = rungs_back d g chains i (parent_of d g chains i c) ++ c.0 ∷ []
 
 -- the plan's rung list
-unfoldable pub list_of_plan : Grid → Task → Chains → List ℕ
+unfoldable pub list_of_plan : Rounding → Task → Chains → List ℕ
 list_of_plan d g chains = rungs_back d g chains (segments_of g.film - 1) (end_of_plan g chains)
 
 -- the value of a rung list by its labels
@@ -93,7 +92,7 @@ abbrev pub has_table : Setup → Bool
 has_table s = not (s.weights.rows == 0)
 
 -- the certificate that is read off the chains: its score is that of its list
-abbrev pub certificate_from : Grid → Task → Chains → CertificateParts
+abbrev pub certificate_from : Rounding → Task → Chains → CertificateParts
 certificate_from d g chains = record {
   table = has_table g.setup;
   segments = segments_of g.film;

@@ -2,6 +2,7 @@
 
 ghost use Rattle.std.specs.Prelude.{◌≡◌, ◌↔◌, ◌≤◌};
 ghost use Rattle.lab_model.specs.Fit.{SetupFits};
+ghost use Rattle.lab_model.specs.Limits.{all_ahead};
 ghost use Rattle.player_core.specs.Scene.{task_of};
 ghost use Rattle.labels.specs.Best.{Settles};
 ghost use Rattle.labels.specs.Form.{IsCertificate};
@@ -10,6 +11,7 @@ ghost use Rattle.certificate_check.specs.declared.verdict.Verdict.TheVariants.{Y
 ghost use Rattle.certificate_text.specs.Form.{certificate_parts};
 ghost use Rattle.certificate_check.specs.Verdict.{verdict_of};
 
+use crate::scene::live_scene;
 use certificate_check::{Verdict, check_from};
 use certificate_text::Certificate;
 use lab_model::{Manifest, Setup};
@@ -26,7 +28,7 @@ pub fn check_live(
     cert: &Certificate,
 ) -> Verdict
     requires setup { SetupFits setup.now film.now }
-    requires ahead { ahead ≤ 120000000 }
+    requires ahead { ahead ≤ all_ahead }
     requires form { IsCertificate (certificate_parts cert.now) }
     ensures verdict { result ≡ verdict_of (task_of film.now clock.now setup.now ahead)
         (certificate_parts cert.now) cert.now.score }
@@ -35,5 +37,5 @@ pub fn check_live(
     ensures sound { result ≡ Yes → Settles (task_of film.now clock.now setup.now ahead)
         cert.now.plan.items cert.now.score cert.now.score }
 {
-    check_from(film, clock, setup, ahead, cert, cert.score)
+    check_from(&live_scene(film, clock, setup, ahead), cert, cert.score)
 }

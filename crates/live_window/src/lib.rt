@@ -7,6 +7,7 @@ mod check;
 mod labels_of;
 mod plan;
 mod play;
+mod scene;
 
 pub use certificate_check::Verdict;
 pub use check::check_live;

@@ -2,11 +2,13 @@
 
 ghost use Rattle.std.specs.Prelude.{◌≤◌};
 ghost use Rattle.lab_model.specs.Fit.{SetupFits};
+ghost use Rattle.lab_model.specs.Limits.{all_ahead, most_budget};
 ghost use Rattle.player_core.specs.Scene.{task_of};
 ghost use Rattle.frontier_planner.specs.Planned.{PlanAnswer};
 
+use crate::scene::live_scene;
 use frontier_planner::{Grid, PlanErr, plan_from};
-use lab_model::{Manifest, Setup};
+use lab_model::{Budget, Manifest, Setup};
 use labels::Plan;
 use network_clock::Clock;
 use std::alloc::Global;
@@ -22,10 +24,13 @@ pub fn plan_live(
     budget: u32,
 ) -> Result<Plan, PlanErr>
     requires setup { SetupFits setup.now film.now }
-    requires ahead { ahead ≤ 120000000 }
-    requires budget { (1 ≤ budget) × (budget ≤ 1000000) }
+    requires ahead { ahead ≤ all_ahead }
+    requires budget { (1 ≤ budget) × (budget ≤ most_budget) }
     ensures { PlanAnswer (task_of film.now clock.now setup.now ahead) budget result }
 {
-    let exact = Grid { time: 1, value: 1 };
-    Ok(plan_from(alloc, film, clock, setup, ahead, exact, budget)?.plan)
+    let scene = live_scene(film, clock, setup, ahead);
+    match Budget::new(budget) {
+        Some(budget) => Ok(plan_from(alloc, &scene, Grid::exact(), budget)?.plan),
+        None => unreachable!(),
+    }
 }

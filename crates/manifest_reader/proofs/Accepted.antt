@@ -3,7 +3,7 @@ use Rattle.std.proofs.Common.{◌≡◌, ℕ, List, length, Ok, refl, subst}
 use Rattle.serde_json.specs.Data.{Data}
 use Rattle.lab_model.proofs.Steps.{then_ok}
 use Rattle.lab_model.specs.Film.{Film, IsFilm, film}
-use Rattle.manifest_reader.specs.Manifest.{bitrates_of, film_of, manifest_of, seg_ms_of, sizes_of, whole_of}
+use Rattle.manifest_reader.specs.Manifest.{bitrates_of, film_of, manifest_of, seg_ms_of, sizes_of, manifest_object}
 use Rattle.manifest_reader.proofs.Limits.{parts-film}
 use Rattle.lab_model.specs.Steps.{◌>>=◌}
 
@@ -18,4 +18,4 @@ film_of-limits d f h =
 -- what a manifest is accepted as keeps the limits of a film
 pub manifest-limits : (bytes : List ℕ) (f : Film) → manifest_of bytes ≡ Ok f → IsFilm f
 unfolding manifest_of
-manifest-limits bytes f h = let d = then_ok (whole_of bytes) film_of f h in film_of-limits d.0 f d.2
+manifest-limits bytes f h = let d = then_ok (manifest_object bytes) film_of f h in film_of-limits d.0 f d.2

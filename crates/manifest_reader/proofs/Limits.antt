@@ -4,20 +4,20 @@ use Rattle.std.specs.List.{All, concat}
 use Rattle.std.specs.List.Sorted.{IsStrictlyIncreasing}
 use Rattle.std.proofs.lemmas.Bool.Decides.{nat_tests}
 use Rattle.serde_json.specs.Data.{Data}
-use Rattle.json_fields.specs.Fields.{list_at, list_of, number_at, number_of}
+use Rattle.json_fields.specs.Fields.{list_at, list_of, json_number_at, json_number_of}
 use Rattle.lab_model.specs.Steps.{map_ok}
 use Rattle.lab_model.proofs.Steps.{map_ok-ok, test_ok, then_ok}
 use Rattle.reader_faults.specs.Each.{each_after, each_from}
 use Rattle.reader_faults.specs.Faults.{members_within, value_at}
 use Rattle.reader_faults.proofs.Places.{members_within-ok, value_at-ok}
-use Rattle.reader_faults.proofs.Ranges.{number-within, number_at-within}
+use Rattle.reader_faults.proofs.Ranges.{number-within, json_number_at-within}
 use Rattle.reader_faults.proofs.Each.{each_all, each_count}
 use Rattle.lab_model.specs.Film.{IsFilm, IsWithin, film, most_rungs, most_segments}
 use Rattle.lab_model.specs.declared.fault.Kind.TheVariants as kind
 use Rattle.lab_model.specs.declared.fault.Key.{Key}
 use Rattle.lab_model.specs.declared.fault.Key.TheVariants as key
 use Rattle.lab_model.specs.Reading.{refusal}
-use Rattle.manifest_reader.specs.Manifest.{above, bitrate_in, bitrates_of, members_at, row_in, row_members, seg_ms_of, row_of_width, size_in, sizes_of}
+use Rattle.manifest_reader.specs.Manifest.{above, bitrate_in, bitrates_of, members_at, sizes_in_row, row_members, seg_ms_of, row_of_width, size_in, sizes_of}
 use Rattle.manifest_reader.proofs.Rising.{IsStrictlyIncreasing-rises, above-ok, each-rises}
 use Rattle.manifest_reader.proofs.Sizes.{IsRow, All-concat, length-concat, rows_of_sizes}
 
@@ -29,12 +29,12 @@ members_at-within k name most d found h =
 
 bitrate_in-within : (before : Option ℕ) (column : ℕ) (d : Data) (n : ℕ) → bitrate_in before column d ≡ Ok n → IsWithin 1 10000000 n
 bitrate_in-within before column d n h =
-    let m = then_ok (value_at key.Bitrates 0 column (number_of 1 10000000 d)) (above before column) n h in
+    let m = then_ok (value_at key.Bitrates 0 column (json_number_of 1 10000000 d)) (above before column) n h in
     let same = (above-ok before column m.0 n m.2).1 in
-    subst (IsWithin 1 10000000) same (number-within 1 10000000 d m.0 (value_at-ok key.Bitrates 0 column (number_of 1 10000000 d) m.0 m.1))
+    subst (IsWithin 1 10000000) same (number-within 1 10000000 d m.0 (value_at-ok key.Bitrates 0 column (json_number_of 1 10000000 d) m.0 m.1))
 
 seg_ms_of-within : (d : Data) (n : ℕ) → seg_ms_of d ≡ Ok n → IsWithin 1 60000 n
-seg_ms_of-within d n h = number_at-within (codes "segment_duration_ms") 1 60000 d n (value_at-ok key.SegmentDuration 0 0 (number_at (codes "segment_duration_ms") 1 60000 d) n h)
+seg_ms_of-within d n h = json_number_at-within (codes "segment_duration_ms") 1 60000 d n (value_at-ok key.SegmentDuration 0 0 (json_number_at (codes "segment_duration_ms") 1 60000 d) n h)
 
 -- what is known of a ladder
 pub record IsLadder (xs : List ℕ) : Type 0 where
@@ -53,15 +53,15 @@ bitrates_of-ladder d xs h =
     }
 
 size_in-within : (row column : ℕ) (d : Data) (n : ℕ) → size_in row column d ≡ Ok n → IsWithin 1 200000000 n
-size_in-within row column d n h = number-within 1 200000000 d n (value_at-ok key.SegmentSizes row column (number_of 1 200000000 d) n h)
+size_in-within row column d n h = number-within 1 200000000 d n (value_at-ok key.SegmentSizes row column (json_number_of 1 200000000 d) n h)
 
 row_of_width-len : (rungs row : ℕ) (ds found : List Data) → row_of_width rungs row ds ≡ Ok found → length found ≡ rungs
 row_of_width-len rungs row ds found h =
     let t = test_ok (length ds == rungs) (Ok ds) found (refusal kind.Shape key.SegmentSizes row 0) h in
     let same : ds ≡ found = cc in sym (ap length same) ∙ grind (arith, nat_tests, t.0)
 
-row_in-row : (rungs row : ℕ) (d : Data) (xs : List ℕ) → row_in rungs row d ≡ Ok xs → IsRow rungs xs
-row_in-row rungs row d xs h =
+sizes_in_row-row : (rungs row : ℕ) (d : Data) (xs : List ℕ) → sizes_in_row rungs row d ≡ Ok xs → IsRow rungs xs
+sizes_in_row-row rungs row d xs h =
     let ds = then_ok (row_members rungs row d) (λ ds. each_from (size_in row) 1 ds) xs h in
     let members = then_ok (value_at key.SegmentSizes row 0 (list_of d)) (row_of_width rungs row) ds.0 ds.1 in (
       each_count (λ (_ : Option ℕ). size_in row) None 1 ds.0 xs ds.2 ∙ row_of_width-len rungs row members.0 ds.0 members.2,
@@ -78,12 +78,12 @@ pub record IsTable (rungs : ℕ) (xs : List ℕ) : Type 0 where
 -- sizes that were read are one to 2000 whole rows, and keep their limits
 pub sizes_of-table : (rungs : ℕ) (d : Data) (xs : List ℕ) → sizes_of rungs d ≡ Ok xs → IsTable rungs xs
 sizes_of-table rungs d xs h =
-    let ds = then_ok (members_at key.SegmentSizes (codes "segment_sizes_bits") most_segments d) (λ ds. map_ok concat (each_from (row_in rungs) 1 ds)) xs h in
-    let rows = map_ok-ok concat (each_from (row_in rungs) 1 ds.0) xs ds.2 in
-    let are_rows = each_all (IsRow rungs) (λ (_ : Option (List ℕ)). row_in rungs) None 1 ds.0 rows.0 (λ (_ : Option (List ℕ)). row_in-row rungs) rows.1 in
+    let ds = then_ok (members_at key.SegmentSizes (codes "segment_sizes_bits") most_segments d) (λ ds. map_ok concat (each_from (sizes_in_row rungs) 1 ds)) xs h in
+    let rows = map_ok-ok concat (each_from (sizes_in_row rungs) 1 ds.0) xs ds.2 in
+    let are_rows = each_all (IsRow rungs) (λ (_ : Option (List ℕ)). sizes_in_row rungs) None 1 ds.0 rows.0 (λ (_ : Option (List ℕ)). sizes_in_row-row rungs) rows.1 in
     record {
       rows = length rows.0;
-      count = subst (IsWithin 1 most_segments) (sym (each_count (λ (_ : Option (List ℕ)). row_in rungs) None 1 ds.0 rows.0 rows.1)) (members_at-within key.SegmentSizes (codes "segment_sizes_bits") most_segments d ds.0 ds.1);
+      count = subst (IsWithin 1 most_segments) (sym (each_count (λ (_ : Option (List ℕ)). sizes_in_row rungs) None 1 ds.0 rows.0 rows.1)) (members_at-within key.SegmentSizes (codes "segment_sizes_bits") most_segments d ds.0 ds.1);
       whole = sym (ap length rows.2) ∙ length-concat rungs rows.0 are_rows;
       sizes = subst (All (IsWithin 1 200000000)) rows.2 (All-concat rungs rows.0 are_rows);
     }

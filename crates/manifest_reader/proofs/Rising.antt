@@ -3,7 +3,7 @@ use Rattle.std.proofs.Common.{◌≡◌, ◌+◌, ◌<◌, ℕ, zero, suc, nat_l
 use Rattle.std.proofs.lemmas.Bool.Decides.{nat_tests}
 use Rattle.std.specs.List.Sorted.{IsStrictlyIncreasing}
 use Rattle.serde_json.specs.Data.{Data}
-use Rattle.json_fields.specs.Fields.{number_of}
+use Rattle.json_fields.specs.Fields.{json_number_of}
 use Rattle.lab_model.specs.Steps.{◌>>=◌}
 use Rattle.reader_faults.specs.Each.{each_after}
 use Rattle.lab_model.proofs.Steps.{test_ok, then_ok}
@@ -33,7 +33,7 @@ above-ok (Some b) column m n h =
 -- a bitrate that was read is greater than the one before it
 pub bitrate_in-above : (before : Option ℕ) (column : ℕ) (d : Data) (n : ℕ) → bitrate_in before column d ≡ Ok n → IsAbove before n
 bitrate_in-above before column d n h =
-    let m = then_ok (value_at key.Bitrates 0 column (number_of 1 10000000 d)) (above before column) n h in
+    let m = then_ok (value_at key.Bitrates 0 column (json_number_of 1 10000000 d)) (above before column) n h in
     (above-ok before column m.0 n m.2).0
 
 -- of bitrates that were read, each is greater than the one before it

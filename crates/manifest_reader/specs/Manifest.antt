@@ -2,7 +2,7 @@
 use Rattle.std.specs.Prelude.{ℕ, ◌==◌, List, length, Option, Some, None, Result, Ok, Err, codes, if◌then◌else◌, nat_lt}
 use Rattle.std.specs.List.{concat}
 use Rattle.serde_json.specs.Data.{Data}
-use Rattle.json_fields.specs.Fields.{list_at, list_of, number_at, number_of, object_of, value_of}
+use Rattle.json_fields.specs.Fields.{list_at, list_of, json_number_at, json_number_of, object_of, json_value_of}
 use Rattle.lab_model.specs.Film.{Film, film, most_rungs, most_segments}
 use Rattle.lab_model.specs.Reading.{refusal}
 use Rattle.lab_model.specs.Steps.{◌>>=◌, map_ok}
@@ -15,7 +15,7 @@ use Rattle.reader_faults.specs.Faults.{members_within, value_at}
 
 -- the duration of a segment
 abbrev pub seg_ms_of : Data → Result ℕ Refusal
-seg_ms_of d = value_at key.SegmentDuration 0 0 (number_at (codes "segment_duration_ms") 1 60000 d)
+seg_ms_of d = value_at key.SegmentDuration 0 0 (json_number_at (codes "segment_duration_ms") 1 60000 d)
 
 -- the list of one member to the most under a key
 abbrev pub members_at : Key → List ℕ → ℕ → Data → Result (List Data) Refusal
@@ -31,7 +31,7 @@ above (Some before) column n = if nat_lt before n then Ok n else Err (refusal ki
 -- the bitrate in a column, behind the one before
 abbrev pub bitrate_in : Option ℕ → ℕ → Data → Result ℕ Refusal
 bitrate_in before column d = do
-  n ← value_at key.Bitrates 0 column (number_of 1 10000000 d)
+  n ← value_at key.Bitrates 0 column (json_number_of 1 10000000 d)
   above before column n
 
 -- the ladder of bitrates
@@ -42,7 +42,7 @@ bitrates_of d = do
 
 -- the size in a row and column
 abbrev pub size_in : ℕ → ℕ → Data → Result ℕ Refusal
-size_in row column d = value_at key.SegmentSizes row column (number_of 1 200000000 d)
+size_in row column d = value_at key.SegmentSizes row column (json_number_of 1 200000000 d)
 
 -- a row has a size for each rung
 abbrev pub row_of_width : ℕ → ℕ → List Data → Result (List Data) Refusal
@@ -55,8 +55,8 @@ row_members rungs row d = do
   row_of_width rungs row ds
 
 -- the sizes of a segment, rung by rung
-abbrev pub row_in : ℕ → ℕ → Data → Result (List ℕ) Refusal
-row_in rungs row d = do
+abbrev pub sizes_in_row : ℕ → ℕ → Data → Result (List ℕ) Refusal
+sizes_in_row rungs row d = do
   ds ← row_members rungs row d
   each_from (size_in row) 1 ds
 
@@ -64,7 +64,7 @@ row_in rungs row d = do
 abbrev pub sizes_of : ℕ → Data → Result (List ℕ) Refusal
 sizes_of rungs d = do
   ds ← members_at key.SegmentSizes (codes "segment_sizes_bits") most_segments d
-  map_ok concat (each_from (row_in rungs) 1 ds)
+  map_ok concat (each_from (sizes_in_row rungs) 1 ds)
 
 -- the manifest that an object is
 abbrev pub film_of : Data → Result Film Refusal
@@ -75,13 +75,13 @@ film_of d = do
   Ok (film seg_ms bitrates sizes)
 
 -- the object that the bytes are
-abbrev pub whole_of : List ℕ → Result Data Refusal
-whole_of bytes = do
-  d ← value_at key.Whole 0 0 (value_of bytes)
+abbrev pub manifest_object : List ℕ → Result Data Refusal
+manifest_object bytes = do
+  d ← value_at key.Whole 0 0 (json_value_of bytes)
   value_at key.Whole 0 0 (object_of d)
 
 -- the manifest that the bytes are
 unfoldable pub manifest_of : List ℕ → Result Film Refusal
 manifest_of bytes = do
-  d ← whole_of bytes
+  d ← manifest_object bytes
   film_of d

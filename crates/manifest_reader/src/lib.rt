@@ -13,7 +13,7 @@ ghost use Rattle.lab_model.specs.Film.{most_rungs, most_segments};
 ghost use Rattle.lab_model.specs.Reading.{Gives};
 ghost use Rattle.lab_model.specs.Steps.{map_ok};
 ghost use Rattle.reader_faults.specs.Each.{each_after, each_from};
-ghost use Rattle.manifest_reader.specs.Manifest.{bitrate_in, bitrates_of, members_at, film_of, manifest_of, row_in, row_members, seg_ms_of, row_of_width, size_in, sizes_of, whole_of};
+ghost use Rattle.manifest_reader.specs.Manifest.{bitrate_in, bitrates_of, members_at, film_of, manifest_of, sizes_in_row, row_members, seg_ms_of, row_of_width, size_in, sizes_of, manifest_object};
 
 use lab_model::{
     InputFault, Key, Kind, MOST_BITRATE_KBPS, MOST_RUNGS, MOST_SEGMENT_BITS, MOST_SEGMENT_MS,
@@ -25,7 +25,7 @@ use std::alloc::Global;
 
 /// The object that the bytes are.
 fn whole_object(alloc: Global, bytes: &[u8]) -> Result<Value, InputFault>
-    ensures { Gives view result (whole_of bytes.now) }
+    ensures { Gives view result (manifest_object bytes.now) }
 {
     let value = whole_value(alloc, bytes)?;
     value_at(json_fields::object_from(&value), Key::Whole, 0, 0)?;
@@ -148,7 +148,7 @@ fn row_members(value: &Value, rungs: usize, row: u32) -> Result<&[Value], InputF
 fn push_row(sizes: &mut Vec<u32>, value: &Value, rungs: usize, row: u32) -> Result<(), InputFault>
     requires { rungs ≤ most_rungs }
     ensures { Gives (λ _. sizes.new.items) result
-        (map_ok (λ xs. sizes.old.items ++ xs) (row_in rungs row (view value.now))) }
+        (map_ok (λ xs. sizes.old.items ++ xs) (sizes_in_row rungs row (view value.now))) }
 {
     let values = row_members(value, rungs, row)?;
     push_sizes(sizes, values, row)
@@ -159,7 +159,7 @@ fn all_sizes(alloc: Global, values: &[Value], rungs: usize) -> Result<Vec<u32>, 
     requires count { length values.now ≤ most_segments }
     requires rungs { rungs ≤ most_rungs }
     ensures { Gives (λ v. v.items) result
-        (map_ok concat (each_from (row_in rungs) 1 (map view values.now))) }
+        (map_ok concat (each_from (sizes_in_row rungs) 1 (map view values.now))) }
 {
     let mut sizes = Vec::new(alloc);
     for (i, value) in values.iter().enumerate() {

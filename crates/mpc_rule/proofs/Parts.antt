@@ -6,7 +6,7 @@ use Rattle.std.proofs.lemmas.List.Elements.{All-nil, All-cons}
 use Rattle.mpc_rule.specs.declared.outlook.Outlook.{Outlook}
 use Rattle.mpc_rule.specs.declared.forecast.Draft.{Draft}
 use Rattle.mpc_rule.specs.declared.forecast.Forecast.{Forecast}
-use Rattle.mpc_rule.specs.Search.{IsDraft, IsPart, IsWhole, completions, extended, ladder_of, start_of}
+use Rattle.mpc_rule.specs.Search.{IsDraft, IsPart, IsWholeDraft, completions, extended, ladder_of, start_of}
 use Rattle.mpc_rule.specs.Relaxations.{IsUnder}
 use Rattle.mpc_rule.proofs.Floors.{extended_whole, whole_itself}
 
@@ -45,7 +45,7 @@ part_more f i d longer r part low rung e grows =
     }
 
 -- a beginning as long as the horizon is a whole list
-pub part_whole : (f : Forecast) (i : ℕ) (d : Draft) → i ≡ f.length → IsPart f i d → IsWhole f d
+pub part_whole : (f : Forecast) (i : ℕ) (d : Draft) → i ≡ f.length → IsPart f i d → IsWholeDraft f d
 part_whole f i d e part =
     let none : 0 ≡ f.length - i = omega (arith, e) in
     record {

@@ -13,7 +13,7 @@ use Rattle.mpc_rule.specs.declared.forecast.Draft.{Draft}
 use Rattle.mpc_rule.specs.Search.{IsDraft, completions, extended, gain_of, ladder_of, segment_after, wait_of, weights_of}
 use Rattle.mpc_rule.specs.declared.forecast.Forecast.{Forecast}
 use Rattle.mpc_rule.specs.declared.relaxation.Relaxation.{Relaxation}
-use Rattle.mpc_rule.specs.Relaxations.{IsRelaxation, IsMost, IsPromise, IsUnder, promise_of, room_of}
+use Rattle.mpc_rule.specs.Relaxations.{IsRelaxation, IsMostToCome, IsPromise, IsUnder, promise_of, room_of}
 
 times : (p a b c : ℕ) → p * (a + b + c) ≡ p * a + p * b + p * c
 times p a b c = omega arith
@@ -103,7 +103,7 @@ pub price_most : (p ms most : ℕ) → p ≤ 1000000 → ms ≤ most → p * ms 
 price_most p ms most low few = mul-le-mul low few
 
 -- the last segment
-pub most_last : (o : Outlook) (p k : ℕ) (m z : ℤ) → p ≤ (weights_of o).stall → Promise o p k m → IsPromise m → z ≡ m → IsMost o p 1 k z
+pub most_last : (o : Outlook) (p k : ℕ) (m z : ℤ) → p ≤ (weights_of o).stall → Promise o p k m → IsPromise m → z ≡ m → IsMostToCome o p 1 k z
 most_last o p k m z low promise is e = record {
   under = λ d count within. subst (λ (y : ℤ). All (IsUnder (top d p y)) (completions o 1 d)) (sym e) (last_most o p k m low promise d count within);
   least = let h = is.least in omega (arith, ints, e, h);
@@ -112,7 +112,7 @@ most_last o p k m z low promise is e = record {
 
 -- one segment before those to come
 pub most_more : (o : Outlook) (p n k : ℕ) (m y z : ℤ) → p ≤ (weights_of o).stall → p ≤ 1000000 → o.film.now.seg_ms ≤ 60000 → Promise o p k m → IsPromise m
-    → IsMost o p n (k + 1) y → z ≡ y +ℤ (pos (p * o.film.now.seg_ms) +ℤ m) → IsMost o p (n + 1) k z
+    → IsMostToCome o p n (k + 1) y → z ≡ y +ℤ (pos (p * o.film.now.seg_ms) +ℤ m) → IsMostToCome o p (n + 1) k z
 most_more o p n k m y z low small short promise is rest e = record {
   under = λ d count within.
       let same : suc n ≡ n + 1 = omega arith in

@@ -37,7 +37,7 @@ pub record IsPromise (z : ℤ) : Type 0 where
   pub most : z ≤ℤ pos 1000000000
 
 -- the last so many segments, after this many, add at most so much to the score and the price of the level in hand
-pub record IsMost (o : Outlook) (price n count : ℕ) (z : ℤ) : Type 0 where
+pub record IsMostToCome (o : Outlook) (price n count : ℕ) (z : ℤ) : Type 0 where
   pub under : (d : Draft) → d.count ≡ count → d.level ≤ room_of o → All (IsUnder (d.score +ℤ pos (price * d.level) +ℤ z)) (completions o n d)
   pub least : pos 0 ≤ℤ (z +ℤ pos (200000000000000000 * n))
   pub most : z ≤ℤ pos (61000000000 * n)
@@ -45,7 +45,7 @@ pub record IsMost (o : Outlook) (price n count : ℕ) (z : ℤ) : Type 0 where
 -- what the segments to come can add, for each number of them
 pub record IsRelaxation (f : Forecast) (h : Relaxation) : Type 0 where
   pub price : h.price ≤ (weights_of f.outlook).stall
-  pub most : (n : ℕ) (z : ℤ) → n < f.length → IsMost f.outlook h.price (n + 1) (f.length - (n + 1)) (slice_index_or h.most n z)
+  pub most : (n : ℕ) (z : ℤ) → n < f.length → IsMostToCome f.outlook h.price (n + 1) (f.length - (n + 1)) (slice_index_or h.most n z)
 
 -- what a search is made of fits together
 pub record IsSearch (s : Search) : Type 0 where

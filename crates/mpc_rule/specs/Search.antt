@@ -119,19 +119,19 @@ pub record IsForetold (o : Outlook) (segment rung : ℕ) (t : Foretold) : Type 0
   pub utility : t.utility ≤ 1000000
 
 -- the first places of a row are what is foretold of a segment
-abbrev pub IsRow : Outlook → ℕ → List Foretold → Type 0
-IsRow o segment row = (rung : ℕ) (d : Foretold) → rung < ladder_of o → IsForetold o segment rung (slice_index_or row rung d)
+abbrev pub IsForetoldRow : Outlook → ℕ → List Foretold → Type 0
+IsForetoldRow o segment row = (rung : ℕ) (d : Foretold) → rung < ladder_of o → IsForetold o segment rung (slice_index_or row rung d)
 
 -- the first rows of a table are what is foretold of so many segments from the next one on
-abbrev pub IsTable : Outlook → ℕ → Table → Type 0
-IsTable o length t = (k : ℕ) (d : List Foretold) → k < length → IsRow o (o.context.now.next + k) (slice_index_or t.rows k d)
+abbrev pub IsForetoldTable : Outlook → ℕ → Table → Type 0
+IsForetoldTable o length t = (k : ℕ) (d : List Foretold) → k < length → IsForetoldRow o (o.context.now.next + k) (slice_index_or t.rows k d)
 
 -- the rows of a forecast are what its outlook foretells of the segments that come
 pub record IsForecast (f : Forecast) : Type 0 where
   pub outlook : IsOutlook f.outlook
   pub some : 0 < f.length
   pub length : f.length ≤ segments_ahead f.outlook
-  pub table : IsTable f.outlook f.length f.table
+  pub table : IsForetoldTable f.outlook f.length f.table
 
 -- this is foretold on a rung of the segment after so many
 abbrev pub IsTold : Forecast → ℕ → ℕ → Foretold → Type 0
@@ -142,7 +142,7 @@ abbrev pub loss_at : Forecast → Draft → ℕ → ℕ
 loss_at f d rung = loss_of f.outlook d rung (wait_of f.outlook d rung)
 
 -- a list is one of those of the whole horizon
-pub record IsWhole (f : Forecast) (d : Draft) : Type 0 where
+pub record IsWholeDraft (f : Forecast) (d : Draft) : Type 0 where
   pub list : Contains (completions f.outlook f.length (start_of f.outlook)) d
   pub draft : IsDraft f.outlook d 0
 

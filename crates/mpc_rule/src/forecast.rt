@@ -1,7 +1,7 @@
 //! The segments of a horizon, and the lists of rungs for them.
 
 ghost use Rattle.std.specs.Prelude.{◌≡◌, ℕ, ◌+◌, ◌*◌, ◌<◌, ◌≤◌};
-ghost use Rattle.mpc_rule.specs.Search.{IsDraft, IsForecast, IsOutlook, IsTable, IsTold, change_after, extended, ladder_of, loss_at, segments_ahead, start_of};
+ghost use Rattle.mpc_rule.specs.Search.{IsDraft, IsForecast, IsOutlook, IsForetoldTable, IsTold, change_after, extended, ladder_of, loss_at, segments_ahead, start_of};
 
 use crate::outlook::{Foretold, MOST_RUNGS, NOTHING, Outlook};
 
@@ -43,7 +43,7 @@ impl<'a> Outlook<'a> {
     fn table(&self, length: u8) -> Table
         requires outlook { IsOutlook self.now }
         requires segments { length ≤ segments_ahead self.now }
-        ensures { IsTable self.now length result }
+        ensures { IsForetoldTable self.now length result }
     {
         let mut rows = [[NOTHING; MOST_RUNGS]; LONGEST];
         for k in 0..length {

@@ -2,7 +2,7 @@
 
 ghost use Rattle.std.specs.Prelude.{◌≡◌, ◌+◌, ◌*◌, ◌<◌, ◌≤◌};
 ghost use Rattle.lab_model.specs.Film.{segments_of};
-ghost use Rattle.mpc_rule.specs.Search.{IsForetold, IsOutlook, IsRow, ladder_of, wait_at};
+ghost use Rattle.mpc_rule.specs.Search.{IsForetold, IsOutlook, IsForetoldRow, ladder_of, wait_at};
 
 use lab_model::{Context, Manifest, Setup};
 
@@ -65,7 +65,7 @@ impl Outlook<'_> {
     pub(crate) fn row(&self, seg: u16) -> [Foretold; MOST_RUNGS]
         requires outlook { IsOutlook self.now }
         requires segment { seg < segments_of self.now.film.now }
-        ensures { IsRow self.now seg result }
+        ensures { IsForetoldRow self.now seg result }
     {
         let mut row = [NOTHING; MOST_RUNGS];
         for rung in 0..self.rungs {

@@ -2,7 +2,7 @@
 
 ghost use Rattle.std.specs.Prelude.{◌≡◌, ◌+◌, ◌<◌, ◌≤◌, false};
 ghost use Rattle.std.specs.List.{All};
-ghost use Rattle.mpc_rule.specs.Search.{IsDraft, IsForecast, IsOutlook, IsWhole, best_after, best_rung, completions, ladder_of, segments_ahead};
+ghost use Rattle.mpc_rule.specs.Search.{IsDraft, IsForecast, IsOutlook, IsWholeDraft, best_after, best_rung, completions, ladder_of, segments_ahead};
 ghost use Rattle.mpc_rule.specs.Relaxations.{IsHopeless, IsSearch, IsUnder};
 
 use crate::forecast::{Draft, Forecast};
@@ -74,7 +74,7 @@ impl Search<'_> {
     fn constant(&self, rung: u8) -> Draft
         requires search { IsSearch self.now }
         requires rung { rung < ladder_of self.now.forecast.outlook }
-        ensures { IsWhole self.now.forecast result }
+        ensures { IsWholeDraft self.now.forecast result }
     {
         let mut draft = self.forecast.start();
         for i in 0..self.forecast.length {
@@ -103,7 +103,7 @@ impl Search<'_> {
     /// A list each of whose rungs is the one by which it can come to most.
     fn leading_list(&self) -> Draft
         requires { IsSearch self.now }
-        ensures { IsWhole self.now.forecast result }
+        ensures { IsWholeDraft self.now.forecast result }
     {
         let length = self.forecast.length;
         let mut draft = self.forecast.start();
@@ -117,7 +117,7 @@ impl Search<'_> {
     /// A whole list with a great score.
     fn incumbent(&self) -> Draft
         requires { IsSearch self.now }
-        ensures { IsWhole self.now.forecast result }
+        ensures { IsWholeDraft self.now.forecast result }
     {
         let mut incumbent = self.leading_list();
         for rung in 0..self.forecast.outlook.rungs {

@@ -8,7 +8,7 @@ ghost use Rattle.near_best.specs.Kept.{AreOnRungs, IsInReach, IsKept};
 
 use crate::prospect::{Fineness, Prospect};
 use lab_model::Label;
-use labels::{next_on, start_on};
+use labels::{RungLabel, start_on};
 use player_core::Scene;
 use std::alloc::{AllocError, Global};
 
@@ -192,7 +192,7 @@ fn kept_behind(
     requires rung { rung < rungs_of scene.now.film }
     ensures { IsKept scene.now segment result }
 {
-    let label = next_on(scene, segment, old.rung, old.label, rung);
+    let label = RungLabel::new(scene, segment - 1, old.rung, old.label).next(rung);
     kept_of(scene, prospect, segment, label, rung, number)
 }
 

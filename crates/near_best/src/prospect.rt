@@ -9,7 +9,7 @@ use crate::demand::smallest_rung;
 use crate::link::FARTHEST_DELAY_MS;
 use crate::stalls::dearest_stall;
 use lab_model::Label;
-use labels::{next_on, start_on};
+use labels::{RungLabel, start_on};
 use player_core::Scene;
 use std::alloc::{AllocError, Global};
 
@@ -212,7 +212,7 @@ impl Prospect {
         let count = scene.film().rungs();
         let mut worths = [i64::MIN; 16];
         for rung in 0..count {
-            let next = next_on(scene, segment, rung, label, rung);
+            let next = RungLabel::new(&*scene, segment - 1, rung, label).next(rung);
             let worth = self.worth(scene, segment, next, rung);
             worths[place_of(rung)] = worth.saturating_add(stalled);
         }

@@ -113,3 +113,7 @@ module _ (takers : ℕ) (ps : List Period) (h : IsTrace ps) where
             let after = lane_flow (t + n) in
             omega (arith, carries, before, after);
       }
+
+-- the lane at the place of a number of takers
+pub lane_placed : (ps : List Period) (n : ℕ) (lanes : List (List Period)) (takers place : ℕ) (lane : List Period) → AreLanes ps n lanes → place < n → place + 2 ≡ takers → lane ≡ get_or lanes place lane → lane ≡ parted_trace takers ps
+lane_placed ps n lanes takers place lane h inside two here = here ∙ h.each place lane inside ∙ ap (λ k. parted_trace k ps) two

@@ -6,7 +6,7 @@ mod clock;
 mod job;
 mod link;
 mod meter;
-mod plain;
+mod paced;
 
 pub use clock::{Clock, Request};
 pub use job::{Job, Landing};

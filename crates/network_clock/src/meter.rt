@@ -7,16 +7,17 @@ ghost use Rattle.std.specs.List.{All};
 ghost use Rattle.network_clock.specs.Flow.{AreSums, IsPaced, Reaches, Touches, carried_in, flow};
 ghost use Rattle.network_clock.specs.Network.{period_at};
 
+use crate::paced::Paced;
 use lab_model::Period;
 use std::alloc::{AllocError, Global};
 use std::marker::Model;
 
 /// The sums of the milliseconds up to the beginning of each period, and of all.
-fn starts_of(alloc: Global, periods: &[Period]) -> Result<Vec<u64>, AllocError>
-    requires { IsPaced periods.now }
-    ensures { IfOk result (λ v. AreSums (λ p. p.duration_ms) periods.now
-        (length periods.now) v.items) }
+fn starts_of(alloc: Global, paced: &Paced) -> Result<Vec<u64>, AllocError>
+    ensures { IfOk result (λ v. AreSums (λ p. p.duration_ms) paced.now
+        (length paced.now) v.items) }
 {
+    let periods = paced.periods();
     let mut starts = Vec::new(alloc);
     let mut sum = 0u64;
     starts.push(sum)?;
@@ -28,11 +29,11 @@ fn starts_of(alloc: Global, periods: &[Period]) -> Result<Vec<u64>, AllocError>
 }
 
 /// The sums of the thousandths of a bit up to the beginning of each period, and of all.
-fn sums_of(alloc: Global, periods: &[Period]) -> Result<Vec<u64>, AllocError>
-    requires { IsPaced periods.now }
-    ensures { IfOk result (λ v. AreSums (λ p. p.duration_ms * p.bandwidth) periods.now
-        (length periods.now) v.items) }
+fn sums_of(alloc: Global, paced: &Paced) -> Result<Vec<u64>, AllocError>
+    ensures { IfOk result (λ v. AreSums (λ p. p.duration_ms * p.bandwidth) paced.now
+        (length paced.now) v.items) }
 {
+    let periods = paced.periods();
     let mut sums = Vec::new(alloc);
     let mut sum = 0u64;
     sums.push(sum)?;
@@ -64,19 +65,7 @@ fn place_between(sums: &[u64], mut low: usize, mut high: usize, target: u64) -> 
     low
 }
 
-/// The place between whose sum and the next one the target lies.
-fn place_of(sums: &[u64], target: u64) -> usize
-    requires some { 2 ≤ length sums.now }
-    requires above { slice_index sums.now 0 < target }
-    requires below { target ≤ slice_index sums.now (length sums.now - 1) }
-    ensures place { result + 1 < length sums.now }
-    ensures above { slice_index sums.now result < target }
-    ensures below { target ≤ slice_index sums.now (result + 1) }
-{
-    place_between(sums, 0, sums.len() - 1, target)
-}
-
-/// The same from a place on whose sum is below the target: by steps that double, then by bisection.
+/// The place between whose sum and the next one the target lies, from a place on whose sum is below it: by steps that double, then by bisection.
 fn place_from(sums: &[u64], from: usize, target: u64) -> usize
     requires some { from + 1 < length sums.now }
     requires above { slice_index sums.now from < target }
@@ -136,14 +125,13 @@ impl Model for Meter {
 
 impl Meter {
     /// The meter of these periods.
-    pub fn new(alloc: Global, periods: Vec<Period>) -> Result<Meter, AllocError>
-        requires { IsPaced periods.items }
-        ensures { IfOk result (λ m. m ≡ periods.items) }
+    pub fn new(alloc: Global, paced: Paced) -> Result<Meter, AllocError>
+        ensures { IfOk result (λ m. m ≡ paced) }
     {
-        let starts = starts_of(alloc, &periods)?;
-        let sums = sums_of(alloc, &periods)?;
+        let starts = starts_of(alloc, &paced)?;
+        let sums = sums_of(alloc, &paced)?;
         Ok(Meter {
-            periods,
+            periods: paced.into_periods(),
             starts,
             sums,
         })
@@ -180,7 +168,8 @@ impl Meter {
         ensures next { Touches self.now result (instant + 1) }
     {
         let cycle = self.cycle();
-        let period = place_of(&self.starts, instant % cycle + 1);
+        let last = self.starts.len() - 1;
+        let period = place_between(&self.starts, 0, last, instant % cycle + 1);
         Place {
             cycles: instant / cycle,
             period,

@@ -1,7 +1,5 @@
-//! Sessions of the player: worked examples and tables of cases, beside a player that goes millisecond by millisecond.
+//! Sessions of the player: worked examples and tables of cases.
 #![tactic(auto)]
 
-#[cfg(test)]
-mod plain;
 #[cfg(test)]
 mod tests;

@@ -3,11 +3,10 @@
 mod long;
 mod short;
 
-use crate::plain::play_on;
-use lab_model::{Context, Manifest, Period, Rule, Seek, Setup, Trace, Weights};
+use lab_model::{
+    ALL_AHEAD_MS, Ahead, Context, Manifest, Period, Rule, Seek, Setup, Trace, Weights,
+};
 use network_clock::Clock;
-use player_core::limits::ALL_AHEAD_MS;
-use player_core::parts::Course;
 use player_core::{Event, Fixed, Listed, Scene, Session, available, play, play_from, seeks_fit};
 use short::SHORT;
 use std::alloc::Global;
@@ -181,30 +180,17 @@ fn fixed_session(rt: &impl Abort, alloc: Global, case: &Case) -> Result<Session,
     Ok(play(alloc, &m, &clock, &set, &seeks, rule)?)
 }
 
-/// The session of a rung for each segment, from event to event or millisecond by millisecond.
-fn listed_session(
-    rt: &impl Abort,
-    alloc: Global,
-    case: &Case,
-    plainly: bool,
-) -> Result<Session, Fail> {
+/// The session of a rung for each segment.
+fn listed_session(rt: &impl Abort, alloc: Global, case: &Case) -> Result<Session, Fail> {
     let m = film(alloc, case)?;
     let clock = clock(alloc, case)?;
     let set = setup(alloc, case)?;
     let seeks = script(alloc, case.seeks)?;
     let rule = Listed::new(case.rungs.to_vec(alloc)?);
     assert!(rt; set.fits(&m) && seeks_fit(&seeks, &m) && rule.fits(&m));
-    assert!(rt; case.ahead <= ON_DEMAND);
-    Ok(if plainly {
-        let scene = Scene::new(&m, &clock, &set, case.ahead);
-        let course = Course {
-            scene: &scene,
-            seeks: &seeks,
-        };
-        play_on(alloc, &course, rule)?
-    } else {
-        play_from(alloc, &m, &clock, &set, &seeks, case.ahead, rule)?
-    })
+    let ahead = Ahead::new(case.ahead).ok_or("too much ahead")?;
+    let scene = Scene::new(&m, &clock, &set, ahead);
+    Ok(play_from(alloc, &scene, &seeks, rule)?)
 }
 
 fn line_of(alloc: Global, event: Event) -> Result<String, Fail> {
@@ -270,18 +256,7 @@ fn worked_examples(rt: HostRuntime) -> Result<(), Fail> {
 fn short_sessions(rt: HostRuntime) -> Result<(), Fail> {
     let alloc = rt.alloc();
     for case in &SHORT {
-        let session = listed_session(&rt, alloc, case, false)?;
-        shows(&rt, alloc, &session, case)?;
-    }
-    Ok(())
-}
-
-/// The body that goes millisecond by millisecond shows the same.
-#[test]
-fn plain_sessions(rt: HostRuntime) -> Result<(), Fail> {
-    let alloc = rt.alloc();
-    for case in &SHORT {
-        let session = listed_session(&rt, alloc, case, true)?;
+        let session = listed_session(&rt, alloc, case)?;
         shows(&rt, alloc, &session, case)?;
     }
     Ok(())

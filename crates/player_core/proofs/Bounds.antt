@@ -1,8 +1,8 @@
 -- The numbers of a sound player are small, and what its end shows.
 use Rattle.std.proofs.Common.{ℕ, ◌+◌, ◌<◌, ◌≤◌, length, mul-le-mul, arith}
+use Rattle.lab_model.specs.Limits.{longest_film}
 use Rattle.std.specs.List.{All}
-use Rattle.lab_model.specs.Film.{rungs_of, segments_of}
-use Rattle.player_core.specs.Limits.{longest_film, most_segments}
+use Rattle.lab_model.specs.Film.{rungs_of, segments_of, most_segments}
 use Rattle.player_core.specs.State.{Case, Player}
 use Rattle.player_core.specs.Session.{end_of, last_player}
 use Rattle.player_core.specs.Sound.{IsCase, Sound, all_turns}

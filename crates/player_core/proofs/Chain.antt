@@ -1,5 +1,6 @@
 -- The parts of a turn, one after the other, with what is true after each.
 use Rattle.std.proofs.Common.{◌≡◌, ◌∙◌, ℕ, ◌+◌, ◌-◌, ◌<◌, ◌≤◌, List, [], IfSome, length, true, false, refl, sym, ap, subst, ⊎_elim, add-one, below_more, arith}
+use Rattle.lab_model.specs.Limits.{longest_film}
 use Rattle.std.proofs.lemmas.Bool.{cases_lt, true≢false}
 use Rattle.std.specs.List.{All}
 use Rattle.lab_model.specs.declared.trace.Period.{Period}
@@ -10,13 +11,13 @@ use Rattle.lab_model.specs.Film.{Film, IsFilm, rungs_of, segments_of}
 use Rattle.lab_model.specs.Fit.{SetupFits}
 use Rattle.lab_model.specs.Rules.{KindFits, RuleKind}
 use Rattle.lab_model.specs.Seeks.{SeeksFit}
-use Rattle.player_core.specs.Limits.{latest_ms, longest_film}
+use Rattle.player_core.specs.Limits.{latest_ms}
 use Rattle.player_core.specs.declared.body.Body.{Body}
 use Rattle.player_core.specs.declared.session.Session.{Session}
 use Rattle.player_core.specs.State.{Case, Player, case_of, first_player}
 use Rattle.player_core.specs.Parts.{abandon, gone_on, instant, is_ended, pass_ms, request, seek, seek_at, stopped}
 use Rattle.player_core.specs.Session.{Shown, end_of, ends_at, last_player, player_after, session_of, shown, shown_by}
-use Rattle.player_core.specs.Sound.{IsCase, Runs, Sound}
+use Rattle.player_core.specs.Sound.{IsCase, DownloadRuns, Sound}
 use Rattle.player_core.specs.Scene.{IsTask, Task, task_of}
 use Rattle.player_core.specs.Quiet.{IsUneventful, glides}
 use Rattle.player_core.specs.Seen.{CanGlide, CanRest, Follows, GoesOn, IsTimed, LeftAt, StandsAt, StandsFor, Step, Waits, mode_of, seen}
@@ -289,7 +290,7 @@ module _ (c : Case) (is : IsCase c) (a : Body) (left : LeftAt c a) where
             told = ap (λ (p : Player). p.history) same ∙ pass_told c q;
           }
 
-      module _ (ms : ℕ) (few : ms ≤ latest_ms) (quiet : IsTimed c.film c.network a.download → (h : List ℕ) → IfSome (seen a h).download (Runs c a.t) → IsUneventful c (seen a h) ms) where
+      module _ (ms : ℕ) (few : ms ≤ latest_ms) (quiet : IsTimed c.film c.network a.download → (h : List ℕ) → IfSome (seen a h).download (DownloadRuns c a.t) → IsUneventful c (seen a h) ms) where
         left_quiet : IsUneventful c (instant c (player_after c a.t)) ms
         left_quiet =
             let q = instant c (player_after c a.t) in

@@ -11,7 +11,7 @@ use Rattle.lab_model.specs.declared.context.Seek.{Seek}
 use Rattle.lab_model.specs.Film.{Film, IsFilm, segments_of}
 use Rattle.lab_model.specs.Seeks.{SeeksFit}
 use Rattle.player_core.specs.State.{Case, Mode, Player, first_player, starting, playing, seeking, ended}
-use Rattle.player_core.specs.Parts.{begun, is_playing, seek_at}
+use Rattle.player_core.specs.Parts.{mode_after_arrival, is_playing, seek_at}
 use Rattle.player_core.specs.Sound.{all_turns, begun_before, is_waiting, seeks_left, spare_stall, turns_left}
 
 -- ---- segments that begin before a position
@@ -134,7 +134,7 @@ turns_next n k h few =
 -- ---- modes and stalls
 
 -- once a segment has arrived, no mode waits for one
-pub begun_waits : (m : Mode) → is_waiting (begun m) ≡ true → ⊥
+pub begun_waits : (m : Mode) → is_waiting (mode_after_arrival m) ≡ true → ⊥
 begun_waits starting e = false≢true e
 begun_waits playing e = false≢true e
 begun_waits seeking e = false≢true e

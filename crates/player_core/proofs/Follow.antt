@@ -1,21 +1,23 @@
 -- The body stands for the model's player, part by part, and what is true of the player serves the body.
 use Rattle.std.proofs.Common.{◌≡◌, ◌∙◌, ℕ, zero, suc, ◌+◌, ◌-◌, ◌<◌, ◌≤◌, inl, inr, List, [], length, true, false, Option, Some, None, Result, Ok, Err, sym, ap, subst, ⊎_elim, arith, eqb}
+use Rattle.lab_model.specs.Limits.{longest_film}
 use Rattle.std.specs.Option.{IfSome, option_map}
 use Rattle.std.specs.Result.{IfOk}
 use Rattle.std.proofs.lemmas.Bool.{cases_lt, true≢false}
 use Rattle.lab_model.specs.declared.trace.Period.{Period}
-use Rattle.lab_model.specs.Film.{Film}
+use Rattle.lab_model.specs.Film.{Film, most_segments}
 use Rattle.network_clock.specs.declared.job.Job.{Job}
 use Rattle.network_clock.specs.Network.{job_on, pass, start_job}
 use Rattle.network_clock.proofs.Laws.{job_next, job_start, left_falls}
-use Rattle.player_core.specs.Limits.{latest_ms, longest_elapsed, longest_film, most_segments, most_wasted}
+use Rattle.abandonment.specs.Progress.{longest_elapsed}
+use Rattle.player_core.specs.Limits.{latest_ms, most_wasted}
 use Rattle.player_core.specs.declared.body.Body.{Body}
 use Rattle.player_core.specs.declared.running.Running.{Running}
-use Rattle.player_core.specs.State.{Case, Player}
-use Rattle.player_core.specs.Sound.{IsCase, Runs, Sound, asked_size}
-use Rattle.player_core.specs.Seen.{CanGlide, CanIdle, CanRest, CanTake, IsTimed, SameRequest, StandsFor, Step, download_of, seen, IsRunningOf, CanArrive}
+use Rattle.player_core.specs.State.{Case, Download, Player}
+use Rattle.player_core.specs.Sound.{IsCase, DownloadRuns, Sound, asked_size}
+use Rattle.player_core.specs.Seen.{CanGlide, CanIdle, CanRest, CanTake, IsTimed, SameRequest, StandsFor, Step, download_of, seen, CanArrive}
 use Rattle.player_core.specs.Available.{available_at}
-use Rattle.player_core.specs.Parts.{bit_ms_of, is_playing}
+use Rattle.player_core.specs.Parts.{is_playing}
 use Rattle.player_core.specs.Ready.{CanJudge, CanLoad, CanPass, CanRequest}
 use Rattle.player_core.proofs.Bounds.{end_most, loaded_most, stalls_most, wasted_small}
 use Rattle.player_core.proofs.Runs.{asked_within, bit_ms_is, bit_ms_short, done_soon, runs_begun, runs_on, runs_pace, runs_short}
@@ -91,8 +93,20 @@ ok_both (Err e) P Q p q = tt
 
 -- ---- what the parts of a millisecond need
 
+judge_is : (c : Case) → IsCase c → (t : ℕ) (d : Download) → DownloadRuns c t d → CanJudge c.film t d
+judge_is c is t d runs = record {
+  segment = runs.segment;
+  rung = runs.rung;
+  asked = runs.asked;
+  progress = record {
+    elapsed = runs_short c is t d runs;
+    bit_ms = bit_ms_short c is t d runs;
+    pace = (runs_pace c is t d runs).1;
+  };
+}
+
 load_of : (c : Case) → IsCase c → (p : Player) → p.y ≤ longest_film → (o : Option Running)
-    → IfSome (option_map download_of o) (Runs c p.t) → IfSome (option_map download_of o) (λ d. d.segment ≡ p.k)
+    → IfSome (option_map download_of o) (DownloadRuns c p.t) → IfSome (option_map download_of o) (λ d. d.segment ≡ p.k)
     → IfSome o (λ r. r.job.left ≡ 0 → CanLoad c.film p (download_of r))
 load_of c is p end None runs next = tt
 load_of c is p end (Some r) runs next = λ none.
@@ -103,10 +117,8 @@ load_of c is p end (Some r) runs next = λ none.
     let there = runs.segment in
     let count = is.film.segments.1 in
     record {
-      segment = runs.segment;
-      rung = runs.rung;
+      judge = judge_is c is p.t d runs;
       waited = omega (arith, early, ms);
-      pace = (runs_pace c is p.t d runs).1;
       end = end;
       next = omega (arith, next, there, count);
     }
@@ -116,37 +128,18 @@ pub load_ready : (c : Case) → IsCase c → (from : ℕ) (b : Body) → Sound c
     → CanArrive c.film b
 load_ready c is from b s = load_of c is (seen b []) (end_most c is from (seen b []) s) b.download s.running s.of_next
 
-judge_of : (c : Case) → IsCase c → (p : Player) (o : Option Running) → IfSome (option_map download_of o) (Runs c p.t)
-    → IfSome o (λ r. CanJudge c.film p.t (download_of r))
-judge_of c is p None runs = tt
-judge_of c is p (Some r) runs =
-    let d = download_of r in
-    let short = runs_short c is p.t d runs in
-    record {
-      segment = runs.segment;
-      rung = runs.rung;
-      asked = runs.asked;
-      elapsed = short;
-      bits = bit_ms_short c is p.t d runs;
-      pace = (runs_pace c is p.t d runs).1;
-    }
+judge_of : (c : Case) → IsCase c → (t : ℕ) (o : Option Running) → IfSome (option_map download_of o) (DownloadRuns c t)
+    → IfSome o (λ r. CanJudge c.film t (download_of r))
+judge_of c is t None runs = tt
+judge_of c is t (Some r) runs = judge_is c is t (download_of r) runs
 
 -- its running download can be judged for abandonment
 pub judge_ready : (c : Case) → IsCase c → (from : ℕ) (b : Body) → Sound c from (seen b []) → IfSome b.download (λ r. CanJudge c.film b.t (download_of r))
-judge_ready c is from b s = judge_of c is (seen b []) b.download s.running
+judge_ready c is from b s = judge_of c is b.t b.download s.running
 
 -- it has wasted at most 10 ^ 15 bits
 pub wasted_ready : (c : Case) → IsCase c → (from : ℕ) (b : Body) → Sound c from (seen b []) → b.wasted ≤ most_wasted
 wasted_ready c is from b s = let small = wasted_small c is from (seen b []) s in omega (arith, small)
-
-range_of : (c : Case) (t : ℕ) (o : Option Running) → IfSome (option_map download_of o) (Runs c t)
-    → IfSome o (IsRunningOf c.film)
-range_of c t None runs = tt
-range_of c t (Some r) runs = (runs.segment, runs.rung)
-
--- its running download is of a segment and a rung of the film
-pub range_ready : (c : Case) (from : ℕ) (b : Body) → Sound c from (seen b []) → IfSome b.download (IsRunningOf c.film)
-range_ready c from b s = range_of c b.t b.download s.running
 
 -- it has at most 2000 segments loaded
 pub room_ready : (c : Case) → IsCase c → (from : ℕ) (b : Body) → Sound c from (seen b []) → length b.loaded.items ≤ most_segments
@@ -192,7 +185,7 @@ credit_falls net from (suc n) j =
     pass_falls : (p : Period) (k : Job) → (pass p k).credit ≤ k.credit
     pass_falls p k = grind arith
 
-take_of : (c : Case) → IsCase c → (t : ℕ) (o : Option Running) → IfSome (option_map download_of o) (Runs c t) → IfSome o CanTake
+take_of : (c : Case) → IsCase c → (t : ℕ) (o : Option Running) → IfSome (option_map download_of o) (DownloadRuns c t) → IfSome o CanTake
 take_of c is t None runs = tt
 take_of c is t (Some r) runs =
     let d = download_of r in
@@ -213,19 +206,15 @@ take_ready c is n from p b now = take_of c is b.t b.download (body_sound c n fro
 
 -- ---- a stretch in which nothing happens
 
-rest_of : (c : Case) → IsCase c → (t : ℕ) (o : Option Running) → IfSome (option_map download_of o) (Runs c t) → IfSome (option_map download_of o) (λ d. eqb d.job.left 0 ≡ false)
-    → IsTimed c.film c.network o → IfSome o (λ r. (r.asked ≤ t) × (t < r.done) × (r.done ≤ r.asked + longest_elapsed))
+rest_of : (c : Case) → IsCase c → (t : ℕ) (o : Option Running) → IfSome (option_map download_of o) (DownloadRuns c t) → IfSome (option_map download_of o) (λ d. eqb d.job.left 0 ≡ false)
+    → IsTimed c.film c.network o → IfSome o (λ r. (t < r.done) × (r.done ≤ r.asked + longest_elapsed))
 rest_of c is t None runs some timed = tt
 rest_of c is t (Some r) runs some timed =
     let d = download_of r in
     let done = timed.1 in
     let early = runs_on c is t d runs some in
     let soon = done_soon c is t d runs in
-    (runs.asked, omega (arith, done, early), omega (arith, done, soon, is.short))
-
-waited_of : (c : Case) → IsCase c → (t : ℕ) (o : Option Running) → IfSome (option_map download_of o) (Runs c t) → IfSome o (λ r. bit_ms_of t (download_of r) ≤ longest_elapsed)
-waited_of c is t None runs = tt
-waited_of c is t (Some r) runs = let bits = bit_ms_short c is t (download_of r) runs in let short = runs_short c is t (download_of r) runs in omega (arith, bits, short)
+    (omega (arith, done, early), omega (arith, done, soon, is.short))
 
 -- where it has no cause to ask, the milliseconds can be counted in which it asks for nothing and nothing begins
 pub idle_ready : (c : Case) → IsCase c → (n from : ℕ) (p : Player) (b : Body) → Now c n from p b → IsStill c p → CanIdle c.film c.setup c.ahead b
@@ -252,8 +241,7 @@ rest_ready c is n from p b low now timed some still =
       idles = idle_ready c is n from p b now still;
       instant = omega (arith, here, low);
       runs = rest_of c is b.t b.download s.running (subst IsOpen (sym now.same) some) timed;
-      range = range_ready c from b s;
-      waited = waited_of c is b.t b.download s.running;
+      judge = judge_ready c is from b s;
     }
 
 -- so many milliseconds can pass at once for it that do not take play past the end of what is loaded

@@ -6,7 +6,7 @@ use Rattle.network_clock.proofs.Laws.{job_apart, job_more, job_start}
 use Rattle.player_core.specs.declared.session.Event.TheVariants as event
 use Rattle.player_core.specs.State.{Case, Download, Mode, Player, starting, playing, seeking, ended}
 use Rattle.player_core.specs.Parts.{begins, is_ended, is_playing, pass_ms, passes_in, plays, stalls_on, takes, takes_any}
-use Rattle.player_core.specs.Sound.{IsCase, Runs, asked_size}
+use Rattle.player_core.specs.Sound.{IsCase, DownloadRuns, asked_size}
 use Rattle.player_core.specs.Quiet.{glides, glides_in, taken_ms}
 use Rattle.player_core.proofs.Runs.{first_next, runs_done}
 use Rattle.player_core.proofs.Soundness.{ticked}
@@ -15,10 +15,10 @@ use Rattle.player_core.proofs.Soundness.{ticked}
 
 module _ (c : Case) (is : IsCase c) where
   -- something is left of a download that isn't done
-  pub runs_open : (t : ℕ) (d : Download) → Runs c t d → t < done_on c.network d.asked (asked_size c d) → eqb d.job.left 0 ≡ false
+  pub runs_open : (t : ℕ) (d : Download) → DownloadRuns c t d → t < done_on c.network d.asked (asked_size c d) → eqb d.job.left 0 ≡ false
   runs_open t d h early = ne_eqb d.job.left 0 (λ none. let done = runs_done c is t d h none in absurd (omega (arith, done, early)))
 
-  taken_none : (t : ℕ) (d : Download) → Runs c t d → taken_ms c t 0 d ≡ d
+  taken_none : (t : ℕ) (d : Download) → DownloadRuns c t d → taken_ms c t 0 d ≡ d
   taken_none t d h =
       let first = first_on c.network d.asked (asked_size c d) in
       let here : t + 0 ≡ t = omega arith in
@@ -26,7 +26,7 @@ module _ (c : Case) (is : IsCase c) where
       ∙ ap (λ n. record d { first = cond (ltb first n) (Some first) None }) here
       ∙ ap (λ o. record d { first = o }) (sym h.first)
 
-  taken_runs : (t m : ℕ) (d : Download) → Runs c t d → t + m ≤ done_on c.network d.asked (asked_size c d) → Runs c (t + m) (taken_ms c t m d)
+  taken_runs : (t m : ℕ) (d : Download) → DownloadRuns c t d → t + m ≤ done_on c.network d.asked (asked_size c d) → DownloadRuns c (t + m) (taken_ms c t m d)
   taken_runs t m d h early =
       let bits = asked_size c d in
       let asked = h.asked in
@@ -44,7 +44,7 @@ module _ (c : Case) (is : IsCase c) where
         done = early;
       }
 
-  taken_next : (t m : ℕ) (d : Download) → Runs c t d → t + m < done_on c.network d.asked (asked_size c d) → takes c (t + m) (taken_ms c t m d) ≡ taken_ms c t (m + 1) d
+  taken_next : (t m : ℕ) (d : Download) → DownloadRuns c t d → t + m < done_on c.network d.asked (asked_size c d) → takes c (t + m) (taken_ms c t m d) ≡ taken_ms c t (m + 1) d
   taken_next t m d h early =
       let first = first_on c.network d.asked (asked_size c d) in
       let one : (t + m) + 1 ≡ t + (m + 1) = omega arith in
@@ -53,11 +53,11 @@ module _ (c : Case) (is : IsCase c) where
       ∙ ap (λ n. record d { job = job_on c.network t (m + 1) d.job; first = cond (ltb first n) (Some first) None }) one
 
   -- the same where there may be none
-  any_taken_none : (t : ℕ) (o : Option Download) → IfSome o (Runs c t) → option_map (taken_ms c t 0) o ≡ o
+  any_taken_none : (t : ℕ) (o : Option Download) → IfSome o (DownloadRuns c t) → option_map (taken_ms c t 0) o ≡ o
   any_taken_none t None h = refl
   any_taken_none t (Some d) h = ap Some (taken_none t d h)
 
-  any_taken_next : (t m : ℕ) (o : Option Download) → IfSome o (Runs c t) → IfSome o (λ d. t + m < done_on c.network d.asked (asked_size c d))
+  any_taken_next : (t m : ℕ) (o : Option Download) → IfSome o (DownloadRuns c t) → IfSome o (λ d. t + m < done_on c.network d.asked (asked_size c d))
       → option_map (takes c (t + m)) (option_map (taken_ms c t m) o) ≡ option_map (taken_ms c t (m + 1)) o
   any_taken_next t m None h early = refl
   any_taken_next t m (Some d) h early = ap Some (taken_next t m d h early)
@@ -91,7 +91,7 @@ stalls_more c q full on =
 
 module _ (c : Case) (is : IsCase c) where
   -- none at all
-  pub glides_none : (p : Player) → IfSome p.download (Runs c p.t) → glides c 0 p ≡ p
+  pub glides_none : (p : Player) → IfSome p.download (DownloadRuns c p.t) → glides c 0 p ≡ p
   glides_none p runs =
       moved_same p (p.t + 0) p.t _ p.x _ p.download _ p.startup_ms _ p.stall_ms _ p.seek_ms p.stalling p.stalling (omega arith)
       (none_more (is_playing p.mode && ltb p.x p.y) p.x) (any_taken_none c is p.t p.download runs) (none_more _ p.startup_ms)
@@ -101,7 +101,7 @@ module _ (c : Case) (is : IsCase c) where
       none_more b n = cond_both b (n + 0) n (λ k. k ≡ n) (λ e. omega arith) (λ e. refl)
 
   -- and one more
-  next_in : (p : Player) (m : ℕ) (mode : Mode) → is_ended mode ≡ false → IsSmooth c p mode m → IfSome p.download (Runs c p.t) → IfSome p.download (λ d. p.t + m < done_on c.network d.asked (asked_size c d))
+  next_in : (p : Player) (m : ℕ) (mode : Mode) → is_ended mode ≡ false → IsSmooth c p mode m → IfSome p.download (DownloadRuns c p.t) → IfSome p.download (λ d. p.t + m < done_on c.network d.asked (asked_size c d))
       → ticked (passes_in c (takes_any c (glides_in c m p mode)) mode) ≡ glides_in c (m + 1) p mode
   next_in p m starting goes smooth runs early =
       moved_same p ((p.t + m) + 1) (p.t + (m + 1)) p.x p.x _ _ ((p.startup_ms + m) + 1) (p.startup_ms + (m + 1)) p.stall_ms p.stall_ms p.seek_ms p.seek_ms false p.stalling
@@ -137,6 +137,6 @@ module _ (c : Case) (is : IsCase c) where
       (cases_lt p.x p.y)
 
   -- milliseconds that pass at once and one more, in which nothing begins, are so many and one at once
-  pub glides_next : (p : Player) (m : ℕ) → is_ended p.mode ≡ false → IsSmooth c p p.mode m → IfSome p.download (Runs c p.t) → IfSome p.download (λ d. p.t + m < done_on c.network d.asked (asked_size c d))
+  pub glides_next : (p : Player) (m : ℕ) → is_ended p.mode ≡ false → IsSmooth c p p.mode m → IfSome p.download (DownloadRuns c p.t) → IfSome p.download (λ d. p.t + m < done_on c.network d.asked (asked_size c d))
       → pass_ms c (glides c m p) ≡ glides c (m + 1) p
   glides_next p m goes smooth runs early = next_in p m p.mode goes smooth runs early

@@ -1,5 +1,5 @@
 -- Tests for abandonment that keep a download: on the lowest rung, where none is due, where no target is smaller than what is left, and where it is not late.
-use Rattle.std.proofs.Common.{◌≡◌, ◌∙◌, ℕ, zero, suc, ◌+◌, ◌-◌, ◌*◌, ◌/◌, ◌<◌, ◌≤◌, ⊎_elim, Bool, true, false, ◌&&◌, leb, ltb, Some, None, sym, ap, ap₂, subst, mul-le-mul_right, add-one, lt-ltb, le-ltb, arith}
+use Rattle.std.proofs.Common.{◌≡◌, ◌∙◌, ℕ, zero, suc, ◌+◌, ◌-◌, ◌*◌, ◌/◌, ◌<◌, ◌≤◌, ⊎_elim, Bool, true, false, ◌&&◌, leb, ltb, Some, None, sym, ap, ap₂, subst, mul-le-mul_left, mul-le-mul_right, add-one, lt-ltb, le-ltb, arith}
 use Rattle.std.specs.Option.{option_map_or}
 use Rattle.std.proofs.lemmas.Grind.{div_ceil_times}
 use Rattle.std.proofs.lemmas.Bool.{and_left, and_right, cond-true, cond-false, cases_Bool, cases_lt, le-leb, true≢false}
@@ -12,12 +12,13 @@ use Rattle.lab_model.proofs.Rungs.{greatest_more}
 use Rattle.network_clock.specs.declared.job.Job.{Job}
 use Rattle.network_clock.specs.Network.{first_on, job_on, start_job}
 use Rattle.network_clock.proofs.Laws.{job_apart, left_falls}
-use Rattle.abandonment.specs.declared.Progress.{Progress}
-use Rattle.abandonment.specs.Test.{abandonment, is_better, is_due, is_late, left_of, rate_now, target_of}
+use Rattle.abandonment.specs.Progress.{Received}
+use Rattle.abandonment.specs.Test.{IsEnough, abandonment, is_better, is_due, is_due_ms, is_late, left_of, rate_now, target_of}
 use Rattle.player_core.specs.State.{Case, Download}
 use Rattle.player_core.specs.Parts.{bit_ms_of, got_of, progress_of}
-use Rattle.player_core.specs.Sound.{IsCase, Runs, asked_size}
-use Rattle.player_core.specs.Quiet.{IsEnough, IsHeldFrom, IsKeptAt, is_due_ms, running_at}
+use Rattle.player_core.specs.Ready.{KeepsFor}
+use Rattle.player_core.specs.Sound.{IsCase, DownloadRuns, asked_size}
+use Rattle.player_core.specs.Quiet.{IsHeldFrom, IsKeptAt, running_at}
 use Rattle.player_core.proofs.Runs.{bit_ms_is}
 
 -- a rung that passes is at most the greatest that does
@@ -34,7 +35,7 @@ greatest_least passes q (suc n) passed low =
     omega (arith, more, here, before))
     (cases_Bool (passes n))
 
-module _ (f : Film) (segment rung : ℕ) (p : Progress) where
+module _ (f : Film) (segment rung : ℕ) (p : Received) where
   -- where no test is due, none gives the download up
   not_due : is_due p ≡ false → abandonment f segment rung p ≡ None
   not_due off =
@@ -91,6 +92,14 @@ rate_least got more ms most low some few =
     let there : rate ≤ 1000 * more / ms = le-div rate (1000 * more) ms some (omega (arith, whole, fewer, low)) in
     omega (arith, there)
 
+-- bits that come in so few milliseconds come at a rate that is no lower than this
+pub rate_within : (got more ms least : ℕ) → 1 ≤ least → got ≤ more → 1 ≤ ms → ms ≤ 1000 * got / least → least ≤ rate_of more ms
+rate_within got more ms least low no_fewer some few =
+    let whole = div-mul-le_self (1000 * got) least in
+    let within : least * ms ≤ least * (1000 * got / least) = mul-le-mul_left least few in
+    let there : least ≤ 1000 * more / ms = le-div least (1000 * more) ms some (omega (arith, whole, within, no_fewer)) in
+    omega (arith, there)
+
 -- what is spared at a rate is enough for what is left, and so it is at a greater one
 spared_more : (spent k later left less low rate : ℕ) → 5000 * left < k * low → later ≤ spent → less ≤ left → low ≤ rate → later * rate + 5000 * less ≤ (spent + k) * rate
 spared_more spent k later left less low rate enough early fewer more =
@@ -106,7 +115,7 @@ spared_from all spent later left less low rate enough early fewer more =
     (cases_lt all spent)
 
 -- a download is not late where at the end of so many milliseconds the bits that have come would keep it from that
-pub on_time_within : (f : Film) (segment rung got bit_ms elapsed : ℕ) (p : Progress) → 5000 * (size_of f segment rung - got) < (9 * f.seg_ms - 5 * elapsed) * (1000 * got / bit_ms) → got ≤ p.got → p.bit_ms ≤ bit_ms → p.elapsed_ms ≤ elapsed
+pub on_time_within : (f : Film) (segment rung got bit_ms elapsed : ℕ) (p : Received) → 5000 * (size_of f segment rung - got) < (9 * f.seg_ms - 5 * elapsed) * (1000 * got / bit_ms) → got ≤ p.got → p.bit_ms ≤ bit_ms → p.elapsed_ms ≤ elapsed
     → abandonment f segment rung p ≡ None
 on_time_within f segment rung got bit_ms elapsed p enough more few soon =
     ⊎_elim
@@ -119,7 +128,7 @@ on_time_within f segment rung got bit_ms elapsed p enough more few soon =
     (cases_lt 0 p.bit_ms)
 
 -- a download that runs has no fewer bits later, and one millisecond on bits more for each at most
-module _ (c : Case) (is : IsCase c) (t m : ℕ) (d : Download) (runs : Runs c t d) (later : t ≤ m) where
+module _ (c : Case) (is : IsCase c) (t m : ℕ) (d : Download) (runs : DownloadRuns c t d) (later : t ≤ m) where
   left_later : (running_at c m d).job.left ≤ d.job.left
   left_later =
       let asked = runs.asked in
@@ -145,12 +154,16 @@ module _ (c : Case) (is : IsCase c) (t m : ℕ) (d : Download) (runs : Runs c t 
       (cases_lt first m)
 
 -- what a running download is at its instant is what it is from its request on
-pub running_is : (c : Case) (t : ℕ) (d : Download) → Runs c t d → d ≡ running_at c t d
+pub running_is : (c : Case) (t : ℕ) (d : Download) → DownloadRuns c t d → d ≡ running_at c t d
 running_is c t d runs = ap₂ (λ j o. record d { job = j; first = o }) runs.job runs.first
 
+-- where no test gives a download up for so many milliseconds, none does for fewer
+pub keeps_less : (f : Film) (t : ℕ) (d : Download) (ms fewer : ℕ) → KeepsFor f t d ms → fewer ≤ ms → KeepsFor f t d fewer
+keeps_less f t d ms fewer keeps less = λ p more few soon some. keeps p more (omega (arith, few, less)) (omega (arith, soon, less)) (omega (arith, some, less))
+
 -- where no test gives a download up for so many milliseconds, whatever bits come, and where none is due for some after them, it is kept
-pub kept_until : (c : Case) → IsCase c → (t kept due : ℕ) (d : Download) → Runs c t d
-    → ((p : Progress) → got_of c.film d ≤ p.got → p.bit_ms ≤ bit_ms_of t d + kept → p.elapsed_ms ≤ t - d.asked + kept → 1 ≤ kept → abandonment c.film d.segment d.rung p ≡ None)
+pub kept_until : (c : Case) → IsCase c → (t kept due : ℕ) (d : Download) → DownloadRuns c t d
+    → KeepsFor c.film t d kept
     → ((n : ℕ) → (t + kept) - d.asked < n → n < ((t + kept) - d.asked) + due → is_due_ms n ≡ false)
     → (m : ℕ) → t < m → m < t + (kept + due) → IsKeptAt c m d
 kept_until c is t kept due d runs keeps early m after before =

@@ -17,7 +17,7 @@ use Rattle.player_core.specs.Parts.{arrival, arrives, asks, begins, can_ask, fin
 use Rattle.player_core.specs.Session.{Shown, end_of, ends_at, last_player, player_after, session_of, shown, shown_by}
 use Rattle.player_core.specs.Sound.{IsCase}
 use Rattle.player_core.specs.Value.{list_case}
-use Rattle.player_core.specs.Lists.{IsListed, RulesAreLists, rungs_in}
+use Rattle.player_core.specs.Lists.{IsListed, PlaysItsList, rungs_in}
 use Rattle.player_core.proofs.Bounds.{last_rungs}
 use Rattle.player_core.proofs.Ends.{end_before, end_early, end_found, end_is}
 use Rattle.player_core.proofs.InOrder.{InOrder, by_instant, gone_on_asks, in_order, last_loaded, last_played, stopped_in_order}
@@ -224,8 +224,8 @@ module _ (c : Case) (is : IsCase c) (off : c.setup.abandon ≡ false) (none : c.
         All-map (λ q. q < rungs_of c.film) (λ (q : Played). q.rung) ps (λ k d low. (last_rungs c is k d low).0),
       )
 
--- the law
-pub rules_are_lists : RulesAreLists
+-- without abandonment and seeks the session of a case is that of the rung list which it played
+pub rules_are_lists : (c : Case) → IsCase c → c.setup.abandon ≡ false → c.seeks ≡ [] → PlaysItsList c
 rules_are_lists c is off none = record { fits = list_fits c is off none; same = ap shown_by (same_last c is off none) }
 
 -- ---- the same of a session in hand

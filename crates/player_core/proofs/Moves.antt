@@ -7,7 +7,7 @@ use Rattle.abandonment.specs.Test.{abandonment}
 use Rattle.player_core.specs.declared.session.Event.TheVariants as event
 use Rattle.player_core.specs.State.{Case, Download, Player, ended}
 use Rattle.player_core.specs.Parts.{abandon, arrival, arrives, asks, can_ask, finish, gives_up, gives_up_any, instant, is_ended, is_playing, loads, progress_of, request, rung_for, seek, seek_at, seeks_to}
-use Rattle.player_core.specs.Sound.{IsCase, Runs, Sound, seeks_left, turns_left}
+use Rattle.player_core.specs.Sound.{IsCase, DownloadRuns, Sound, seeks_left, turns_left}
 use Rattle.player_core.proofs.Counts.{seek_fits, seeks_fewer, seeks_one}
 use Rattle.player_core.proofs.Soundness.{abandon_sound, abandonment_lower, asks_turns, can_ask_true, gives_turns, loads_turns, seeks_turns}
 use Rattle.player_core.proofs.Players.{abandon_t, gone_on, sought_sound, stopped, stopped_sound, stopped_t}
@@ -29,7 +29,7 @@ module _ (c : Case) (is : IsCase c) (t : ℕ) where
   arrives_moves : (p : Player) (o : Option Download) → Sound c t p → p.download ≡ o → Moved c t p t (arrives c p o)
   arrives_moves p None h e = moved_none c t p
   arrives_moves p (Some d) h e =
-      let runs : Runs c p.t d = subst (λ o. IfSome o (Runs c p.t)) e h.running in
+      let runs : DownloadRuns c p.t d = subst (λ o. IfSome o (DownloadRuns c p.t)) e h.running in
       let next : d.segment ≡ p.k = subst (λ o. IfSome o (λ e. e.segment ≡ p.k)) e h.of_next in
       let segment = runs.segment in
       let fewer = loads_turns c t p d (omega (arith, segment, next)) e (h.free (ap is_some e)) in
@@ -50,7 +50,7 @@ module _ (c : Case) (is : IsCase c) (t : ℕ) where
   gives_moves : (p : Player) (d : Download) (o : Option ℕ) → Sound c t p → p.download ≡ Some d → ((q : ℕ) → o ≡ Some q → q < d.rung) → Moved c t p t (gives_up c p d o)
   gives_moves p d None h e lower = moved_none c t p
   gives_moves p d (Some q) h e lower =
-      let runs : Runs c p.t d = subst (λ o. IfSome o (Runs c p.t)) e h.running in
+      let runs : DownloadRuns c p.t d = subst (λ o. IfSome o (DownloadRuns c p.t)) e h.running in
       let next : d.segment ≡ p.k = subst (λ o. IfSome o (λ e. e.segment ≡ p.k)) e h.of_next in
       let segment = runs.segment in
       inl (gives_turns c t p d q (omega (arith, segment, next)) e (lower q refl))

@@ -4,9 +4,9 @@ use Rattle.std.proofs.lemmas.Bool.{and_left, and_parts, cases_Bool, cases_lt, co
 use Rattle.lab_model.specs.Film.{segments_of}
 use Rattle.player_core.specs.declared.session.Event.TheVariants as event
 use Rattle.player_core.specs.State.{Case, Download, Mode, Player, starting, playing, seeking, ended}
-use Rattle.player_core.specs.Parts.{arrival, arrives, begun, finish, goes_on, gone_on, instant, is_ended, is_playing, loads, pass_ms, stopped, takes_any}
+use Rattle.player_core.specs.Parts.{arrival, arrives, mode_after_arrival, finish, goes_on, gone_on, instant, is_ended, is_playing, loads, pass_ms, stopped, takes_any}
 use Rattle.player_core.specs.Session.{end_of, ends_at, last_player, player_after}
-use Rattle.player_core.specs.Sound.{IsCase, Runs, Sound}
+use Rattle.player_core.specs.Sound.{IsCase, DownloadRuns, Sound}
 use Rattle.player_core.proofs.Ends.{end_before, end_early, end_found, last_sound}
 use Rattle.player_core.proofs.Players.{player_next}
 use Rattle.player_core.proofs.Turned.{last_is, turn_goes}
@@ -15,7 +15,7 @@ use Rattle.player_core.proofs.Waits.{passes_passed}
 -- ---- until its end a player has not ended
 
 -- a segment that arrives ends nothing
-begun_goes : (m : Mode) → is_ended (begun m) ≡ is_ended m
+begun_goes : (m : Mode) → is_ended (mode_after_arrival m) ≡ is_ended m
 begun_goes starting = refl
 begun_goes playing = refl
 begun_goes seeking = refl
@@ -59,7 +59,7 @@ module _ (c : Case) (is : IsCase c) (from : ℕ) (p : Player) (h : Sound c from 
       absurd (omega (arith, over, position, end, some, less)))
       (λ (all : n ≤ p.k). omega (arith, next, all)) (cases_lt p.k n)
 
-  none_runs : (o : Option Download) → IfSome o (Runs c p.t) → IfSome o (λ d. d.segment ≡ p.k) → o ≡ None
+  none_runs : (o : Option Download) → IfSome o (DownloadRuns c p.t) → IfSome o (λ d. d.segment ≡ p.k) → o ≡ None
   none_runs None runs next = refl
   none_runs (Some d) runs next = let low = runs.segment in let all = over_next in absurd (omega (arith, low, next, all))
 

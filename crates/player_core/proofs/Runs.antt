@@ -12,8 +12,8 @@ use Rattle.network_clock.proofs.Downloads.{first_from, first_found, first_not_be
 use Rattle.network_clock.proofs.Pace.{left_slow}
 use Rattle.player_core.specs.State.{Case, Download}
 use Rattle.player_core.specs.Parts.{bit_ms_of, got_of, takes}
-use Rattle.player_core.specs.Limits.{longest_elapsed}
-use Rattle.player_core.specs.Sound.{IsCase, Runs, asked_size}
+use Rattle.abandonment.specs.Progress.{longest_elapsed}
+use Rattle.player_core.specs.Sound.{IsCase, DownloadRuns, asked_size}
 
 -- ---- sizes
 
@@ -26,24 +26,24 @@ size_within f segment rung h s r =
 
 module _ (c : Case) (is : IsCase c) where
   -- a running download asked for a size that keeps them
-  pub asked_within : (t : ℕ) (d : Download) → Runs c t d → IsWithin 1 200000000 (asked_size c d)
+  pub asked_within : (t : ℕ) (d : Download) → DownloadRuns c t d → IsWithin 1 200000000 (asked_size c d)
   asked_within t d h = size_within c.film d.segment d.rung is.film h.segment h.rung
 
   -- the instants of a download: it begins to take bits before it is done, and is done soon
-  pub begins_before : (t : ℕ) (d : Download) → Runs c t d → first_on c.network d.asked (asked_size c d) < done_on c.network d.asked (asked_size c d)
+  pub begins_before : (t : ℕ) (d : Download) → DownloadRuns c t d → first_on c.network d.asked (asked_size c d) < done_on c.network d.asked (asked_size c d)
   begins_before t d h = let size = asked_within t d h in first_before_done c.network is.network is.short d.asked (asked_size c d) size.0 size.1
 
   -- it is done within 10000 milliseconds and the longest stretch of bits
-  pub done_soon : (t : ℕ) (d : Download) → Runs c t d → done_on c.network d.asked (asked_size c d) ≤ d.asked + (is.longest + 10000)
+  pub done_soon : (t : ℕ) (d : Download) → DownloadRuns c t d → done_on c.network d.asked (asked_size c d) ≤ d.asked + (is.longest + 10000)
   done_soon t d h = let size = asked_within t d h in (done_found c.network is.network is.short d.asked (asked_size c d) size.1).0
 
   -- it was asked for so short ago that it can be judged
-  pub runs_short : (t : ℕ) (d : Download) → Runs c t d → t - d.asked ≤ longest_elapsed
+  pub runs_short : (t : ℕ) (d : Download) → DownloadRuns c t d → t - d.asked ≤ longest_elapsed
   runs_short t d h = let soon = done_soon t d h in let done = h.done in omega (arith, soon, done, is.short)
 
   -- a download that was just asked for
   pub runs_start : (t segment rung : ℕ) → segment < segments_of c.film → rung < rungs_of c.film
-      → Runs c t (record { segment = segment; rung = rung; asked = t; job = start_job (size_of c.film segment rung); first = None })
+      → DownloadRuns c t (record { segment = segment; rung = rung; asked = t; job = start_job (size_of c.film segment rung); first = None })
   runs_start t segment rung s r =
       let bits = size_of c.film segment rung in
       let none : t - t ≡ 0 = omega arith in
@@ -61,7 +61,7 @@ module _ (c : Case) (is : IsCase c) where
   starts_full segment rung s r = let size = size_within c.film segment rung is.film s r in let some = size.0 in ne_eqb _ 0 (λ e. absurd (omega (arith, e, some)))
 
   -- where nothing is left it is done, and where something is left it is not
-  pub runs_done : (t : ℕ) (d : Download) → Runs c t d → d.job.left ≡ 0 → t ≡ done_on c.network d.asked (asked_size c d)
+  pub runs_done : (t : ℕ) (d : Download) → DownloadRuns c t d → d.job.left ≡ 0 → t ≡ done_on c.network d.asked (asked_size c d)
   runs_done t d h none =
       let left = ap (λ (j : Job). j.left) h.job in
       let here : d.asked + (t - d.asked) ≡ t = let a = h.asked in omega (arith, a) in
@@ -70,7 +70,7 @@ module _ (c : Case) (is : IsCase c) where
       (λ late. omega (arith, late, done)) (cases_lt t (done_on c.network d.asked (asked_size c d)))
 
   -- where something is left of a running download, it is not done yet
-  pub runs_on : (t : ℕ) (d : Download) → Runs c t d → eqb d.job.left 0 ≡ false → t < done_on c.network d.asked (asked_size c d)
+  pub runs_on : (t : ℕ) (d : Download) → DownloadRuns c t d → eqb d.job.left 0 ≡ false → t < done_on c.network d.asked (asked_size c d)
   runs_on t d h some =
       let size = asked_within t d h in
       let left = ap (λ (j : Job). j.left) h.job in
@@ -82,17 +82,17 @@ module _ (c : Case) (is : IsCase c) where
       absurd (eqb-false d.job.left 0 some (omega (arith, left, there, found)))) (cases_lt t (done_on c.network d.asked (asked_size c d)))
 
   -- the first instant spent on bits has passed, or it is still to come
-  pub first_cases : (t : ℕ) (d : Download) → Runs c t d
+  pub first_cases : (t : ℕ) (d : Download) → DownloadRuns c t d
       → ((first_on c.network d.asked (asked_size c d) < t) × (d.first ≡ Some (first_on c.network d.asked (asked_size c d)))) ⊎ ((t ≤ first_on c.network d.asked (asked_size c d)) × (d.first ≡ None))
   first_cases t d h =
       let first = first_on c.network d.asked (asked_size c d) in
       elim (cases_lt first t) [ inl past ↦ inl (past, h.first ∙ rw (lt-ltb first t past) refl) | inr ahead ↦ inr (ahead, h.first ∙ rw (le-ltb first t ahead) refl) ]
 
-  here_is : (t : ℕ) (d : Download) → Runs c t d → d.asked + (t - d.asked) ≡ t
+  here_is : (t : ℕ) (d : Download) → DownloadRuns c t d → d.asked + (t - d.asked) ≡ t
   here_is t d h = let asked = h.asked in omega (arith, asked)
 
   -- whether the millisecond is spent on bits, where none was before
-  spent_now : (t : ℕ) (d : Download) → Runs c t d → t ≤ first_on c.network d.asked (asked_size c d)
+  spent_now : (t : ℕ) (d : Download) → DownloadRuns c t d → t ≤ first_on c.network d.asked (asked_size c d)
       → cond (spends (c.network t) d.job) (Some t) None ≡ cond (ltb (first_on c.network d.asked (asked_size c d)) (t + 1)) (Some (first_on c.network d.asked (asked_size c d))) None
   spent_now t d h ahead =
       let net = c.network in
@@ -109,7 +109,7 @@ module _ (c : Case) (is : IsCase c) where
       (cases_lt t first)
 
   -- the first instant spent on bits, after the millisecond
-  pub first_next : (t : ℕ) (d : Download) → Runs c t d
+  pub first_next : (t : ℕ) (d : Download) → DownloadRuns c t d
       → cond (is_some d.first) d.first (cond (spends (c.network t) d.job) (Some t) None) ≡ cond (ltb (first_on c.network d.asked (asked_size c d)) (t + 1)) (Some (first_on c.network d.asked (asked_size c d))) None
   first_next t d h =
       let net = c.network in
@@ -123,7 +123,7 @@ module _ (c : Case) (is : IsCase c) where
       let low = ahead.0 in subst (λ o. cond (is_some o) o spent ≡ after) (sym ahead.1) (spent_now t d h low)) (first_cases t d h)
 
   -- where something is left of it, it runs a millisecond later
-  pub runs_next : (t : ℕ) (d : Download) → Runs c t d → eqb d.job.left 0 ≡ false → Runs c (t + 1) (takes c t d)
+  pub runs_next : (t : ℕ) (d : Download) → DownloadRuns c t d → eqb d.job.left 0 ≡ false → DownloadRuns c (t + 1) (takes c t d)
   runs_next t d h some =
       let on = runs_on t d h some in
       let asked = h.asked in
@@ -137,7 +137,7 @@ module _ (c : Case) (is : IsCase c) where
       }
 
   -- where nothing is left, its first millisecond that was spent on bits is past, and it knows which
-  pub runs_begun : (t : ℕ) (d : Download) → Runs c t d → d.job.left ≡ 0 → (first_on c.network d.asked (asked_size c d) < t) × (d.first ≡ Some (first_on c.network d.asked (asked_size c d)))
+  pub runs_begun : (t : ℕ) (d : Download) → DownloadRuns c t d → d.job.left ≡ 0 → (first_on c.network d.asked (asked_size c d) < t) × (d.first ≡ Some (first_on c.network d.asked (asked_size c d)))
   runs_begun t d h none =
       let done = runs_done t d h none in
       let before = begins_before t d h in
@@ -145,21 +145,21 @@ module _ (c : Case) (is : IsCase c) where
       (begun, h.first ∙ rw (lt-ltb _ t begun) refl)
 
   -- the milliseconds since the first one spent on bits
-  pub bit_ms_is : (t : ℕ) (d : Download) → Runs c t d → bit_ms_of t d ≡ t - first_on c.network d.asked (asked_size c d)
+  pub bit_ms_is : (t : ℕ) (d : Download) → DownloadRuns c t d → bit_ms_of t d ≡ t - first_on c.network d.asked (asked_size c d)
   bit_ms_is t d h =
       let first = first_on c.network d.asked (asked_size c d) in
       ⊎_elim (λ (past : (first < t) × (d.first ≡ Some first)). ap (λ o. option_map_or (λ f. t - f) o 0) past.1)
       (λ (ahead : (t ≤ first) × (d.first ≡ None)). let low = ahead.0 in ap (λ o. option_map_or (λ f. t - f) o 0) ahead.1 ∙ omega (arith, low)) (first_cases t d h)
 
   -- its first millisecond that was spent on bits is no longer ago than its request
-  pub bit_ms_short : (t : ℕ) (d : Download) → Runs c t d → bit_ms_of t d ≤ t - d.asked
+  pub bit_ms_short : (t : ℕ) (d : Download) → DownloadRuns c t d → bit_ms_of t d ≤ t - d.asked
   bit_ms_short t d h = let is = bit_ms_is t d h in let from = first_from c.network d.asked (asked_size c d) in omega (arith, is, from)
 
   -- what is left, before the first bits and after
-  left_before : (t : ℕ) (d : Download) → Runs c t d → (n : ℕ) → d.asked + n ≤ first_on c.network d.asked (asked_size c d) → (job_on c.network d.asked n (start_job (asked_size c d))).left ≡ 1000 * asked_size c d
+  left_before : (t : ℕ) (d : Download) → DownloadRuns c t d → (n : ℕ) → d.asked + n ≤ first_on c.network d.asked (asked_size c d) → (job_on c.network d.asked n (start_job (asked_size c d))).left ≡ 1000 * asked_size c d
   left_before t d h n low = left_waits c.network d.asked n (start_job (asked_size c d)) (λ k l. first_not_before c.network d.asked (asked_size c d) k (omega (arith, l, low)))
 
-  left_least : (t : ℕ) (d : Download) → Runs c t d → 1000 * asked_size c d ≤ d.job.left + 10000000000 * (t - first_on c.network d.asked (asked_size c d))
+  left_least : (t : ℕ) (d : Download) → DownloadRuns c t d → 1000 * asked_size c d ≤ d.job.left + 10000000000 * (t - first_on c.network d.asked (asked_size c d))
   left_least t d h =
       let net = c.network in
       let bits = asked_size c d in
@@ -182,7 +182,7 @@ module _ (c : Case) (is : IsCase c) where
   got_least bits left ms h = omega (arith, h)
 
   -- it has no more bits than it asked for, and at most 10000000 for each millisecond from that first one on
-  pub runs_pace : (t : ℕ) (d : Download) → Runs c t d → (got_of c.film d ≤ asked_size c d) × (got_of c.film d ≤ 10000000 * bit_ms_of t d)
+  pub runs_pace : (t : ℕ) (d : Download) → DownloadRuns c t d → (got_of c.film d ≤ asked_size c d) × (got_of c.film d ≤ 10000000 * bit_ms_of t d)
   runs_pace t d h =
       let is = bit_ms_is t d h in
       (omega arith, subst (λ ms. got_of c.film d ≤ 10000000 * ms) (sym is) (got_least (asked_size c d) d.job.left (t - first_on c.network d.asked (asked_size c d)) (left_least t d h)))

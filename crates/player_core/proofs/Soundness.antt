@@ -12,7 +12,7 @@ use Rattle.lab_model.specs.declared.context.Played.{Played}
 use Rattle.lab_model.specs.Film.{Film, IsFilm, rungs_of, segments_of, size_of}
 use Rattle.lab_model.specs.Choice.{choice}
 use Rattle.lab_model.proofs.Choices.{choice_fits}
-use Rattle.abandonment.specs.declared.Progress.{Progress}
+use Rattle.abandonment.specs.Progress.{Received}
 use Rattle.abandonment.specs.Test.{abandonment, is_better, is_due, is_late, target_of, left_of}
 use Rattle.player_core.specs.declared.session.Event.{Event}
 use Rattle.player_core.specs.declared.session.Event.TheVariants as event
@@ -21,7 +21,7 @@ use Rattle.player_core.specs.State.{Case, Download, Mode, Player, starting, play
 -- by this name the crates above cite it
 pub use Rattle.player_core.specs.Parts.{takes_any as taken}
 use Rattle.player_core.specs.Parts.{abandon, arrival, arrives, asks, begins, can_ask, context_of, finish, gives_up, gives_up_any, got_of, is_ended, is_playing, loads, pass_ms, passes_in, plays, progress_of, request, rung_for, seek, seek_at, seeks_to, stalls_on, takes, wasted_by, takes_any}
-use Rattle.player_core.specs.Sound.{IsCase, IsOf, Runs, Sound, begun_before, is_waiting, seeks_left, spare_stall, turns_here, turns_left}
+use Rattle.player_core.specs.Sound.{IsCase, IsOf, DownloadRuns, Sound, begun_before, is_waiting, seeks_left, spare_stall, turns_here, turns_left}
 use Rattle.player_core.proofs.Counts.{begun_grows, begun_most, begun_one, begun_waits, playing_still, playing_waits, seek_fits, seeks_fewer, seeks_one, spare_at_end, spare_calm, spare_inside, spare_most, spare_waiting, turns_next, turns_now}
 use Rattle.player_core.proofs.Runs.{runs_next, runs_pace, runs_start, asked_within, size_within, starts_full}
 
@@ -38,7 +38,7 @@ module _ (c : Case) (from : ℕ) where
 
   loads_sound : (p : Player) (d : Download) → Sound c from p → p.download ≡ Some d → Sound c from (loads c p d)
   loads_sound p d h some =
-      let runs : Runs c p.t d = subst (λ o. IfSome o (Runs c p.t)) some h.running in
+      let runs : DownloadRuns c p.t d = subst (λ o. IfSome o (DownloadRuns c p.t)) some h.running in
       let next : d.segment ≡ p.k = subst (λ o. IfSome o (λ e. e.segment ≡ p.k)) some h.of_next in
       let none = h.free (ap is_some some) in
       let segment = runs.segment in
@@ -115,7 +115,7 @@ module _ (c : Case) (from : ℕ) where
   -- ---- 3. Abandonment
 
   -- a download is given up for a lower rung
-  pub abandonment_lower : (f : Film) (segment rung : ℕ) (p : Progress) (q : ℕ) → abandonment f segment rung p ≡ Some q → q < rung
+  pub abandonment_lower : (f : Film) (segment rung : ℕ) (p : Received) (q : ℕ) → abandonment f segment rung p ≡ Some q → q < rung
   abandonment_lower f segment rung p q e =
       let parts = cond_some ((is_due p && is_late f segment rung p) && is_better f segment rung p) (target_of f p) q e in
       let better = and_parts (is_due p && is_late f segment rung p) (is_better f segment rung p) parts.0 in
@@ -136,7 +136,7 @@ module _ (c : Case) (is : IsCase c) (from : ℕ) where
   gives_sound : (p : Player) (d : Download) (o : Option ℕ) → Sound c from p → p.download ≡ Some d → ((q : ℕ) → o ≡ Some q → q < d.rung) → Sound c from (gives_up c p d o)
   gives_sound p d None h some lower = h
   gives_sound p d (Some q) h some lower =
-      let runs : Runs c p.t d = subst (λ o. IfSome o (Runs c p.t)) some h.running in
+      let runs : DownloadRuns c p.t d = subst (λ o. IfSome o (DownloadRuns c p.t)) some h.running in
       let next : d.segment ≡ p.k = subst (λ o. IfSome o (λ e. e.segment ≡ p.k)) some h.of_next in
       let segment = runs.segment in
       let rung = runs.rung in
@@ -191,7 +191,7 @@ module _ (c : Case) (is : IsCase c) where
   got_most : (p : Player) (o : Option Download) (from : ℕ) → Sound c from p → p.download ≡ o → option_map_or (λ d. got_of c.film d) o 0 ≤ 200000000
   got_most p None from h e = omega arith
   got_most p (Some d) from h e =
-      let runs : Runs c p.t d = subst (λ o. IfSome o (Runs c p.t)) e h.running in
+      let runs : DownloadRuns c p.t d = subst (λ o. IfSome o (DownloadRuns c p.t)) e h.running in
       let size = (asked_within c is p.t d runs).1 in
       let got = (runs_pace c is p.t d runs).0 in
       omega (arith, size, got)
@@ -437,7 +437,7 @@ taken_of : (c : Case) (t k : ℕ) (o : Option Download) → IfSome o (λ d. d.se
 taken_of c t k None h = tt
 taken_of c t k (Some d) h = h
 
-taken_runs : (c : Case) → IsCase c → (t : ℕ) (o : Option Download) → IfSome o (Runs c t) → IfSome o (λ d. eqb d.job.left 0 ≡ false) → IfSome (option_map (takes c t) o) (Runs c (t + 1))
+taken_runs : (c : Case) → IsCase c → (t : ℕ) (o : Option Download) → IfSome o (DownloadRuns c t) → IfSome o (λ d. eqb d.job.left 0 ≡ false) → IfSome (option_map (takes c t) o) (DownloadRuns c (t + 1))
 taken_runs c is t None h some = tt
 taken_runs c is t (Some d) h some = runs_next c is t d h some
 

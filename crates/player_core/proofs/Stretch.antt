@@ -10,8 +10,9 @@ use Rattle.player_core.specs.Available.{available_at}
 use Rattle.player_core.specs.State.{Case, Download, Mode, Player, starting, playing, seeking, ended}
 use Rattle.player_core.specs.Parts.{abandon, arrives, asks, can_ask, finish, gives_up, gives_up_any, goes_on, instant, is_ended, is_playing, loads, pass_ms, passes_in, plays, progress_of, request, rung_for, seek, seek_at, seeks_to, stalls_on, takes, takes_any}
 use Rattle.player_core.specs.Session.{ends_at, player_after}
-use Rattle.player_core.specs.Sound.{IsCase, Runs, Sound, asked_size}
-use Rattle.player_core.specs.Quiet.{IsKeptAt, IsQuiet, IsUneventful, IsUntouched, glides, is_due_ms, running_at, taken_ms}
+use Rattle.player_core.specs.Sound.{IsCase, DownloadRuns, Sound, asked_size}
+use Rattle.abandonment.specs.Test.{is_due_ms}
+use Rattle.player_core.specs.Quiet.{IsKeptAt, IsQuiet, IsUneventful, IsUntouched, glides, running_at, taken_ms}
 use Rattle.player_core.proofs.Soundness.{can_ask_true}
 use Rattle.player_core.proofs.Players.{instant_sound, pass_t, passed_sound, player_next, player_sound}
 use Rattle.player_core.proofs.Waits.{IsInside, IsStill, instant_still, passes_passed, plays_x}
@@ -64,7 +65,7 @@ record IsIdle (c : Case) (p : Player) : Type 0 where
   asks : p.download ≡ None → p.k < segments_of c.film → (c.setup.buffer_ms < p.y - p.x + c.film.seg_ms) ⊎ (p.t < available_at c.film c.ahead p.k)
 
 module _ (c : Case) (is : IsCase c) (p : Player) where
-  idle_arrives : (o : Option Download) → IfSome o (Runs c p.t) → IfSome o (λ d. p.t < done_on c.network d.asked (asked_size c d)) → arrives c p o ≡ p
+  idle_arrives : (o : Option Download) → IfSome o (DownloadRuns c p.t) → IfSome o (λ d. p.t < done_on c.network d.asked (asked_size c d)) → arrives c p o ≡ p
   idle_arrives None runs early = refl
   idle_arrives (Some d) runs early = cond-false (eqb d.job.left 0) (loads c p d) p (runs_open c is p.t d runs early)
 
@@ -187,7 +188,7 @@ module _ (c : Case) (t ms until : ℕ) where
 
   -- what keeps a download until an instant keeps it there
   glide_keeps : (from later s : ℕ) (o : Option Download) → from < later → later < until → IfSome o (λ d. (m : ℕ) → from < m → m < until → IsKeptAt c m d)
-      → IfSome (option_map (taken_ms c s ms) (option_map (takes c t) o)) (Runs c later)
+      → IfSome (option_map (taken_ms c s ms) (option_map (takes c t) o)) (DownloadRuns c later)
       → IfSome (option_map (taken_ms c s ms) (option_map (takes c t) o)) (λ d. abandonment c.film d.segment d.rung (progress_of c.film later d) ≡ None)
   glide_keeps from later s None after low h runs = tt
   glide_keeps from later s (Some d) after low h runs =
@@ -293,7 +294,7 @@ module _ (c : Case) (is : IsCase c) (from : ℕ) (q p : Player) (n : ℕ) (sound
       let t = next.t in
       subst (λ o. IfSome o (λ d. p.t + j < done_on c.network d.asked (asked_size c d))) (sym next.download) (any_runs c q.t 0 (q.t + n) (p.t + j) q.download (omega (arith, t, inside)) quiet.arrives)
 
-  rests_idle : (j : ℕ) → suc j < n → IfSome (glides c j p).download (Runs c (p.t + j)) → IsIdle c (glides c j p)
+  rests_idle : (j : ℕ) → suc j < n → IfSome (glides c j p).download (DownloadRuns c (p.t + j)) → IsIdle c (glides c j p)
   rests_idle j inside runs =
       let t = next.t in
       record {
@@ -302,7 +303,7 @@ module _ (c : Case) (is : IsCase c) (from : ℕ) (q p : Player) (n : ℕ) (sound
         runs = glide_runs c p.t j (q.t + n) (p.t + j) p.download (rests_runs j inside);
         keeps = λ on. subst (λ o. IfSome (option_map (taken_ms c p.t j) o) (λ d. abandonment c.film d.segment d.rung (progress_of c.film (p.t + j) d) ≡ None)) (sym next.download)
             (glide_keeps c q.t j (q.t + n) q.t (p.t + j) p.t q.download (omega (arith, t)) (omega (arith, t, inside)) (quiet.keeps on)
-            (subst (λ o. IfSome (option_map (taken_ms c p.t j) o) (Runs c (p.t + j))) next.download runs));
+            (subst (λ o. IfSome (option_map (taken_ms c p.t j) o) (DownloadRuns c (p.t + j))) next.download runs));
         seeks = quiet.seeks (p.t + j) (omega (arith, t)) (omega (arith, t, inside));
         asks = λ none low.
             let y = next.y in
@@ -315,7 +316,7 @@ module _ (c : Case) (is : IsCase c) (from : ℕ) (q p : Player) (n : ℕ) (sound
 -- ---- the law
 
 module _ (c : Case) (is : IsCase c) (t n : ℕ) (before : (k : ℕ) → k < t → ends_at c k ≡ false) (goes : ends_at c t ≡ false) (quiet : IsUneventful c (instant c (player_after c t)) n) where
-  next_runs : IfSome (pass_ms c (instant c (player_after c t))).download (Runs c (pass_ms c (instant c (player_after c t))).t)
+  next_runs : IfSome (pass_ms c (instant c (player_after c t))).download (DownloadRuns c (pass_ms c (instant c (player_after c t))).t)
   next_runs =
       let start = player_sound c is t before in
       (passed_sound c is t (player_after c t) start.1 start.0 goes).running

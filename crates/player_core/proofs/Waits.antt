@@ -1,17 +1,17 @@
 -- The milliseconds that a player can wait before its next turn, and that each millisecond takes one of them.
 use Rattle.std.proofs.Common.{◌≡◌, ℕ, ◌+◌, ◌-◌, ◌*◌, ◌%◌, ◌<◌, ◌≤◌, ⊎_elim, true, false, cond, not, ◌&&◌, eqb, leb, ltb, List, [], ◌∷◌, ◌++◌, Option, Some, None, IfSome, is_some, option_map, refl, sym, ◌∙◌, ap, subst, mul-le-mul, arith}
+use Rattle.lab_model.specs.Limits.{longest_film}
 use Rattle.std.proofs.lemmas.Bool.{and_from, cases_lt, cond_both, cond-true, cond-false, eq-eqb, false_from_ne_true, false≢true, le-leb, lt-ltb, le-ltb, ltb-true, true≢false}
 use Rattle.lab_model.specs.declared.context.Seek.{Seek}
 use Rattle.lab_model.specs.declared.context.Played.{Played}
 use Rattle.lab_model.specs.Film.{segments_of}
 use Rattle.network_clock.specs.Network.{done_on}
 use Rattle.abandonment.specs.Test.{abandonment}
-use Rattle.player_core.specs.Limits.{longest_film}
 use Rattle.player_core.specs.declared.session.Event.TheVariants as event
 use Rattle.player_core.specs.Available.{available_at}
 use Rattle.player_core.specs.State.{Case, Download, Mode, Player, ended, playing, seeking, starting}
 use Rattle.player_core.specs.Parts.{abandon, arrival, asks, begins, can_ask, finish, gives_up, gives_up_any, instant, is_ended, is_playing, pass_ms, passes_in, plays, progress_of, request, rung_for, seek, seek_at, seeks_to, stalls_on, takes, takes_any}
-use Rattle.player_core.specs.Sound.{IsCase, Runs, Sound, asked_size, is_waiting, seeks_left, turns_here, turns_left}
+use Rattle.player_core.specs.Sound.{IsCase, DownloadRuns, Sound, asked_size, is_waiting, seeks_left, turns_here, turns_left}
 use Rattle.player_core.proofs.Runs.{done_soon, runs_on}
 use Rattle.player_core.proofs.Soundness.{IsOpen, taken_turns}
 use Rattle.player_core.proofs.Players.{gone_on, pass_t, stopped}
@@ -41,7 +41,7 @@ module _ (c : Case) (is : IsCase c) (from : ℕ) (p : Player) (h : Sound c from 
       cond_both (ltb p.k (segments_of c.film)) (available_at c.film c.ahead p.k - p.t) 0 (λ n. (p.y - p.x) + n ≤ is.longest + 10000)
       (λ low. let next = end_most (p.k + 1) (let l = ltb-true p.k (segments_of c.film) low in omega (arith, l)) in omega (arith, whole, end, next, is.long)) (λ e. omega (arith, whole, end, is.long))
   waits_few_for (Some d) e =
-      let runs : Runs c p.t d = subst (λ o. IfSome o (Runs c p.t)) e h.running in
+      let runs : DownloadRuns c p.t d = subst (λ o. IfSome o (DownloadRuns c p.t)) e h.running in
       let soon = done_soon c is p.t d runs in
       let asked = runs.asked in
       omega (arith, soon, asked)
@@ -228,7 +228,7 @@ module _ (c : Case) (is : IsCase c) (from : ℕ) (p : Player) (h : Sound c from 
       let same = rest_is in
       ⊎_elim (λ low. let less = rest_next e still go low in omega (arith, same, less)) (λ all. let less = rest_end still go all in omega (arith, same, less)) (cases_lt p.k (segments_of c.film))
   waits_less_for (Some d) e some still go =
-      let runs : Runs c p.t d = subst (λ o. IfSome o (Runs c p.t)) e h.running in
+      let runs : DownloadRuns c p.t d = subst (λ o. IfSome o (DownloadRuns c p.t)) e h.running in
       let left : eqb d.job.left 0 ≡ false = subst (λ o. IfSome o (λ d. eqb d.job.left 0 ≡ false)) e some in
       let on = runs_on c is p.t d runs left in
       let at = pass_t c p in

@@ -1,12 +1,7 @@
 -- From when on a segment may be asked for.
 use Rattle.std.specs.Prelude.{ℕ, ◌+◌, ◌-◌, ◌*◌}
 use Rattle.lab_model.specs.Film.{Film}
-use Rattle.player_core.specs.Limits.{longest_film}
 
 -- the instant from which a segment may be asked for, where so much media is there at instant 0
 abbrev pub available_at : Film → ℕ → ℕ → ℕ
 available_at f ahead segment = (segment + 1) * f.seg_ms - ahead
-
--- so much media ahead that every film within the limits is there at instant 0
-abbrev pub all_ahead : ℕ
-all_ahead = longest_film

@@ -1,7 +1,7 @@
 pub mod Limits
 pub mod Available
-pub mod Scene
 pub mod State
+pub mod Scene
 pub mod Parts
 pub mod Session
 pub mod Value
@@ -11,3 +11,4 @@ pub mod Seen
 pub mod Ready
 pub mod Quiet
 pub mod Lists
+pub mod Ends

@@ -4,11 +4,11 @@ use Rattle.lab_model.specs.declared.trace.Period.{Period}
 use Rattle.lab_model.specs.declared.setup.Setup.{Setup}
 use Rattle.lab_model.specs.declared.context.Played.{Played}
 use Rattle.lab_model.specs.Film.{Film}
-use Rattle.lab_model.specs.Rules.{KindFits, listed}
+use Rattle.lab_model.specs.Rules.{KindFits, RuleKind, listed}
 use Rattle.player_core.specs.declared.session.Session.{Session}
 use Rattle.player_core.specs.State.{Case}
+use Rattle.player_core.specs.Scene.{IsTask, Task, case_in}
 use Rattle.player_core.specs.Session.{session_of, shown}
-use Rattle.player_core.specs.Sound.{IsCase}
 use Rattle.player_core.specs.Value.{list_case}
 
 -- the rungs of played segments
@@ -22,7 +22,7 @@ pub record PlaysItsList (c : Case) : Type 0 where
 
 -- the law: so it is without abandonment and seeks, whatever the rule
 abbrev pub RulesAreLists : Type 0
-RulesAreLists = (c : Case) → IsCase c → c.setup.abandon ≡ false → c.seeks ≡ [] → PlaysItsList c
+RulesAreLists = (g : Task) (kind : RuleKind) → IsTask g → KindFits kind g.film → g.setup.abandon ≡ false → PlaysItsList (case_in g [] kind)
 
 -- the same of a session in hand: its rungs are a rung list of the film, and it is the session of that list
 pub record IsListed (f : Film) (periods : List Period) (set : Setup) (ahead : ℕ) (s : Session) : Type 0 where

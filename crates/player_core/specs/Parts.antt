@@ -11,7 +11,7 @@ use Rattle.lab_model.specs.Film.{Film, segments_of, size_of}
 use Rattle.lab_model.specs.Rates.{rate_of}
 use Rattle.lab_model.specs.Choice.{choice}
 use Rattle.network_clock.specs.Network.{pass, spends, start_job}
-use Rattle.abandonment.specs.declared.Progress.{Progress}
+use Rattle.abandonment.specs.Progress.{Received}
 use Rattle.abandonment.specs.Test.{abandonment}
 use Rattle.player_core.specs.declared.session.Event.{Event}
 use Rattle.player_core.specs.declared.session.Event.TheVariants as event
@@ -31,7 +31,7 @@ abbrev pub sample_of : Film → ℕ → Download → ℕ
 sample_of f t d = rate_of (got_of f d) (bit_ms_of t d)
 
 -- how far a download has come at an instant
-abbrev pub progress_of : Film → ℕ → Download → Progress
+abbrev pub progress_of : Film → ℕ → Download → Received
 progress_of f t d = record { elapsed_ms = t - d.asked; bit_ms = bit_ms_of t d; got = got_of f d }
 
 -- an event joins the log
@@ -39,11 +39,11 @@ abbrev pub logs : Player → Event → List Event
 logs p e = p.events ++ e ∷ []
 
 -- a segment that arrives starts play, and lets it go on after a seek
-abbrev pub begun : Mode → Mode
-begun starting = playing
-begun seeking = playing
-begun playing = playing
-begun ended = ended
+abbrev pub mode_after_arrival : Mode → Mode
+mode_after_arrival starting = playing
+mode_after_arrival seeking = playing
+mode_after_arrival playing = playing
+mode_after_arrival ended = ended
 
 -- whether the player plays
 abbrev pub is_playing : Mode → Bool
@@ -66,7 +66,7 @@ loads c p d = record p {
   k = p.k + 1;
   download = None;
   last = Some d.rung;
-  mode = begun p.mode;
+  mode = mode_after_arrival p.mode;
   loaded = p.loaded ++ (record { segment = d.segment; rung = d.rung }) ∷ [];
   history = p.history ++ sample_of c.film p.t d ∷ [];
   events = logs p (event.Arrive p.t d.segment d.rung (unwrap_or d.first 0) (sample_of c.film p.t d));

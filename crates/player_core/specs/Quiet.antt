@@ -1,10 +1,9 @@
 -- Not part of the model: what the proofs keep.
 -- Quiet stretches: milliseconds in which nothing begins and nothing happens, and what so many of them make of the player at once.
-use Rattle.std.specs.Prelude.{◌≡◌, ℕ, ◌+◌, ◌-◌, ◌*◌, ◌%◌, ◌≤◌, ◌<◌, ◌==◌, ◌&&◌, ◌⊎◌, Bool, true, false, not, nat_le, nat_lt, Some, None, IfSome, option_map, if◌then◌else◌}
-use Rattle.lab_model.specs.Film.{Film, bitrate_of, segments_of, size_of}
+use Rattle.std.specs.Prelude.{◌≡◌, ℕ, ◌+◌, ◌-◌, ◌%◌, ◌≤◌, ◌<◌, ◌&&◌, ◌⊎◌, Bool, true, false, not, nat_lt, Some, None, IfSome, option_map, if◌then◌else◌}
+use Rattle.lab_model.specs.Film.{Film, segments_of, size_of}
 use Rattle.network_clock.specs.Network.{done_on, first_on, job_on, start_job}
-use Rattle.abandonment.specs.Test.{abandonment}
-use Rattle.player_core.specs.Limits.{judged_each, judged_from}
+use Rattle.abandonment.specs.Test.{abandonment, is_due_ms}
 use Rattle.player_core.specs.Available.{available_at}
 use Rattle.player_core.specs.State.{Case, Download, Mode, Player, starting, playing, seeking, ended}
 use Rattle.player_core.specs.Parts.{is_playing, progress_of, seek_at}
@@ -23,10 +22,6 @@ is_seeking seeking = true
 is_seeking playing = false
 is_seeking starting = false
 is_seeking ended = false
-
--- so many milliseconds after its request a download may be looked at for abandonment
-abbrev pub is_due_ms : ℕ → Bool
-is_due_ms elapsed = elapsed % judged_each == 0 && nat_le judged_from elapsed
 
 -- a download takes so many network milliseconds at once
 abbrev pub taken_ms : Case → ℕ → ℕ → Download → Download
@@ -68,10 +63,6 @@ pub record IsQuiet (c : Case) (q : Player) (ms : ℕ) : Type 0 where
   pub arrives : IfSome q.download (λ d. q.t + ms ≤ done_on c.network d.asked (asked_size c d))
   pub judges : c.setup.abandon ≡ true → IfSome q.download (λ d. (d.rung ≡ 0) ⊎ ((m : ℕ) → q.t < m → m < q.t + ms → is_due_ms (m - d.asked) ≡ false))
   pub seeks : (m : ℕ) → q.t < m → m < q.t + ms → seek_at c.seeks m ≡ None
-
--- a rate is enough for a rung: nine tenths of it are its bitrate or more
-abbrev pub IsEnough : Film → ℕ → ℕ → Type 0
-IsEnough f rung rate = 10000 * bitrate_of f rung ≤ 9 * rate
 
 -- where so many bits of a segment on a rung have come, no rung from another on below its own is smaller than what is still to come
 abbrev pub IsHeldFrom : Film → ℕ → ℕ → ℕ → ℕ → Type 0

@@ -1,29 +1,32 @@
 -- Not part of the model: what the proofs keep.
 -- What the parts of a player millisecond need of the player.
-use Rattle.std.specs.Prelude.{ℕ, ◌+◌, ◌-◌, ◌*◌, ◌≤◌, ◌<◌, IfSome}
-use Rattle.lab_model.specs.Film.{Film, rungs_of, segments_of}
+use Rattle.std.specs.Prelude.{◌≡◌, ℕ, ◌+◌, ◌-◌, ◌≤◌, ◌<◌, None, IfSome}
+use Rattle.lab_model.specs.Limits.{longest_film}
+use Rattle.lab_model.specs.Film.{Film, rungs_of, segments_of, most_segments}
 use Rattle.lab_model.specs.Rules.{KindFits}
-use Rattle.player_core.specs.Limits.{latest_ms, longest_elapsed, longest_film, most_bits_in_ms, most_segments, most_stalls}
+use Rattle.abandonment.specs.Progress.{IsProgress, Received}
+use Rattle.abandonment.specs.Test.{abandonment}
+use Rattle.player_core.specs.Limits.{latest_ms, most_stalls}
 use Rattle.player_core.specs.State.{Case, Download, Player}
-use Rattle.player_core.specs.Parts.{bit_ms_of, got_of}
-
--- a download that has arrived can be loaded
-pub record CanLoad (f : Film) (p : Player) (d : Download) : Type 0 where
-  pub segment : d.segment < segments_of f
-  pub rung : d.rung < rungs_of f
-  pub waited : 1 ≤ bit_ms_of p.t d
-  pub pace : got_of f d ≤ most_bits_in_ms * bit_ms_of p.t d
-  pub end : p.y ≤ longest_film
-  pub next : p.k < most_segments
+use Rattle.player_core.specs.Parts.{bit_ms_of, got_of, progress_of}
 
 -- a running download can be judged for abandonment at an instant
 pub record CanJudge (f : Film) (t : ℕ) (d : Download) : Type 0 where
   pub segment : d.segment < segments_of f
   pub rung : d.rung < rungs_of f
   pub asked : d.asked ≤ t
-  pub elapsed : t - d.asked ≤ longest_elapsed
-  pub bits : bit_ms_of t d ≤ t - d.asked
-  pub pace : got_of f d ≤ most_bits_in_ms * bit_ms_of t d
+  pub progress : IsProgress (progress_of f t d)
+
+-- so many milliseconds after an instant no test gives a download up, whatever bits come
+abbrev pub KeepsFor : Film → ℕ → Download → ℕ → Type 0
+KeepsFor f t d ms = (p : Received) → got_of f d ≤ p.got → p.bit_ms ≤ bit_ms_of t d + ms → p.elapsed_ms ≤ t - d.asked + ms → 1 ≤ ms → abandonment f d.segment d.rung p ≡ None
+
+-- a download that has arrived can be loaded
+pub record CanLoad (f : Film) (p : Player) (d : Download) : Type 0 where
+  pub judge : CanJudge f p.t d
+  pub waited : 1 ≤ bit_ms_of p.t d
+  pub end : p.y ≤ longest_film
+  pub next : p.k < most_segments
 
 -- a rule can be asked for a rung of the next segment
 pub record CanChoose (c : Case) (p : Player) : Type 0 where

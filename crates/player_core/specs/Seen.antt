@@ -1,24 +1,27 @@
 -- Not part of the model: what the proofs keep.
 -- What the values of the player's code stand for.
 use Rattle.std.specs.Prelude.{◌≡◌, ℕ, ◌+◌, ◌-◌, ◌<◌, ◌≤◌, ◌⊎◌, List, [], true, false, Option, None, IfSome, option_map}
+use Rattle.network_clock.specs.Limits.{latest_answer, most_left}
+use Rattle.lab_model.specs.Limits.{longest_film}
 use Rattle.lab_model.specs.declared.trace.Period.{Period}
 use Rattle.lab_model.specs.declared.setup.Setup.{Setup}
 use Rattle.lab_model.specs.Rules.{RuleKind}
-use Rattle.lab_model.specs.Film.{Film, rungs_of, segments_of, size_of}
+use Rattle.lab_model.specs.Film.{Film, segments_of, size_of}
 use Rattle.network_clock.specs.Network.{done_on, first_on, period_at}
 use Rattle.player_core.specs.declared.course.Course.{Course}
 use Rattle.player_core.specs.declared.running.Running.{Running}
 use Rattle.player_core.specs.declared.body.Body.{Body}
 use Rattle.player_core.specs.declared.mode.Mode.{Mode as BodyMode}
 use Rattle.player_core.specs.declared.mode.Mode.TheVariants as mode
-use Rattle.player_core.specs.Limits.{latest_answer, latest_ms, longest_elapsed, longest_film, most_left, whole_credit}
+use Rattle.abandonment.specs.Progress.{longest_elapsed}
+use Rattle.player_core.specs.Limits.{latest_ms, whole_credit}
 use Rattle.player_core.specs.Course.{case_on}
 use Rattle.player_core.specs.State.{Case, Download, Mode, Player, starting, playing, seeking, ended}
 use Rattle.player_core.specs.Available.{available_at}
-use Rattle.player_core.specs.Parts.{bit_ms_of, gone_on, instant, is_ended, is_playing}
+use Rattle.player_core.specs.Parts.{gone_on, instant, is_ended, is_playing}
 use Rattle.player_core.specs.Session.{ends_at, player_after}
 use Rattle.player_core.specs.Sound.{IsCase}
-use Rattle.player_core.specs.Ready.{CanLoad}
+use Rattle.player_core.specs.Ready.{CanJudge, CanLoad}
 
 -- the download that a running one stands for
 abbrev pub download_of : Running → Download
@@ -79,10 +82,6 @@ SameDownload old new = (new.t ≡ old.t) × (new.download ≡ old.download)
 abbrev pub KnowsEnd : Course → Body → Type 0
 KnowsEnd o b = IsTimed o.scene.now.film (period_at o.scene.now.periods) b.download
 
--- a running download is of a segment of the film and a rung of its ladder
-abbrev pub IsRunningOf : Film → Running → Type 0
-IsRunningOf f r = (r.segment < segments_of f) × (r.rung < rungs_of f)
-
 -- a download of which nothing is left can be loaded
 abbrev pub CanArrive : Film → Body → Type 0
 CanArrive f b = IfSome b.download (λ r. r.job.left ≡ 0 → CanLoad f (seen b []) (download_of r))
@@ -97,8 +96,8 @@ abbrev pub FollowsOn : Course → (Case → Player → Player) → Body → Body
 FollowsOn o part old new = (kind : RuleKind) → Follows (part (case_on o kind)) old new
 
 -- the same of a part after which a running download still knows its instants
-abbrev pub Steps : Course → (Case → Player → Player) → Body → Body → Type 0
-Steps o part old new = (kind : RuleKind) → Step (part (case_on o kind)) old new
+abbrev pub StepsOn : Course → (Case → Player → Player) → Body → Body → Type 0
+StepsOn o part old new = (kind : RuleKind) → Step (part (case_on o kind)) old new
 
 -- the second rule is the first after a part of an instant: of the same kind, and told what joined the history
 pub record Hears {R : Type 0} (kind : R → RuleKind) (stands_for : R → List ℕ → Type 0) (o : Course) (part : Case → Player → Player) (b : Body) (old new : R) : Type 0 where
@@ -161,9 +160,8 @@ pub record CanIdle (f : Film) (set : Setup) (ahead : ℕ) (b : Body) : Type 0 wh
 pub record CanRest (f : Film) (set : Setup) (ahead : ℕ) (b : Body) : Type 0 where
   pub idles : CanIdle f set ahead b
   pub instant : b.t < latest_ms
-  pub runs : IfSome b.download (λ r. (r.asked ≤ b.t) × (b.t < r.done) × (r.done ≤ r.asked + longest_elapsed))
-  pub range : IfSome b.download (IsRunningOf f)
-  pub waited : IfSome b.download (λ r. bit_ms_of b.t (download_of r) ≤ longest_elapsed)
+  pub judge : IfSome b.download (λ r. CanJudge f b.t (download_of r))
+  pub runs : IfSome b.download (λ r. (b.t < r.done) × (r.done ≤ r.asked + longest_elapsed))
 
 -- so many milliseconds of the mode can pass at once
 pub record CanMove (b : Body) (ms : ℕ) : Type 0 where

@@ -1,6 +1,8 @@
 -- Not part of the model: what the proofs keep.
 -- What stays true of the player of a session within the limits.
 use Rattle.std.specs.Prelude.{◌≡◌, ℕ, ◌+◌, ◌-◌, ◌*◌, ◌/◌, ◌≤◌, ◌<◌, ◌==◌, ◌&&◌, List, length, Bool, true, false, not, is_some, nat_le, nat_lt, Option, Some, None, IfSome, if◌then◌else◌}
+use Rattle.network_clock.specs.Limits.{most_bits}
+use Rattle.lab_model.specs.Limits.{longest_film, most_seeks}
 use Rattle.std.specs.List.{All, count_by}
 use Rattle.lab_model.specs.declared.context.Seek.{Seek}
 use Rattle.lab_model.specs.declared.context.Played.{Played}
@@ -10,7 +12,7 @@ use Rattle.lab_model.specs.Rules.{KindFits}
 use Rattle.lab_model.specs.Seeks.{SeeksFit}
 use Rattle.network_clock.specs.Network.{done_on, first_on, job_on, longest_ms, start_job}
 use Rattle.network_clock.specs.Flow.{IsFlowing}
-use Rattle.player_core.specs.Limits.{latest_ms, longest_film, most_bits}
+use Rattle.player_core.specs.Limits.{latest_ms}
 use Rattle.player_core.specs.State.{Case, Download, Mode, Player, first_player, starting, playing, seeking, ended}
 
 -- the size of the segment that a download asked for
@@ -18,7 +20,7 @@ abbrev pub asked_size : Case → Download → ℕ
 asked_size c d = size_of c.film d.segment d.rung
 
 -- a running download is at an instant what the network made of it, and not past its end
-pub record Runs (c : Case) (t : ℕ) (d : Download) : Type 0 where
+pub record DownloadRuns (c : Case) (t : ℕ) (d : Download) : Type 0 where
   pub segment : d.segment < segments_of c.film
   pub rung : d.rung < rungs_of c.film
   pub asked : d.asked ≤ t
@@ -71,7 +73,7 @@ pub record IsCase (c : Case) : Type 0 where
 
 -- how many turns a session has at most
 abbrev pub all_turns : Case → ℕ
-all_turns c = 16 * (34 * segments_of c.film + 2) + 32 * segments_of c.film
+all_turns c = most_seeks * (34 * segments_of c.film + 2) + 32 * segments_of c.film
 
 -- the segments of the film that begin before a position
 abbrev pub begun_before : Film → ℕ → ℕ
@@ -88,7 +90,7 @@ pub record Sound (c : Case) (from : ℕ) (p : Player) : Type 0 where
   pub next : p.k ≤ segments_of c.film
   pub idle : is_waiting p.mode ≡ true → p.x ≡ p.y
   pub more : is_waiting p.mode ≡ true → p.k < segments_of c.film
-  pub running : IfSome p.download (Runs c p.t)
+  pub running : IfSome p.download (DownloadRuns c p.t)
   pub of_next : IfSome p.download (λ d. d.segment ≡ p.k)
   pub free : is_some p.download ≡ true → p.forced ≡ None
   pub forced : IfSome p.forced (λ q. q < rungs_of c.film)
@@ -97,6 +99,6 @@ pub record Sound (c : Case) (from : ℕ) (p : Player) : Type 0 where
   pub room : length p.loaded ≤ p.k
   pub played : All (IsOf c.film) p.played
   pub times : p.startup_ms + p.stall_ms + p.seek_ms ≤ p.t
-  pub begun : length p.played + seeks_left c.seeks from * segments_of c.film ≤ 16 * segments_of c.film + begun_before c.film p.x
+  pub begun : length p.played + seeks_left c.seeks from * segments_of c.film ≤ most_seeks * segments_of c.film + begun_before c.film p.x
   pub wasted : p.wasted + most_bits * turns_left c from p ≤ most_bits * all_turns c
   pub stalls : p.stalls + turns_left c from p + spare_stall p ≤ all_turns c + 1

@@ -1,11 +1,11 @@
 -- The value of a rung list: the score of the session that plays it.
 use Rattle.std.specs.Prelude.{ℕ, List, [], ℤ, false}
+use Rattle.lab_model.specs.Limits.{all_ahead}
 use Rattle.lab_model.specs.declared.trace.Period.{Period}
 use Rattle.lab_model.specs.declared.setup.Setup.{Setup}
 use Rattle.lab_model.specs.Film.{Film}
 use Rattle.lab_model.specs.Rules.{listed}
 use Rattle.quality_score.specs.Score.{score_of}
-use Rattle.player_core.specs.Available.{all_ahead}
 use Rattle.player_core.specs.State.{Case, case_of}
 use Rattle.player_core.specs.Session.{session_of}
 

@@ -1,20 +1,23 @@
 //! The player's state, and what each part of a millisecond does to it.
 
 ghost use Rattle.std.specs.Prelude.{◌≡◌, ℕ, ◌+◌, ◌*◌, ◌<◌, ◌≤◌, List, [], IfOk, Option, option_map, ◌==◌, ◌-◌, None, true, if◌then◌else◌, length, ◌++◌, ◌∷◌, Some, IfSome};
+ghost use Rattle.network_clock.specs.Limits.{most_bits};
+ghost use Rattle.lab_model.specs.Limits.{longest_film};
 ghost use Rattle.std.specs.List.{All, sum_by};
-ghost use Rattle.lab_model.specs.Film.{rungs_of, segments_of, size_of};
+ghost use Rattle.lab_model.specs.Film.{rungs_of, segments_of, size_of, most_segments};
 ghost use Rattle.lab_model.specs.Rules.{RuleKind};
 ghost use Rattle.abandonment.specs.Test.{abandonment};
-ghost use Rattle.player_core.specs.Limits.{latest_ms, longest_film, most_bits, most_loaded, most_segments, most_sought, most_stalls, most_wasted};
+ghost use Rattle.player_core.specs.Limits.{latest_ms, most_loaded, most_sought, most_stalls, most_wasted};
 ghost use Rattle.player_core.specs.State.{Case, first_player};
 ghost use Rattle.player_core.specs.Course.{case_on};
-ghost use Rattle.player_core.specs.Parts.{abandon, arrival, asks, begins, begun, bit_ms_of, can_ask, context_of, finish, gives_up, gone_on, instant, loads, pass_in, pass_ms, passes_in, plays, request, rung_for, sample_of, seek, seek_at, stalls_on, stopped, takes_any_in, wasted_by};
+ghost use Rattle.player_core.specs.Parts.{abandon, arrival, asks, begins, bit_ms_of, can_ask, context_of, finish, gives_up, gone_on, instant, loads, pass_in, pass_ms, passes_in, plays, request, rung_for, sample_of, seek, seek_at, stalls_on, stopped, takes_any_in, wasted_by};
 ghost use Rattle.player_core.specs.Session.{player_after, shown, shown_by};
 ghost use Rattle.player_core.specs.Sound.{IsCase, IsOf, Sound};
 ghost use Rattle.player_core.specs.Ready.{CanChoose, CanJudge, CanLoad, CanPass, CanRequest};
-ghost use Rattle.player_core.specs.Seen.{CanArrive, Follows, FollowsOn, GoesOn, Hears, IsRunningOf, KnowsEnd, LeftAt, SameDownload, StandsAt, Step, Steps, download_of, seen};
+ghost use Rattle.player_core.specs.Seen.{CanArrive, Follows, FollowsOn, GoesOn, Hears, KnowsEnd, LeftAt, SameDownload, StandsAt, Step, StepsOn, download_of, seen};
 
 use crate::course::Course;
+use crate::judged::Judged;
 use crate::mode::Mode;
 use crate::player::available;
 use crate::running::Running;
@@ -112,7 +115,7 @@ impl Body {
     /// What an instant begins with: the arrival, and then the end.
     pub fn stop<T: Rule>(&mut self, course: &Course<'_>, rule: &mut T) -> Result<(), NoMemory>
         requires ready { CanArrive course.now.scene.now.film self.old }
-        ensures stops { IfOk result (λ _. Steps course.now stopped self.old self.new) }
+        ensures stops { IfOk result (λ _. StepsOn course.now stopped self.old self.new) }
         ensures told { IfOk result (λ _.
             Hears T.kind T.stands_for course.now stopped self.old rule.old rule.new) }
     {
@@ -141,7 +144,7 @@ impl Body {
     /// 1. Arrival: a download of which nothing is left.
     fn arrive<T: Rule>(&mut self, course: &Course<'_>, rule: &mut T) -> Result<(), NoMemory>
         requires ready { CanArrive course.now.scene.now.film self.old }
-        ensures arrives { IfOk result (λ _. Steps course.now arrival self.old self.new) }
+        ensures arrives { IfOk result (λ _. StepsOn course.now arrival self.old self.new) }
         ensures told { IfOk result (λ _.
             Hears T.kind T.stands_for course.now arrival self.old rule.old rule.new) }
     {
@@ -160,12 +163,17 @@ impl Body {
     ) -> Result<(), NoMemory>
         requires ready { CanLoad course.now.scene.now.film (seen self.old []) (download_of d.now) }
         ensures loads { IfOk result (λ _.
-            Steps course.now (λ c p. loads c p (download_of d.now)) self.old self.new) }
+            StepsOn course.now (λ c p. loads c p (download_of d.now)) self.old self.new) }
         ensures told { IfOk result (λ _.
             Hears T.kind T.stands_for course.now (λ c p. loads c p (download_of d.now))
             self.old rule.old rule.new) }
     {
-        let sample = d.sample(course.scene.film(), self.t);
+        let judged = Judged {
+            film: course.scene.film(),
+            running: *d,
+            t: self.t,
+        };
+        let sample = judged.sample();
         self.events.push(Event::Arrive {
             at: self.t,
             segment: d.segment,
@@ -182,13 +190,13 @@ impl Body {
         self.k += 1;
         self.download = None;
         self.last = Some(d.rung);
-        self.mode = self.mode.begun();
+        self.mode = self.mode.after_arrival();
         Ok(())
     }
 
     /// 2. End: all is played.
     fn finish(&mut self, course: &Course<'_>) -> Result<(), NoMemory>
-        ensures { IfOk result (λ _. Steps course.now finish self.old self.new) }
+        ensures { IfOk result (λ _. StepsOn course.now finish self.old self.new) }
     {
         let film = course.scene.film();
         let all_ms = film.segments() as u32 * film.seg_ms();
@@ -204,7 +212,7 @@ impl Body {
         requires judge { IfSome self.old.download (λ d.
             CanJudge course.now.scene.now.film self.old.t (download_of d)) }
         requires wasted { self.old.wasted ≤ most_wasted }
-        ensures abandons { IfOk result (λ _. Steps course.now abandon self.old self.new) }
+        ensures abandons { IfOk result (λ _. StepsOn course.now abandon self.old self.new) }
         ensures told { IfOk result (λ _.
             Hears T.kind T.stands_for course.now abandon self.old rule.old rule.new) }
     {
@@ -214,7 +222,12 @@ impl Body {
         let Some(d) = self.download else {
             return Ok(());
         };
-        match d.rung_instead(course.scene.film(), self.t) {
+        let judged = Judged {
+            film: course.scene.film(),
+            running: d,
+            t: self.t,
+        };
+        match judged.rung_instead() {
             Some(to) => self.give_up(course, &d, to, rule),
             None => Ok(()),
         }
@@ -232,14 +245,19 @@ impl Body {
         requires first { 1 ≤ bit_ms_of self.old.t (download_of d.now) }
         requires wasted { self.old.wasted ≤ most_wasted }
         ensures gives_up { IfOk result (λ _.
-            Steps course.now (λ c p. gives_up c p (download_of d.now) (Some to))
+            StepsOn course.now (λ c p. gives_up c p (download_of d.now) (Some to))
             self.old self.new) }
         ensures told { IfOk result (λ _.
             Hears T.kind T.stands_for course.now
             (λ c p. gives_up c p (download_of d.now) (Some to))
             self.old rule.old rule.new) }
     {
-        let got = d.got(course.scene.film());
+        let judged = Judged {
+            film: course.scene.film(),
+            running: *d,
+            t: self.t,
+        };
+        let got = judged.got();
         self.events.push(Event::Abandon {
             at: self.t,
             segment: d.segment,
@@ -247,7 +265,7 @@ impl Body {
             to,
             got,
         })?;
-        rule.observe(d.sample(course.scene.film(), self.t));
+        rule.observe(judged.sample());
         self.download = None;
         self.forced = Some(to);
         self.wasted += got as u64;
@@ -256,13 +274,14 @@ impl Body {
 
     /// 4. Seek.
     fn seek(&mut self, course: &Course<'_>) -> Result<(), NoMemory>
-        requires running { IfSome self.old.download (IsRunningOf course.now.scene.now.film) }
+        requires judge { IfSome self.old.download (λ d.
+            CanJudge course.now.scene.now.film self.old.t (download_of d)) }
         requires loaded { All (IsOf course.now.scene.now.film) self.old.loaded.items }
         requires room { length self.old.loaded.items ≤ most_segments }
         requires wasted { self.old.wasted ≤ most_wasted }
         requires targets { All (λ s. s.to < segments_of course.now.scene.now.film)
             course.now.seeks.now }
-        ensures { IfOk result (λ _. Steps course.now seek self.old self.new) }
+        ensures { IfOk result (λ _. StepsOn course.now seek self.old self.new) }
     {
         let Some(s) = seek_at(course.seeks, self.t) else {
             return Ok(());
@@ -287,14 +306,22 @@ impl Body {
 
     /// The bits that a seek wastes now: those of a running download, and the loaded segments that haven't begun.
     fn wasted_by(&self, m: &Manifest) -> u64
-        requires running { IfSome self.now.download (IsRunningOf m.now) }
+        requires judge { IfSome self.now.download (λ d.
+            CanJudge m.now self.now.t (download_of d)) }
         requires loaded { All (IsOf m.now) self.now.loaded.items }
         requires room { length self.now.loaded.items ≤ most_segments }
         ensures value { result ≡ wasted_by m.now (seen self.now []) }
         ensures limit { result ≤ most_sought }
     {
         let running = match self.download {
-            Some(d) => d.got(m) as u64,
+            Some(running) => {
+                let judged = Judged {
+                    film: m,
+                    running,
+                    t: self.t,
+                };
+                judged.got() as u64
+            }
             None => 0,
         };
         running + sizes_loaded(m, &self.loaded)
@@ -392,7 +419,7 @@ impl Body {
     /// The millisecond passes on the course's own network.
     pub fn pass(&mut self, course: &Course<'_>) -> Result<(), NoMemory>
         requires { CanPass (seen self.old []) }
-        ensures { IfOk result (λ _. Steps course.now pass_ms self.old self.new) }
+        ensures { IfOk result (λ _. StepsOn course.now pass_ms self.old self.new) }
     {
         self.pass_in(course, course.scene.clock().period_at(self.t))
     }
@@ -401,7 +428,7 @@ impl Body {
     pub fn pass_in(&mut self, course: &Course<'_>, period: Period) -> Result<(), NoMemory>
         requires { CanPass (seen self.old []) }
         ensures { IfOk result (λ _.
-            Steps course.now (λ c p. pass_in c period p) self.old self.new) }
+            StepsOn course.now (λ c p. pass_in c period p) self.old self.new) }
     {
         self.take_in(period);
         self.pass_in_mode(course)?;

@@ -3,6 +3,7 @@
 
 mod body;
 mod course;
+mod judged;
 mod laws;
 pub mod limits;
 mod mode;
@@ -15,7 +16,7 @@ mod scene;
 mod script;
 mod session;
 
-pub use laws::rules_are_lists;
+pub use laws::{rules_are_lists, sessions_end};
 pub use player::{available, play, play_from, seeks_fit};
 pub use rules::{Fixed, Listed};
 pub use scene::Scene;

@@ -1,7 +1,7 @@
 //! What a player does: wait, play, or nothing more.
 
 ghost use Rattle.std.specs.Prelude.{◌≡◌};
-ghost use Rattle.player_core.specs.Parts.{begun, is_ended, is_playing};
+ghost use Rattle.player_core.specs.Parts.{is_ended, is_playing, mode_after_arrival};
 ghost use Rattle.player_core.specs.Seen.{mode_of};
 
 /// Before the first segment, playing, after a seek, and at the end.
@@ -19,8 +19,8 @@ pub enum Mode {
 
 impl Mode {
     /// The mode once a segment has arrived.
-    pub fn begun(self) -> Mode
-        ensures { mode_of result ≡ begun (mode_of self) }
+    pub fn after_arrival(self) -> Mode
+        ensures { mode_of result ≡ mode_after_arrival (mode_of self) }
     {
         match self {
             Mode::Starting | Mode::Playing | Mode::Seeking => Mode::Playing,

@@ -1,12 +1,15 @@
 //! The player.
 
 ghost use Rattle.std.specs.Prelude.{◌≡◌, ℕ, ◌+◌, ◌*◌, ◌<◌, ◌≤◌, ◌↔◌, [], false, length, IfOk, IsTrue};
+ghost use Rattle.lab_model.specs.Limits.{all_ahead};
 ghost use Rattle.std.specs.List.{All};
 ghost use Rattle.lab_model.specs.Film.{rungs_of, segments_of};
 ghost use Rattle.lab_model.specs.Fit.{SetupFits};
 ghost use Rattle.lab_model.specs.Rules.{KindFits};
 ghost use Rattle.lab_model.specs.Seeks.{AreRising, SeeksFit};
-ghost use Rattle.player_core.specs.Available.{all_ahead, available_at};
+ghost use Rattle.player_core.specs.Available.{available_at};
+ghost use Rattle.player_core.specs.Limits.{latest_ms, most_played};
+ghost use Rattle.player_core.specs.Scene.{case_in};
 ghost use Rattle.player_core.specs.State.{case_of};
 ghost use Rattle.player_core.specs.Course.{case_on};
 ghost use Rattle.player_core.specs.Sound.{IsCase};
@@ -15,7 +18,7 @@ ghost use Rattle.player_core.specs.Lists.{IsListed};
 
 use crate::body::Body;
 use crate::course::Course;
-use crate::limits::{ALL_AHEAD_MS, LATEST_MS, LATEST_SEEK_MS, MOST_SEEKS};
+use crate::limits::{LATEST_MS, LATEST_SEEK_MS, MOST_SEEKS};
 use crate::scene::Scene;
 use crate::session::Session;
 use lab_model::{Manifest, NoMemory, Rule, Seek, Setup};
@@ -75,36 +78,30 @@ fn session_on<T: Rule + Drop>(
     unreachable!()
 }
 
-/// The session of a film of which `ahead` milliseconds of media are there at instant 0.
+/// The session of a scene with a seek script that fits its film, and a rule that does and was told nothing yet.
 pub fn play_from<T: Rule + Drop>(
     alloc: Global,
-    m: &Manifest,
-    clock: &Clock,
-    set: &Setup,
+    scene: &Scene<'_>,
     seeks: &[Seek],
-    ahead: u32,
     rule: T,
 ) -> Result<Session, NoMemory>
-    requires setup { SetupFits set.now m.now }
-    requires rule { KindFits (T.kind rule) m.now }
-    requires seeks { SeeksFit seeks.now (segments_of m.now) }
-    requires ahead { ahead ≤ 120000000 }
+    requires rule { KindFits (T.kind rule) scene.now.film }
+    requires seeks { SeeksFit seeks.now (segments_of scene.now.film) }
     requires told { T.stands_for rule [] }
     ensures session { IfOk result (λ s. shown s
-        ≡ session_of (case_of m.now clock.now set.now seeks.now ahead (T.kind rule))) }
+        ≡ session_of (case_in scene.now seeks.now (T.kind rule))) }
     ensures rungs { IfOk result (λ s. All
-        (λ p. (p.rung < rungs_of m.now) × (p.segment < segments_of m.now)) s.played.items) }
-    ensures count { IfOk result (λ s. length s.played.items ≤ 34000) }
-    ensures ends { IfOk result (λ s. s.end < 1000000000000000) }
+        (λ p. (p.rung < rungs_of scene.now.film) × (p.segment < segments_of scene.now.film))
+        s.played.items) }
+    ensures count { IfOk result (λ s. length s.played.items ≤ most_played) }
+    ensures ends { IfOk result (λ s. s.end < latest_ms) }
     ensures times { IfOk result (λ s. s.startup_ms + s.stall_ms + s.seek_ms ≤ s.end) }
-    ensures listed { set.now.abandon ≡ false → seeks.now ≡ []
-        → IfOk result (λ s. IsListed m.now clock.now set.now ahead s) }
+    ensures listed { scene.now.setup.abandon ≡ false → seeks.now ≡ []
+        → IfOk result (λ s. IsListed scene.now.film scene.now.periods scene.now.setup
+        scene.now.ahead s) }
 {
-    let scene = Scene::new(m, clock, set, ahead);
-    let course = Course {
-        scene: &scene,
-        seeks,
-    };
+    prove!(scene.film().segments() > 0);
+    let course = Course { scene, seeks };
     session_on(alloc, &course, rule)
 }
 
@@ -125,11 +122,12 @@ pub fn play<T: Rule + Drop>(
         ≡ session_of (case_of m.now clock.now set.now seeks.now all_ahead (T.kind rule))) }
     ensures rungs { IfOk result (λ s. All
         (λ p. (p.rung < rungs_of m.now) × (p.segment < segments_of m.now)) s.played.items) }
-    ensures count { IfOk result (λ s. length s.played.items ≤ 34000) }
-    ensures ends { IfOk result (λ s. s.end < 1000000000000000) }
+    ensures count { IfOk result (λ s. length s.played.items ≤ most_played) }
+    ensures ends { IfOk result (λ s. s.end < latest_ms) }
     ensures times { IfOk result (λ s. s.startup_ms + s.stall_ms + s.seek_ms ≤ s.end) }
     ensures listed { set.now.abandon ≡ false → seeks.now ≡ []
         → IfOk result (λ s. IsListed m.now clock.now set.now all_ahead s) }
 {
-    play_from(alloc, m, clock, set, seeks, ALL_AHEAD_MS, rule)
+    let scene = Scene::on_demand(m, clock, set);
+    play_from(alloc, &scene, seeks, rule)
 }

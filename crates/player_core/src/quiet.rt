@@ -1,14 +1,15 @@
 //! Stretches of milliseconds in which nothing happens: how long they are, and how they pass at once.
 
 ghost use Rattle.std.specs.Prelude.{◌≡◌, ℕ, ◌+◌, ◌-◌, ◌%◌, ◌<◌, ◌≤◌, ◌⊎◌, List, true, IfOk, IfSome};
+ghost use Rattle.lab_model.specs.Limits.{longest_film};
 ghost use Rattle.lab_model.specs.Film.{Film, segments_of};
 ghost use Rattle.lab_model.specs.Rules.{RuleKind};
-ghost use Rattle.player_core.specs.Limits.{latest_ms, longest_film};
+ghost use Rattle.player_core.specs.Limits.{latest_ms};
 ghost use Rattle.player_core.specs.Available.{available_at};
 ghost use Rattle.player_core.specs.Parts.{is_playing};
 ghost use Rattle.player_core.specs.Quiet.{IsUneventful, IsUntouched, glides, moves_in, takes_all};
 ghost use Rattle.player_core.specs.Seen.{CanGlide, CanIdle, CanMove, CanRest, CanWait, Follows, FollowsOn, IsTimed, KnowsEnd, MustWait, MustWaitFor, SameDownload, WaitsOn, mode_of, seen};
-ghost use Rattle.player_core.specs.Sound.{IsCase, Runs};
+ghost use Rattle.player_core.specs.Sound.{IsCase, DownloadRuns};
 ghost use Rattle.player_core.specs.State.{Case};
 ghost use Rattle.player_core.specs.Course.{case_on};
 
@@ -26,11 +27,12 @@ impl Body {
         requires position { self.now.x ≤ self.now.y }
         requires end { self.now.y ≤ longest_film }
         requires waits { self.now.k < segments_of course.now.scene.now.film
-            → MustWait course.now.scene.now.film course.now.scene.now.setup course.now.scene.now.ahead self.now }
+            → MustWait course.now.scene.now.film course.now.scene.now.setup
+            course.now.scene.now.ahead self.now }
         ensures some { 1 ≤ result }
         ensures asks { self.now.k < segments_of course.now.scene.now.film
-            → MustWaitFor course.now.scene.now.film course.now.scene.now.setup course.now.scene.now.ahead
-            self.now result }
+            → MustWaitFor course.now.scene.now.film course.now.scene.now.setup
+            course.now.scene.now.ahead self.now result }
     {
         if self.k >= course.scene.film().segments() {
             return LATEST_MS;
@@ -60,7 +62,8 @@ impl Body {
     /// The milliseconds, at least 1, for which a player has no cause to ask for a segment after an instant, and after the first of which
     /// no segment begins and no stall.
     pub fn untouched_ms(&self, course: &Course<'_>) -> u64
-        requires { CanIdle course.now.scene.now.film course.now.scene.now.setup course.now.scene.now.ahead self.now }
+        requires { CanIdle course.now.scene.now.film course.now.scene.now.setup
+            course.now.scene.now.ahead self.now }
         ensures some { 1 ≤ result }
         ensures limit { result ≤ latest_ms }
         ensures untouched { (kind : RuleKind) (history : List ℕ)
@@ -76,12 +79,14 @@ impl Body {
     /// The milliseconds, at least 1, for which nothing happens after an instant: no arrival, abandonment, seek or request, and
     /// no beginning of a segment or of a stall after the first of them.
     fn quiet_ms(&self, course: &Course<'_>) -> u64
-        requires { CanRest course.now.scene.now.film course.now.scene.now.setup course.now.scene.now.ahead self.now }
+        requires { CanRest course.now.scene.now.film course.now.scene.now.setup
+            course.now.scene.now.ahead self.now }
         ensures some { 1 ≤ result }
         ensures limit { result ≤ latest_ms }
         ensures quiet { KnowsEnd course.now self.now → (kind : RuleKind) (history : List ℕ)
             → IsCase (case_on course.now kind)
-            → IfSome (seen self.now history).download (Runs (case_on course.now kind) self.now.t)
+            → IfSome (seen self.now history).download
+            (DownloadRuns (case_on course.now kind) self.now.t)
             → IsUneventful (case_on course.now kind) (seen self.now history) result }
     {
         let own = self.untouched_ms(course).min(seek_in(course.seeks, self.t));

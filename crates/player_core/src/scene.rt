@@ -1,14 +1,14 @@
 //! What players, plans and checks are given.
 
 ghost use Rattle.std.specs.Prelude.{◌≡◌, ◌≤◌, ◌<◌};
+ghost use Rattle.lab_model.specs.Limits.{all_ahead};
 ghost use Rattle.lab_model.specs.Film.{segments_of};
 ghost use Rattle.lab_model.specs.Fit.{SetupFits};
-ghost use Rattle.player_core.specs.Available.{all_ahead, available_at};
+ghost use Rattle.player_core.specs.Available.{available_at};
 ghost use Rattle.player_core.specs.Scene.{IsTask, task_of};
 
-use crate::limits::ALL_AHEAD_MS;
 use crate::player::available;
-use lab_model::{Manifest, Setup};
+use lab_model::{ALL_AHEAD_MS, Ahead, Manifest, Setup};
 use network_clock::Clock;
 use std::marker::Model;
 
@@ -18,8 +18,7 @@ pub struct Scene<'a> {
     film: &'a Manifest,
     clock: &'a Clock,
     setup: &'a Setup,
-    /// Milliseconds, at most `ALL_AHEAD_MS`.
-    ahead: u32,
+    ahead: Ahead,
 }
 
 impl<'a> Model for Scene<'a> {
@@ -33,14 +32,14 @@ impl<'a> Model for Scene<'a> {
 }
 
 impl<'a> Scene<'a> {
-    /// The scene of these: the setup fits the film, and the media ahead are at most 120000000 ms.
-    pub fn new(film: &'a Manifest, clock: &'a Clock, setup: &'a Setup, ahead: u32) -> Scene<'a>
+    /// The scene of these: the setup fits the film.
+    pub fn new(film: &'a Manifest, clock: &'a Clock, setup: &'a Setup, ahead: Ahead) -> Scene<'a>
         requires setup { SetupFits setup.now film.now }
-        requires ahead { ahead ≤ 120000000 }
         ensures value { result ≡ task_of film.entry.now clock.entry.now setup.entry.now ahead }
         ensures task { IsTask result }
     {
         prove!(film.segments() > 0 && setup.weights.count() > 0 && !clock.periods().is_empty());
+        prove!(ahead.ms() <= ALL_AHEAD_MS);
         Scene {
             film,
             clock,
@@ -52,10 +51,11 @@ impl<'a> Scene<'a> {
     /// The scene of a film on demand, all of which is there at instant 0. The setup fits the film.
     pub fn on_demand(film: &'a Manifest, clock: &'a Clock, setup: &'a Setup) -> Scene<'a>
         requires setup { SetupFits setup.now film.now }
-        ensures value { result ≡ task_of film.entry.now clock.entry.now setup.entry.now all_ahead }
+        ensures value { result
+            ≡ task_of film.entry.now clock.entry.now setup.entry.now all_ahead }
         ensures task { IsTask result }
     {
-        Scene::new(film, clock, setup, ALL_AHEAD_MS)
+        Scene::new(film, clock, setup, Ahead::all())
     }
 
     /// The film.
@@ -82,8 +82,8 @@ impl<'a> Scene<'a> {
         self.setup
     }
 
-    /// The milliseconds of media that are there at instant 0, at most 120000000.
-    pub fn ahead(&self) -> u32
+    /// The media that are there at instant 0.
+    pub fn ahead(&self) -> Ahead
         ensures value { result ≡ self.now.ahead }
         ensures task { IsTask self.now }
     {
@@ -95,6 +95,6 @@ impl<'a> Scene<'a> {
         requires { seg < segments_of self.now.film }
         ensures { result ≡ available_at self.now.film self.now.ahead seg }
     {
-        available(self.film, self.ahead, seg)
+        available(self.film, self.ahead.ms(), seg)
     }
 }

@@ -16,7 +16,6 @@ use crate::counts::{rungs, segments};
 use crate::verdict::PriceVerdict;
 use crate::window::{MOST_PRICE, MOST_WINDOWS, Window};
 use lab_model::NoMemory;
-use labels::{end_value, next_on, start_on};
 use player_core::Scene;
 use std::alloc::Global;
 
@@ -27,13 +26,7 @@ pub fn value_of_list(scene: &Scene<'_>, rungs: &[u8]) -> i128
     // It can be spelled in a certificate.
     ensures short { HasSignedDigits score_digits result }
 {
-    let count = segments(scene);
-    let mut label = start_on(scene, rungs[0]);
-    for segment in 1..count {
-        let old_rung = rungs[segment as usize - 1];
-        label = next_on(scene, segment, old_rung, label, rungs[segment as usize]);
-    }
-    end_value(scene.setup(), label)
+    labels::value_of_list(scene, rungs)
 }
 
 /// The first segment whose rung isn't below the count.

@@ -3,7 +3,7 @@
 
 ghost use Rattle.std.specs.Prelude.{◌<◌};
 
-use lab_model::{Manifest, Period, Setup, Trace, Weights};
+use lab_model::{Ahead, Manifest, Period, Setup, Trace, Weights};
 use near_best::near_best;
 use network_clock::Clock;
 use player_core::Scene;
@@ -101,7 +101,8 @@ fn score_and_bound(
     setup: &Setup,
     ahead: u32,
 ) -> Result<(i128, i128), Fail> {
-    assert!(rt; setup.fits(film) && ahead <= 120_000_000);
+    assert!(rt; setup.fits(film));
+    let ahead = Ahead::new(ahead).ok_or("too much ahead")?;
     let found = near_best(alloc, &Scene::new(film, clock, setup, ahead))?;
     Ok((found.score, found.bound))
 }

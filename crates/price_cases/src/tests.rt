@@ -2,7 +2,7 @@
 
 ghost use Rattle.std.specs.Prelude.{◌<◌, ◌≤◌};
 
-use lab_model::{Manifest, Period, Setup, Trace, Weights};
+use lab_model::{Ahead, Manifest, Period, Setup, Trace, Weights};
 use network_clock::Clock;
 use player_core::Scene;
 use price_bounds::{
@@ -124,15 +124,12 @@ fn windows(alloc: Global, k: u32) -> Result<Vec<Window>, Fail> {
     Ok(windows)
 }
 
-/// The scene of a number: on demand, or live with little media ahead.
-fn ahead(k: u32) -> u32
-    ensures { result ≤ 120000000 }
-{
+/// The media ahead of a number: all, or little of a live film.
+fn ahead(k: u32) -> Result<Ahead, Fail> {
     if k % 4 < 2 {
-        120_000_000
-    } else {
-        300 * (k % 9)
+        return Ok(Ahead::all());
     }
+    Ok(Ahead::new(300 * (k % 9)).ok_or("too much ahead")?)
 }
 
 #[test]
@@ -141,7 +138,7 @@ fn small_films(rt: HostRuntime) -> Result<(), Fail> {
     for k in 0..30u32 {
         let (m, clock, set) = (film(alloc, k)?, clock(alloc, k)?, setup(alloc, k)?);
         assert!(rt; set.fits(&m));
-        let scene = Scene::new(&m, &clock, &set, ahead(k));
+        let scene = Scene::new(&m, &clock, &set, ahead(k)?);
         let windows = windows(alloc, k)?;
         assert!(rt; are_in_order(&windows, m.segments()));
         let bound = bound_of_windows(alloc, &scene, &windows)?;
@@ -190,7 +187,7 @@ fn all_lists(rt: HostRuntime) -> Result<(), Fail> {
     for k in 0..30u32 {
         let (m, clock, set) = (film(alloc, k)?, clock(alloc, k)?, setup(alloc, k)?);
         assert!(rt; set.fits(&m));
-        let scene = Scene::new(&m, &clock, &set, ahead(k));
+        let scene = Scene::new(&m, &clock, &set, ahead(k)?);
         let mut best = i128::MIN;
         for number in 0..LISTS[(k % 4) as usize] {
             let plan = list(alloc, number, m.rungs(), m.segments())?;
@@ -311,7 +308,8 @@ fn verdict(
 ) -> Result<PriceVerdict, Fail> {
     let (m, clock, set) = (film(alloc, 7)?, clock(alloc, 7)?, setup(alloc, 7)?);
     assert!(rt; set.fits(&m));
-    let scene = Scene::new(&m, &clock, &set, 2100);
+    let ahead = Ahead::new(2100).ok_or("too much ahead")?;
+    let scene = Scene::new(&m, &clock, &set, ahead);
     assert!(rt; certificate.plan.len() == certificate.segments as usize);
     assert!(rt; certificate.windows.len() <= 4000);
     Ok(check_prices(alloc, &scene, certificate)?)

@@ -1,5 +1,5 @@
 -- A session's score is within 10 ^ 24 of 0.
-use Rattle.std.proofs.Common.{◌≡◌, ℕ, ◌+◌, ◌*◌, ◌^◌, ◌<◌, ◌≤◌, List, [], ◌∷◌, length, Option, None, Some, pos, ◌-ℤ◌, arith}
+use Rattle.std.proofs.Common.{ℕ, ◌+◌, ◌*◌, ◌^◌, ◌<◌, ◌≤◌, List, [], ◌∷◌, length, Option, None, Some, pos, ◌-ℤ◌, arith}
 use Rattle.std.proofs.Math.Nat.{mul-le-mul}
 use Rattle.std.proofs.lemmas.Int.{ints}
 use Rattle.std.proofs.lemmas.List.Elements.{All-head, All-tail}
@@ -8,7 +8,7 @@ use Rattle.std.specs.Option.{IfSome}
 use Rattle.lab_model.specs.declared.context.Played.{Played}
 use Rattle.lab_model.specs.Number.{IsNear}
 use Rattle.lab_model.specs.Sums.{changes_of, utilities_of}
-use Rattle.lab_model.specs.Weighing.{HasUtility, IsWeighing, Weighing, change_of, utility_of}
+use Rattle.lab_model.specs.Weighing.{HasUtility, IsWeighing, Weighing, change_of}
 use Rattle.lab_model.proofs.Rows.{utility_limit}
 use Rattle.quality_score.specs.Score.{CanScore, score_of}
 

@@ -1,5 +1,5 @@
 -- What one more played segment makes of a tally.
-use Rattle.std.proofs.Common.{◌≡◌, ◌∙◌, ℕ, ◌+◌, List, [], ◌∷◌, ◌++◌, Option, Some, None, refl, sym, ap, arith, length-append}
+use Rattle.std.proofs.Common.{◌≡◌, ◌∙◌, ℕ, ◌+◌, List, [], ◌∷◌, ◌++◌, Option, Some, None, sym, ap, arith, length-append}
 use Rattle.lab_model.specs.declared.context.Played.{Played}
 use Rattle.lab_model.specs.Weighing.{Weighing, change_of, utility_of}
 use Rattle.lab_model.specs.Sums.{changes_of}

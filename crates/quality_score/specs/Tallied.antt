@@ -3,6 +3,7 @@
 use Rattle.std.specs.Prelude.{◌≡◌, ℕ, ◌*◌, ◌≤◌, List, length, Option, None}
 use Rattle.lab_model.specs.declared.context.Played.{Played}
 use Rattle.lab_model.specs.Weighing.{Weighing}
+use Rattle.quality_score.specs.Score.{most_scored}
 use Rattle.lab_model.specs.Sums.{changes_of, last_rung, utilities_of}
 
 -- two sums, the last rung and the number of segments
@@ -23,4 +24,4 @@ pub record IsTallyOf (w : Weighing) (ps : List Played) (t : Tallied) : Type 0 wh
 pub record IsSmall (t : Tallied) : Type 0 where
   pub utilities : t.utilities ≤ 1000000 * t.count
   pub changes : t.changes ≤ 1000000 * t.count
-  pub count : t.count ≤ 40000
+  pub count : t.count ≤ most_scored

@@ -5,7 +5,7 @@ ghost use Rattle.std.specs.Prelude.{◌≡◌, ℕ, ◌+◌, ◌-◌, ◌*◌, �
 ghost use Rattle.std.specs.List.{All};
 ghost use Rattle.lab_model.specs.declared.context.Played.{Played};
 ghost use Rattle.lab_model.specs.Weighing.{HasUtility, IsWeighing, Weighing, change_of, utility_of};
-ghost use Rattle.quality_score.specs.Score.{CanScore, score_of};
+ghost use Rattle.quality_score.specs.Score.{CanScore, most_ms, most_scored, score_of};
 ghost use Rattle.quality_score.specs.Tallied.{IsSmall, IsTallyOf};
 
 use lab_model::{Played, Weights};
@@ -35,19 +35,6 @@ impl Model for Tally {
         (record { utilities = t.utilities; changes = t.changes; last = t.last; count = t.count }) };
 }
 
-fn penalty(w: &Weights, changes: u64, stall_ms: u64, startup_ms: u64) -> u128
-    requires changes { changes ≤ 40000000000 }
-    requires stall { stall_ms ≤ 1000000000000000 }
-    requires startup { startup_ms ≤ 1000000000000000 }
-    ensures value { result ≡
-        w.now.switch * changes + w.now.stall * stall_ms + w.now.startup * startup_ms }
-    ensures limit { result ≤ 3000000000000000000000 }
-{
-    w.switch() as u128 * changes as u128
-        + w.stall() as u128 * stall_ms as u128
-        + w.startup() as u128 * startup_ms as u128
-}
-
 impl Tally {
     /// A tally of no segment.
     pub fn start() -> Tally
@@ -68,7 +55,7 @@ impl Tally {
     pub fn push(&mut self, p: Played, w: &Weights)
         requires utility { HasUtility w.now p.segment p.rung }
         requires before { IfSome self.old.last (λ q. q < w.now.count) }
-        requires count { self.old.count < 40000 }
+        requires count { self.old.count < most_scored }
         ensures stands { (ps : List Played) → IsTallyOf w.now ps self.old
             → IsTallyOf w.now (ps ++ p ∷ []) self.new }
         ensures last { self.new.last ≡ Some p.rung }
@@ -80,14 +67,27 @@ impl Tally {
         self.count += 1;
     }
 
+    /// What is taken for the changes, the stall and the startup, in thousandths of a point.
+    fn penalty(&self, stall_ms: u64, startup_ms: u64, w: &Weights) -> u128
+        requires stall { stall_ms ≤ most_ms }
+        requires startup { startup_ms ≤ most_ms }
+        ensures value { result ≡ w.now.switch * self.now.changes + w.now.stall * stall_ms
+            + w.now.startup * startup_ms }
+        ensures limit { result ≤ 3000000000000000000000 }
+    {
+        w.switch() as u128 * self.changes as u128
+            + w.stall() as u128 * stall_ms as u128
+            + w.startup() as u128 * startup_ms as u128
+    }
+
     /// The score of the segments that the tally was told, in thousandths of a point. Both times are in milliseconds, at most 10^15.
     pub fn total(&self, stall_ms: u64, startup_ms: u64, w: &Weights) -> i128
-        requires stall { stall_ms ≤ 1000000000000000 }
-        requires startup { startup_ms ≤ 1000000000000000 }
+        requires stall { stall_ms ≤ most_ms }
+        requires startup { startup_ms ≤ most_ms }
         ensures { (ps : List Played) → IsTallyOf w.now ps self.now
             → result ≡ score_of w.now ps stall_ms startup_ms }
     {
-        1000 * self.utilities as i128 - penalty(w, self.changes, stall_ms, startup_ms) as i128
+        1000 * self.utilities as i128 - self.penalty(stall_ms, startup_ms, w) as i128
     }
 }
 
@@ -96,8 +96,8 @@ impl Tally {
 /// and both times are in milliseconds, at most 10^15.
 pub fn score(played: &[Played], stall_ms: u64, startup_ms: u64, w: &Weights) -> i128
     requires played { CanScore w.now played.now }
-    requires stall { stall_ms ≤ 1000000000000000 }
-    requires startup { startup_ms ≤ 1000000000000000 }
+    requires stall { stall_ms ≤ most_ms }
+    requires startup { startup_ms ≤ most_ms }
     ensures { result ≡ score_of w.now played.now stall_ms startup_ms }
 {
     let mut tally = Tally::start();

@@ -7,10 +7,10 @@ use Rattle.serde_json.specs.Data.{Data, Num}
 use Rattle.serde_json.specs.Find.{as_number, as_u64}
 use Rattle.csv_records.specs.declared.number.Fault.{Fault}
 use Rattle.csv_records.specs.declared.number.Fault.TheVariants as fault
-use Rattle.csv_records.specs.Field.{are_digits, in_range, is_in_thousandths, spelling_fault, thousandths, thousandths_of, whole_number}
+use Rattle.csv_records.specs.Field.{are_digits, csv_number_within, is_in_thousandths, spelling_fault, thousandths, thousandths_of, whole_number}
 use Rattle.json_fields.specs.declared.Fault as json
 use Rattle.json_fields.specs.declared.Fault.TheVariants as value
-use Rattle.json_fields.specs.Fields.{member_number, member_of, number_at, number_found, number_of, whole_of}
+use Rattle.json_fields.specs.Fields.{member_number, member_of, json_number_at, number_found, json_number_of, whole_json_number}
 use Rattle.lab_model.specs.Film.{IsWithin}
 use Rattle.lab_model.proofs.Steps.{test_ok}
 
@@ -27,7 +27,7 @@ negative_fails : (b : Bool) (n : ℕ) → cond b (Err value.OutOfRange) (Err val
 negative_fails true n h = cc
 negative_fails false n h = cc
 
-whole-within : (least most : ℕ) (x : Num) (o : Option ℕ) (n : ℕ) → whole_of least most x o ≡ Ok n → IsWithin least most n
+whole-within : (least most : ℕ) (x : Num) (o : Option ℕ) (n : ℕ) → whole_json_number least most x o ≡ Ok n → IsWithin least most n
 whole-within least most x (Some m) n h = test-within least most m n value.OutOfRange h
 whole-within least most x None n h = absurd (negative_fails _ n h)
 
@@ -36,7 +36,7 @@ found-within least most (Some x) n h = whole-within least most x (as_u64 x) n h
 found-within least most None n h = absurd cc
 
 -- a number that passed its tests is in its range
-pub number-within : (least most : ℕ) (d : Data) (n : ℕ) → number_of least most d ≡ Ok n → IsWithin least most n
+pub number-within : (least most : ℕ) (d : Data) (n : ℕ) → json_number_of least most d ≡ Ok n → IsWithin least most n
 number-within least most d n h = found-within least most (as_number d) n h
 
 member-within : (least most : ℕ) (r : Result Data json.Fault) (n : ℕ) → member_number least most r ≡ Ok n → IsWithin least most n
@@ -44,8 +44,8 @@ member-within least most (Ok d) n h = number-within least most d n h
 member-within least most (Err f) n h = absurd cc
 
 -- so is one under a key
-pub number_at-within : (key : List ℕ) (least most : ℕ) (d : Data) (n : ℕ) → number_at key least most d ≡ Ok n → IsWithin least most n
-number_at-within key least most d n h = member-within least most (member_of key d) n h
+pub json_number_at-within : (key : List ℕ) (least most : ℕ) (d : Data) (n : ℕ) → json_number_at key least most d ≡ Ok n → IsWithin least most n
+json_number_at-within key least most d n h = member-within least most (member_of key d) n h
 
 -- ---- CSV fields
 
@@ -53,7 +53,7 @@ number_at-within key least most d n h = member-within least most (member_of key 
 pub whole_number-within : (least most : ℕ) (field : List ℕ) (n : ℕ) → whole_number least most field ≡ Ok n → IsWithin least most n
 unfolding whole_number
 whole_number-within least most field n h =
-    test-within least most (digits_value 10 field) n fault.OutOfRange (test_ok (are_digits field) (in_range least most (digits_value 10 field)) n (spelling_fault field) h).1
+    test-within least most (digits_value 10 field) n fault.OutOfRange (test_ok (are_digits field) (csv_number_within least most (digits_value 10 field)) n (spelling_fault field) h).1
 
 either : (b c : Bool) (r s : Result ℕ Fault) (e : Fault) (n : ℕ) → cond b r (cond c s (Err e)) ≡ Ok n → (r ≡ Ok n) ⊎ (s ≡ Ok n)
 either true c r s e n h = inl h
@@ -64,7 +64,7 @@ either false false r s e n h = absurd cc
 pub thousandths-within : (least most : ℕ) (field : List ℕ) (n : ℕ) → thousandths least most field ≡ Ok n → IsWithin (1000 * least) (1000 * most) n
 unfolding thousandths
 thousandths-within least most field n h =
-    elim (either (are_digits field) (is_in_thousandths field) (in_range (1000 * least) (1000 * most) (1000 * digits_value 10 field)) (in_range (1000 * least) (1000 * most) (thousandths_of field)) (spelling_fault field) n h) [
+    elim (either (are_digits field) (is_in_thousandths field) (csv_number_within (1000 * least) (1000 * most) (1000 * digits_value 10 field)) (csv_number_within (1000 * least) (1000 * most) (thousandths_of field)) (spelling_fault field) n h) [
       | inl e ↦ test-within (1000 * least) (1000 * most) (1000 * digits_value 10 field) n fault.OutOfRange e
       | inr e ↦ test-within (1000 * least) (1000 * most) (thousandths_of field) n fault.OutOfRange e
     ]

@@ -1,2 +1,3 @@
 pub mod Faults
 pub mod Each
+pub mod Header

@@ -5,7 +5,7 @@
 ghost use Rattle.std.specs.Prelude.{◌≡◌, ◌≤◌, IfOk, length, map};
 ghost use Rattle.serde_json.specs.View.{view};
 ghost use Rattle.lab_model.specs.Reading.{Gives, refusal};
-ghost use Rattle.json_fields.specs.Fields.{value_of};
+ghost use Rattle.json_fields.specs.Fields.{json_value_of};
 ghost use Rattle.reader_faults.specs.Faults.{field_at, field_kind, members_within, value_at, value_kind};
 
 use json_fields::ReadErr;
@@ -81,7 +81,7 @@ pub fn field_at<T: Drop>(
 
 /// The value that the bytes of a whole file are.
 pub fn whole_value(alloc: Global, bytes: &[u8]) -> Result<Value, InputFault>
-    ensures { Gives view result (value_at Key.Whole 0 0 (value_of bytes.now)) }
+    ensures { Gives view result (value_at Key.Whole 0 0 (json_value_of bytes.now)) }
 {
     match json_fields::json_value(alloc, bytes) {
         Ok(value) => Ok(value),

@@ -14,7 +14,8 @@ use Rattle.lab_model.specs.declared.context.Seek.{Seek}
 use Rattle.lab_model.specs.declared.fault.Kind.TheVariants as kind
 use Rattle.lab_model.specs.declared.fault.Key.TheVariants as key
 use Rattle.lab_model.specs.Reading.{refusal}
-use Rattle.seek_script.specs.Script.{behind_header, below, row_within, seeks_to_end, instant_in, later, seek, seek_in, seeks_in, seeks_of, target_in}
+use Rattle.reader_faults.specs.Header.{behind_header}
+use Rattle.seek_script.specs.Script.{below, seek_row_within, seeks_to_end, instant_in, later, seek_to, seek_in, seeks_in, seeks_of, target_in, is_seek_header}
 use Rattle.lab_model.specs.Seeks.{SeeksFit, seek_no}
 
 -- an instant is behind that of the seek before
@@ -42,16 +43,16 @@ record Keeps (segments : ℕ) (before : Option Seek) (row : ℕ) (s : Seek) : Ty
   behind : IsLater before s.at_ms
   target : s.to < segments
 
-keeps-of : (segments : ℕ) (before : Option Seek) (row at_ms to : ℕ) → row ≤ 17 → at_ms ≤ 1000000000 → IsLater before at_ms → to < segments → Keeps segments before row (seek at_ms to)
+keeps-of : (segments : ℕ) (before : Option Seek) (row at_ms to : ℕ) → row ≤ 17 → at_ms ≤ 1000000000 → IsLater before at_ms → to < segments → Keeps segments before row (seek_to at_ms to)
 keeps-of segments before row at_ms to a b c d = record { few = a; instant = b; behind = c; target = d }
 
 keeps : (segments : ℕ) (before : Option Seek) (row : ℕ) (r : List (List ℕ)) (s : Seek) → seek_in segments before row r ≡ Ok s → Keeps segments before row s
 keeps segments before row r s h =
-    let a = then_ok (row_within row) (λ _. instant_in row r >>= (λ at_ms. later before row at_ms >>= (λ _. target_in segments row r >>= (λ to. Ok (seek at_ms to))))) s h in
-    let b = then_ok (instant_in row r) (λ at_ms. later before row at_ms >>= (λ _. target_in segments row r >>= (λ to. Ok (seek at_ms to)))) s a.2 in
-    let c = then_ok (later before row b.0) (λ _. target_in segments row r >>= (λ to. Ok (seek b.0 to))) s b.2 in
-    let d = then_ok (target_in segments row r) (λ to. Ok (seek b.0 to)) s c.2 in
-    let same : seek b.0 d.0 ≡ s = cc in
+    let a = then_ok (seek_row_within row) (λ _. instant_in row r >>= (λ at_ms. later before row at_ms >>= (λ _. target_in segments row r >>= (λ to. Ok (seek_to at_ms to))))) s h in
+    let b = then_ok (instant_in row r) (λ at_ms. later before row at_ms >>= (λ _. target_in segments row r >>= (λ to. Ok (seek_to at_ms to)))) s a.2 in
+    let c = then_ok (later before row b.0) (λ _. target_in segments row r >>= (λ to. Ok (seek_to b.0 to))) s b.2 in
+    let d = then_ok (target_in segments row r) (λ to. Ok (seek_to b.0 to)) s c.2 in
+    let same : seek_to b.0 d.0 ≡ s = cc in
     let t = test_err (nat_lt 17 row) (Ok row) a.0 (refusal kind.OutOfRange key.Whole row 0) a.1 in
     let few : row ≤ 17 = grind (arith, nat_tests, t.0) in
     let instant = whole_number-within 0 1000000000 (field_in 0 r) b.0 (field_at-ok key.SeekAt row 1 (whole_number 0 1000000000 (field_in 0 r)) b.0 b.1) in
@@ -102,6 +103,6 @@ within bytes segments xs h = go (table_of bytes) h
   where
     go : (t : Table) → seeks_in segments t ≡ Ok xs → SeeksFit xs segments
     go t e =
-        let rs = then_ok (behind_header t.rows) (λ rs. each_after (seek_in segments) None 2 rs >>= seeks_to_end t.uneven) xs e in
+        let rs = then_ok (behind_header is_seek_header t.rows) (λ rs. each_after (seek_in segments) None 2 rs >>= seeks_to_end t.uneven) xs e in
         let seeks = then_ok (each_after (seek_in segments) None 2 rs.0) (seeks_to_end t.uneven) xs rs.2 in
         subst (λ ys. SeeksFit ys segments) (seeks_to_end-ok t.uneven seeks.0 xs seeks.2) (each-within segments rs.0 seeks.0 seeks.1)

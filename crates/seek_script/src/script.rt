@@ -6,7 +6,8 @@ ghost use Rattle.csv_records.specs.Table.{table_in, table_of};
 ghost use Rattle.lab_model.specs.Reading.{Gives};
 ghost use Rattle.lab_model.specs.Seeks.{SeeksFit};
 ghost use Rattle.reader_faults.specs.Each.{each_after};
-ghost use Rattle.seek_script.specs.Script.{behind_header, below, row_within, instant_in, is_header, later, seek_in, seeks_in, seeks_of, target_in};
+ghost use Rattle.reader_faults.specs.Header.{behind_header};
+ghost use Rattle.seek_script.specs.Script.{below, seek_row_within, instant_in, is_seek_header, later, seek_in, seeks_in, seeks_of, target_in};
 
 use csv::ByteRecord;
 use csv_records::{Records, field_in, is_named, records_of, whole_number};
@@ -23,8 +24,8 @@ const MOST_RECORDS: usize = LAST_ROW as usize + 1;
 /// The last instant of a seek, in milliseconds.
 const LAST_INSTANT: u32 = 1_000_000_000;
 
-fn is_header(record: &ByteRecord) -> bool
-    ensures { result ≡ is_header (fields_of «record».now) }
+fn is_seek_header(record: &ByteRecord) -> bool
+    ensures { result ≡ is_seek_header (fields_of «record».now) }
 {
     record.len() == 2 && is_named(record, 0, "at_ms") && is_named(record, 1, "to_segment")
 }
@@ -32,12 +33,12 @@ fn is_header(record: &ByteRecord) -> bool
 /// The records behind the header.
 fn behind_header(rows: &[ByteRecord]) -> Result<&[ByteRecord], InputFault>
     ensures rows { Gives (λ v. map fields_of v.now) result
-        (behind_header (map fields_of rows.now)) }
+        (behind_header is_seek_header (map fields_of rows.now)) }
     ensures count { IfOk result (λ v. length rows.now ≡ length v.now + 1) }
 {
     match rows {
         [] => Err(refusal(Kind::Empty, Key::Whole, 0, 0)),
-        [header, later @ ..] => if is_header(header) {
+        [header, later @ ..] => if is_seek_header(header) {
             Ok(later)
         } else {
             Err(refusal(Kind::Shape, Key::Header, 1, 0))
@@ -46,8 +47,8 @@ fn behind_header(rows: &[ByteRecord]) -> Result<&[ByteRecord], InputFault>
 }
 
 /// A row, if it is one of the 16 behind the header.
-fn row_within(row: u32) -> Result<u32, InputFault>
-    ensures row { Gives (λ n. n) result (row_within row) }
+fn seek_row_within(row: u32) -> Result<u32, InputFault>
+    ensures row { Gives (λ n. n) result (seek_row_within row) }
     ensures few { OnOk result (row ≤ 17) }
 {
     if row > LAST_ROW {
@@ -116,7 +117,7 @@ fn seek_in(
     ensures seek { Gives (λ s. s) result (seek_in segments before row (fields_of fields.now)) }
     ensures few { OnOk result (row ≤ 17) }
 {
-    row_within(row)?;
+    seek_row_within(row)?;
     let at_ms = instant_in(fields, row)?;
     later(before, row, at_ms)?;
     let to = target_in(fields, row, segments)?;
@@ -144,12 +145,11 @@ fn all_seeks(alloc: Global, rows: &[ByteRecord], segments: u16) -> Result<Vec<Se
 
 /// The seeks of a table.
 fn seeks_in(alloc: Global, records: &Records, segments: u16) -> Result<Vec<Seek>, InputFault>
-    requires { IfSome records.now.uneven (λ k. k ≡ length records.now.rows.items + 1) }
     ensures { Gives (λ v. v.items) result (seeks_in segments (table_in records.now)) }
 {
     let rows = behind_header(&records.rows)?;
     let seeks = all_seeks(alloc, rows, segments)?;
-    match records.uneven {
+    match records.uneven_row() {
         Some(row) => Err(refusal(Kind::NotCsv, Key::SeekRow, row as u32, 0)),
         None => Ok(seeks),
     }

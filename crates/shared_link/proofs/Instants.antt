@@ -6,7 +6,7 @@ use Rattle.player_core.specs.declared.course.Course.{Course}
 use Rattle.player_core.specs.Course.{case_on}
 use Rattle.player_core.specs.Parts.{instant, is_ended, request, stopped}
 use Rattle.player_core.specs.Ready.{CanRequest}
-use Rattle.player_core.specs.Seen.{Hears, KnowsEnd, Steps, mode_of, seen}
+use Rattle.player_core.specs.Seen.{Hears, KnowsEnd, StepsOn, mode_of, seen}
 use Rattle.player_core.specs.State.{Case, Player}
 use Rattle.player_core.proofs.Chain.{told_ended}
 use Rattle.player_core.proofs.Follow.{Now, now_step, request_ready}
@@ -16,7 +16,7 @@ use Rattle.player_core.proofs.Turned.{request_told}
 use Rattle.shared_link.specs.Table.{CanMeet, Meets}
 
 module _ {R : Type 0} (kind : R → RuleKind) (stands_for : R → List ℕ → Type 0) (o : Course) (b s : Body) (rule heard : R)
-    (ready : CanMeet o (kind rule) b) (stops : Steps o stopped b s) (hears : Hears kind stands_for o stopped b rule heard) where
+    (ready : CanMeet o (kind rule) b) (stops : StepsOn o stopped b s) (hears : Hears kind stands_for o stopped b rule heard) where
   -- what is seen of the end after the arrival and the end
   ends_as : (h : List ℕ) → is_ended (stopped (case_on o (kind rule)) (seen b h)).mode ≡ is_ended (mode_of s.mode)
   ends_as h = sym (ap (λ (q : Player). is_ended q.mode) ((stops (kind rule)).follows h))

@@ -23,7 +23,7 @@ use Rattle.player_core.proofs.Over.{after_end}
 use Rattle.player_core.proofs.Players.{instant_t, player_sound}
 use Rattle.shared_link.specs.Calm.{takers_at}
 use Rattle.shared_link.specs.Joint.{IsJoint, JointCase, all_end_at, case_at, instants, joint_end, joint_session, passes, players_after, players_of}
-use Rattle.shared_link.specs.Laws.{AloneIsLone, Ends, JointSessionsEnd, SessionsAreOwn, own_case, share_at}
+use Rattle.shared_link.specs.Laws.{AloneIsLone, JointEnds, JointSessionsEnd, SessionsAreOwn, own_case, share_at}
 use Rattle.shared_link.proofs.Ended.{all_from_each, each_from_all}
 use Rattle.shared_link.proofs.Takers.{takers_few}
 
@@ -162,7 +162,7 @@ module _ (j : JointCase) (is : IsJoint j) where
       over ∙ last_ended (own_case j i) (own_is_case i low))
 
   -- a joint session ends before the latest instant
-  pub joint_ends : Ends j
+  pub joint_ends : JointEnds j
   unfolding joint_end
   joint_ends =
       let last = ends_by (players_of j) (omega arith) in

@@ -6,7 +6,7 @@ use Rattle.lab_model.specs.Rules.{RuleKind}
 use Rattle.player_core.specs.declared.body.Body.{Body}
 use Rattle.player_core.specs.declared.course.Course.{Course}
 use Rattle.shared_link.specs.Joint.{IsJoint, instants, players_after}
-use Rattle.shared_link.specs.Table.{AllCanMeet, AllMeet, IsPlain, joint_on}
+use Rattle.shared_link.specs.Table.{AllCanMeet, AllMeet, IsPlainCourse, joint_on_course}
 use Rattle.shared_link.proofs.Top.{AtTop, Sit, top_meets, top_met}
 
 -- as many elements as there were are all that is there
@@ -15,7 +15,7 @@ written n xs ys before after =
     ap (λ zs. take n (ys ++ zs)) (drop_all (length ys) xs (omega (arith, before, after)))
     ∙ ap (λ zs. take n zs) (append-nil ys) ∙ take_all n ys (omega (arith, after))
 
-module _ (o : Course) (kinds : List RuleKind) (is : IsJoint (joint_on o kinds)) (plain : IsPlain o) {R : Type 0} (kind : R → RuleKind) (stands_for : R → List ℕ → Type 0) (n : ℕ)
+module _ (o : Course) (kinds : List RuleKind) (is : IsJoint (joint_on_course o kinds)) (plain : IsPlainCourse o) {R : Type 0} (kind : R → RuleKind) (stands_for : R → List ℕ → Type 0) (n : ℕ)
     (old lent : List Body) (rules heard : List R) (same : lent ≡ old) (same_rules : heard ≡ rules) (top : AtTop kind stands_for o kinds n old rules) where
   lent_top : AtTop kind stands_for o kinds n lent heard
   lent_top = subst (λ bs. AtTop kind stands_for o kinds n bs heard) (sym same) (subst (AtTop kind stands_for o kinds n old) (sym same_rules) top)
@@ -25,5 +25,5 @@ module _ (o : Course) (kinds : List RuleKind) (is : IsJoint (joint_on o kinds)) 
   round_meets = top_meets o kinds is plain kind stands_for n lent heard lent_top
 
   -- and after it bodies and rules stand for the players after it
-  pub round_met : (news : List Body) (told : List R) → AllMeet kind stands_for o lent news heard told → Sit kind stands_for o kinds (instants (joint_on o kinds) (players_after (joint_on o kinds) n)) news told
+  pub round_met : (news : List Body) (told : List R) → AllMeet kind stands_for o lent news heard told → Sit kind stands_for o kinds (instants (joint_on_course o kinds) (players_after (joint_on_course o kinds) n)) news told
   round_met news told all = top_met o kinds is plain kind stands_for n lent heard news told lent_top all

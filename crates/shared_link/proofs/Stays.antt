@@ -16,7 +16,7 @@ use Rattle.player_core.specs.Quiet.{IsUntouched}
 use Rattle.player_core.specs.Seen.{seen}
 use Rattle.player_core.proofs.Stretch.{untouched_less}
 use Rattle.shared_link.specs.Calm.{StaysCalm}
-use Rattle.shared_link.specs.Table.{GoesOn}
+use Rattle.shared_link.specs.Table.{BodyGoesOn}
 
 module _ (o : Course) (takers until : ℕ) (b : Body) where
   -- where nothing of the body's own happens, and its download neither lands nor begins
@@ -74,15 +74,15 @@ stays_less o takers until sooner b calm later less =
 -- ---- of several bodies
 
 -- one body more: it has ended, or nothing happens to it so long
-pub calm_next : (o : Course) (takers until sooner n t : ℕ) (bs : List Body) (b : Body) → ((i : ℕ) (d : Body) → i < n → GoesOn (get_or bs i d) → StaysCalm o takers until (get_or bs i d)) → ((i : ℕ) (d : Body) → i < length bs → GoesOn (get_or bs i d) → (get_or bs i d).t ≡ t)
-    → n < length bs → b ≡ get_or bs n b → t < sooner → sooner ≤ until → (GoesOn b → StaysCalm o takers sooner b)
-    → (i : ℕ) (d : Body) → i < n + 1 → GoesOn (get_or bs i d) → StaysCalm o takers sooner (get_or bs i d)
+pub calm_next : (o : Course) (takers until sooner n t : ℕ) (bs : List Body) (b : Body) → ((i : ℕ) (d : Body) → i < n → BodyGoesOn (get_or bs i d) → StaysCalm o takers until (get_or bs i d)) → ((i : ℕ) (d : Body) → i < length bs → BodyGoesOn (get_or bs i d) → (get_or bs i d).t ≡ t)
+    → n < length bs → b ≡ get_or bs n b → t < sooner → sooner ≤ until → (BodyGoesOn b → StaysCalm o takers sooner b)
+    → (i : ℕ) (d : Body) → i < n + 1 → BodyGoesOn (get_or bs i d) → StaysCalm o takers sooner (get_or bs i d)
 calm_next o takers until sooner n t bs b before times inside here later less now i d low on =
     ⊎_elim
     (λ (last : i ≡ n).
     let place = ap (λ k. get_or bs k d) last in
     let same : b ≡ get_or bs i d = get_or_read bs n b inside here d ∙ sym place in
-    subst (StaysCalm o takers sooner) same (now (subst GoesOn (sym same) on)))
+    subst (StaysCalm o takers sooner) same (now (subst BodyGoesOn (sym same) on)))
     (λ (other : i ≡ n → ⊥).
     let early : i < n = omega (arith, low, other) in
     let at = times i d (omega (arith, early, inside)) on in

@@ -11,7 +11,7 @@ use Rattle.network_clock.proofs.Search.{least_before}
 use Rattle.player_core.specs.Parts.{instant, is_ended, pass_ms, takes, takes_any}
 use Rattle.player_core.specs.Quiet.{IsQuiet, IsUntouched, glides, moves_in, taken_ms}
 use Rattle.player_core.specs.Session.{end_of, ends_at, last_player, player_after}
-use Rattle.player_core.specs.Sound.{IsCase, Runs, asked_size}
+use Rattle.player_core.specs.Sound.{IsCase, DownloadRuns, asked_size}
 use Rattle.player_core.specs.State.{Case, Download, Player}
 use Rattle.player_core.proofs.Over.{after_end, last_idle}
 use Rattle.player_core.proofs.Players.{instant_sound, instant_t, pass_t, player_sound}
@@ -31,7 +31,7 @@ lands_not_before net from j n early none = least_before longest_ms (λ m. eqb (j
 
 -- ---- one download on the share of a link
 
-module _ (c : Case) (is : IsCase c) (lane : ℕ → Period) (t : ℕ) (d : Download) (runs : Runs c t d) where
+module _ (c : Case) (is : IsCase c) (lane : ℕ → Period) (t : ℕ) (d : Download) (runs : DownloadRuns c t d) where
   -- the job of the download after some milliseconds more
   later_job : (n : ℕ) → job_on c.network d.asked ((t + n) - d.asked) (start_job (asked_size c d)) ≡ job_on c.network t n d.job
   later_job n =
@@ -81,7 +81,7 @@ module _ (j : JointCase) (is : IsJoint j) (t : ℕ) where
         let case = own_is_case j is i low in
         first_same (share_at j) (period_at j.periods) case.network case.short (λ s. refl) start bits
 
-    open_of : (n : ℕ) (o : Option Download) → n < ms → ((k : ℕ) → k < n → share_at j (t + k) ≡ lane_at j.periods (takers_at j t) (t + k)) → IfSome o (Runs (own_case j i) t)
+    open_of : (n : ℕ) (o : Option Download) → n < ms → ((k : ℕ) → k < n → share_at j (t + k) ≡ lane_at j.periods (takers_at j t) (t + k)) → IfSome o (DownloadRuns (own_case j i) t)
         → (option_map_or (λ (d : Download). spends (period_at j.periods t) d.job) o false ≡ true → IfSome o (λ d. t + ms ≤ lands_on (lane_at j.periods (takers_at j t)) t d.job))
         → (option_map_or (λ (d : Download). spends (period_at j.periods t) d.job) o false ≡ false → IfSome o (λ d. t + ms ≤ first_at j.periods d.asked (asked_size (case_at j i) d)))
         → IfSome o (λ d. t + (n + 1) ≤ done_on (share_at j) d.asked (asked_size (own_case j i) d))
@@ -109,11 +109,11 @@ module _ (j : JointCase) (is : IsJoint j) (t : ℕ) where
         let q = instant c (player_after c t) in
         let start = player_sound c case t going in
         let sound = instant_sound c case t (player_after c t) start.1 start.0 goes in
-        let runs : IfSome q.download (Runs c t) = subst (λ s. IfSome q.download (Runs c s)) at sound.0.running in
+        let runs : IfSome q.download (DownloadRuns c t) = subst (λ s. IfSome q.download (DownloadRuns c s)) at sound.0.running in
         quiet_alone c q (n + 1) is.keeps refl (untouched_less c q ms (n + 1) untouched (omega arith) (omega (arith, few)))
         (subst (λ s. IfSome q.download (λ d. s + (n + 1) ≤ done_on (share_at j) d.asked (asked_size c d))) (sym at) (open_of n q.download few same runs own_calm.lands own_calm.begins))
 
-    takes_of : (n m s u : ℕ) (o : Option Download) → n < ms → IfSome o (Runs (own_case j i) t) → IfSome (option_map (taken_ms (own_case j i) s m) (option_map (takes (own_case j i) u) o)) (Runs (own_case j i) (t + n))
+    takes_of : (n m s u : ℕ) (o : Option Download) → n < ms → IfSome o (DownloadRuns (own_case j i) t) → IfSome (option_map (taken_ms (own_case j i) s m) (option_map (takes (own_case j i) u) o)) (DownloadRuns (own_case j i) (t + n))
         → (option_map_or (λ (d : Download). spends (period_at j.periods t) d.job) o false ≡ false → IfSome o (λ d. t + ms ≤ first_at j.periods d.asked (asked_size (case_at j i) d)))
         → option_map_or (λ (d : Download). spends (period_at j.periods (t + n)) d.job) (option_map (taken_ms (own_case j i) s m) (option_map (takes (own_case j i) u) o)) false ≡ option_map_or (λ (d : Download). spends (period_at j.periods t) d.job) o false
     takes_of n m s u None few runs later begins = refl
@@ -151,14 +151,14 @@ module _ (j : JointCase) (is : IsJoint j) (t : ℕ) where
         let before = (stretch c case t (n + 1) going goes longer).0 in
         let sound = player_sound c case (t + n) (λ k less. before k (omega (arith, less))) in
         let start = player_sound c case t going in
-        let runs : IfSome q.download (Runs c t) = subst (λ s. IfSome q.download (Runs c s)) at (instant_sound c case t (player_after c t) start.1 start.0 goes).0.running in
+        let runs : IfSome q.download (DownloadRuns c t) = subst (λ s. IfSome q.download (DownloadRuns c s)) at (instant_sound c case t (player_after c t) start.1 start.0 goes).0.running in
         let loads : r.download ≡ option_map (takes c q.t) q.download = (passes_passed c (takes_any c q) q.mode).download in
         let download : (player_after c (t + n)).download ≡ option_map (taken_ms c r.t (n - 1)) (option_map (takes c q.t) q.download) =
         ap (λ (p : Player). p.download) there ∙ ap (option_map (taken_ms c r.t (n - 1))) loads in
-        let later : IfSome (player_after c (t + n)).download (Runs c (t + n)) = subst (λ s. IfSome (player_after c (t + n)).download (Runs c s)) sound.1 sound.0.running in
+        let later : IfSome (player_after c (t + n)).download (DownloadRuns c (t + n)) = subst (λ s. IfSome (player_after c (t + n)).download (DownloadRuns c s)) sound.1 sound.0.running in
         ap (takes_bits (period_at j.periods (t + n))) idle
         ∙ ap (λ o. option_map_or (λ (d : Download). spends (period_at j.periods (t + n)) d.job) o false) download
-        ∙ takes_of n (n - 1) r.t q.t q.download few runs (subst (λ o. IfSome o (Runs c (t + n))) download later) own_calm.begins
+        ∙ takes_of n (n - 1) r.t q.t q.download few runs (subst (λ o. IfSome o (DownloadRuns c (t + n))) download later) own_calm.begins
 
   -- ---- all players
 

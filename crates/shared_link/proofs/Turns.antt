@@ -1,5 +1,6 @@
 -- A whole turn of the joint session from event to event: what can come after an instant, and what a calm stretch leaves.
 use Rattle.std.proofs.Common.{◌≡◌, ◌∙◌, ℕ, zero, suc, ◌+◌, ◌-◌, ◌&&◌, ◌<◌, ◌≤◌, Bool, true, false, eqb, List, length, get_or, Option, Some, None, IfSome, option_map, refl, sym, ap, subst, ⊎_elim, add-one, arith}
+use Rattle.network_clock.specs.Limits.{most_left}
 use Rattle.std.specs.List.{All}
 use Rattle.std.specs.Option.{option_map_or}
 use Rattle.std.proofs.lemmas.Bool.{cases_Bool, cases_lt, cond-true, eqb-false, false_from_ne_true, false≢true, true≢false}
@@ -13,22 +14,22 @@ use Rattle.player_core.specs.declared.body.Body.{Body}
 use Rattle.player_core.specs.declared.course.Course.{Course}
 use Rattle.player_core.specs.declared.running.Running.{Running}
 use Rattle.player_core.specs.Course.{case_on}
-use Rattle.player_core.specs.Limits.{latest_ms, most_left}
+use Rattle.player_core.specs.Limits.{latest_ms}
 use Rattle.player_core.specs.Parts.{instant, is_ended, pass_in, pass_ms, takes_any}
 use Rattle.player_core.specs.Quiet.{IsUntouched, glides}
 use Rattle.player_core.specs.Seen.{CanGlide, CanIdle, CanTake, IsTimed, KnowsEnd, StandsFor, download_of, mode_of, seen}
 use Rattle.player_core.specs.Session.{ends_at, player_after}
-use Rattle.player_core.specs.Sound.{IsCase, Runs, asked_size}
+use Rattle.player_core.specs.Sound.{IsCase, DownloadRuns, asked_size}
 use Rattle.player_core.specs.State.{Case, Download, Player, case_of}
 use Rattle.player_core.proofs.Follow.{Now, body_instant, body_sound, glide_ready, idle_ready, take_ready}
 use Rattle.player_core.proofs.Players.{pass_t, player_next}
 use Rattle.player_core.proofs.Soundness.{IsOpen, pass_sound}
 use Rattle.player_core.proofs.Stretch.{next_ahead, pass_next, stretch}
 use Rattle.player_core.proofs.Waits.{passes_passed}
-use Rattle.shared_link.specs.Calm.{AllGlide, AreCalm, CanCome, CanRest, Glides, IsCalm, StaysCalm, lane_case, takers_at}
+use Rattle.shared_link.specs.Calm.{AllGlide, AreCalm, CanCome, CanRestTogether, Glides, IsCalm, StaysCalm, lane_case, takers_at}
 use Rattle.shared_link.specs.Joint.{IsJoint, JointCase, all_end_at, all_ended, case_at, instants, passes, players_after, players_of, takes_bits}
 use Rattle.shared_link.specs.Laws.{own_case, share_at}
-use Rattle.shared_link.specs.Table.{AllPass, GoesOn, HasEnded, IsPlain, joint_on}
+use Rattle.shared_link.specs.Table.{AllPass, BodyGoesOn, HasEnded, IsPlainCourse, joint_on_course}
 use Rattle.shared_link.proofs.Stretches.{calm_ended, calm_player, calm_whole}
 use Rattle.shared_link.proofs.Ended.{each_from_all, one_goes}
 use Rattle.shared_link.proofs.Own.{going_before, own, own_instant, own_is_case}
@@ -45,7 +46,7 @@ left_of : (o : Option Running) → IfSome (option_map download_of o) (λ d. eqb 
 left_of None some can = tt
 left_of (Some r) some can = let none = eqb-false r.job.left 0 some in let most = can.left in (omega (arith, none), most)
 
-module _ (c : Case) (is : IsCase c) (n : ℕ) (d : Download) (runs : Runs c n d) where
+module _ (c : Case) (is : IsCase c) (n : ℕ) (d : Download) (runs : DownloadRuns c n d) where
   -- a download whose millisecond is not spent on bits begins later
   begins_later : spends (c.network n) d.job ≡ false → n < first_on c.network d.asked (asked_size c d)
   begins_later delay =
@@ -67,12 +68,12 @@ module _ (c : Case) (is : IsCase c) (n : ℕ) (d : Download) (runs : Runs c n d)
       absurd (true≢false (sym (ap (λ m. spends (net m) (job_on net first (n - first) (job_on net d.asked (first - d.asked) (start_job bits)))) (sym there) ∙ after) ∙ ap (λ k. spends (net n) k) whole ∙ delay)))
       (cases_lt n first)
 
-module _ (o : Course) (kinds : List RuleKind) (is : IsJoint (joint_on o kinds)) (plain : IsPlain o) where
-  begins_of : (i n : ℕ) → i < length kinds → (r : Option Running) → IfSome (option_map download_of r) (Runs (own_case (joint_on o kinds) i) n) → IsTimed o.scene.now.film (period_at o.scene.now.periods) r
+module _ (o : Course) (kinds : List RuleKind) (is : IsJoint (joint_on_course o kinds)) (plain : IsPlainCourse o) where
+  begins_of : (i n : ℕ) → i < length kinds → (r : Option Running) → IfSome (option_map download_of r) (DownloadRuns (own_case (joint_on_course o kinds) i) n) → IsTimed o.scene.now.film (period_at o.scene.now.periods) r
       → IfSome r (λ r. spends (period_at o.scene.now.periods n) r.job ≡ false → n < r.begins)
   begins_of i n low None runs knows = tt
   begins_of i n low (Some r) runs knows = λ delay.
-      let j = joint_on o kinds in
+      let j = joint_on_course o kinds in
       let c = own_case j i in
       let case = own_is_case j is i low in
       let d = download_of r in
@@ -82,9 +83,9 @@ module _ (o : Course) (kinds : List RuleKind) (is : IsJoint (joint_on o kinds)) 
       omega (arith, later, first, begins)
 
   -- the milliseconds of a body can be counted
-  pub can_rest : (i n : ℕ) → i < length kinds → (b : Body) → StandsFor (instants (joint_on o kinds) (players_after (joint_on o kinds) n) i) b → KnowsEnd o b → GoesOn b → (b.t ≡ n) × CanRest o (period_at o.scene.now.periods n) b
+  pub can_rest : (i n : ℕ) → i < length kinds → (b : Body) → StandsFor (instants (joint_on_course o kinds) (players_after (joint_on_course o kinds) n) i) b → KnowsEnd o b → BodyGoesOn b → (b.t ≡ n) × CanRestTogether o (period_at o.scene.now.periods n) b
   can_rest i n low b stands knows on =
-      let j = joint_on o kinds in
+      let j = joint_on_course o kinds in
       let c = own_case j i in
       let case = own_is_case j is i low in
       let q = instant c (player_after c n) in
@@ -92,7 +93,7 @@ module _ (o : Course) (kinds : List RuleKind) (is : IsJoint (joint_on o kinds)) 
       let alive = (own_sound o kinds is plain i n low b stands on).1 in
       let at : b.t ≡ n = body_instant c n (n + 1) q b now in
       let sound = body_sound c n (n + 1) q b now in
-      let runs : IfSome (option_map download_of b.download) (Runs c n) = subst (λ s. IfSome (option_map download_of b.download) (Runs c s)) at sound.running in (
+      let runs : IfSome (option_map download_of b.download) (DownloadRuns c n) = subst (λ s. IfSome (option_map download_of b.download) (DownloadRuns c s)) at sound.running in (
         at,
         record {
           idles = subst (λ a. CanIdle o.scene.now.film o.scene.now.setup a b) (sym plain.ahead) (idle_ready c case n (n + 1) q b now (own_still o kinds is plain i n low b stands on));
@@ -110,14 +111,14 @@ module _ (o : Course) (kinds : List RuleKind) (is : IsJoint (joint_on o kinds)) 
 
   waits_of : (n until : ℕ) (r : Option Running) → n < until → IfSome r (λ r. spends (period_at o.scene.now.periods n) r.job ≡ false → until ≤ r.begins) → IsTimed o.scene.now.film (period_at o.scene.now.periods) r
       → option_map_or (λ (d : Download). spends (period_at o.scene.now.periods n) d.job) (option_map download_of r) false ≡ false
-      → IfSome (option_map download_of r) (λ d. n + (until - n) ≤ first_at o.scene.now.periods d.asked (asked_size (case_at (joint_on o kinds) 0) d))
+      → IfSome (option_map download_of r) (λ d. n + (until - n) ≤ first_at o.scene.now.periods d.asked (asked_size (case_at (joint_on_course o kinds) 0) d))
   waits_of n until None later h knows delay = tt
   waits_of n until (Some r) later h knows delay = let most = h delay in let begins = knows.0 in omega (arith, later, most, begins)
 
   -- where it is for a body, it is for its player
-  calm_of : (i n takers until : ℕ) → (b : Body) (q : Player) → StandsFor q b → KnowsEnd o b → b.t ≡ n → StaysCalm o takers until b → IsCalm (joint_on o kinds) takers n (until - n) (case_at (joint_on o kinds) i) q
+  calm_of : (i n takers until : ℕ) → (b : Body) (q : Player) → StandsFor q b → KnowsEnd o b → b.t ≡ n → StaysCalm o takers until b → IsCalm (joint_on_course o kinds) takers n (until - n) (case_at (joint_on_course o kinds) i) q
   calm_of i n takers until b q stands knows at calm =
-      let j = joint_on o kinds in
+      let j = joint_on_course o kinds in
       let kind = get_or kinds i (fixed 0) in
       let past = calm.later in
       let later : n < until = omega (arith, past, at) in
@@ -132,25 +133,25 @@ module _ (o : Course) (kinds : List RuleKind) (is : IsJoint (joint_on o kinds)) 
       }
 
   module _ {R : Type 0} (kind : R → RuleKind) (stands_for : R → List ℕ → Type 0) (n takers until : ℕ) (bs : List Body) (rs : List R)
-      (sit : Sit kind stands_for o kinds (instants (joint_on o kinds) (players_after (joint_on o kinds) n)) bs rs) where
+      (sit : Sit kind stands_for o kinds (instants (joint_on_course o kinds) (players_after (joint_on_course o kinds) n)) bs rs) where
     -- the milliseconds of each body can be counted
-    pub all_can_rest : (i : ℕ) (b : Body) → i < length bs → GoesOn (get_or bs i b) → ((get_or bs i b).t ≡ n) × CanRest o (period_at o.scene.now.periods n) (get_or bs i b)
+    pub all_can_rest : (i : ℕ) (b : Body) → i < length bs → BodyGoesOn (get_or bs i b) → ((get_or bs i b).t ≡ n) × CanRestTogether o (period_at o.scene.now.periods n) (get_or bs i b)
     all_can_rest i b low on =
         let count = sit.count in
         let inside : i < length kinds = omega (arith, low, count) in
         can_rest i n inside (get_or bs i b) (sit.stand i b low) (sit.timed i b inside) on
 
-    module _ (same_takers : takers ≡ takers_at (joint_on o kinds) n) (stays : All (λ b. GoesOn b → StaysCalm o takers until b) bs) where
+    module _ (same_takers : takers ≡ takers_at (joint_on_course o kinds) n) (stays : All (λ b. BodyGoesOn b → StaysCalm o takers until b) bs) where
       -- the whole stretch is calm
-      pub are_calm : AreCalm (joint_on o kinds) n (until - n)
+      pub are_calm : AreCalm (joint_on_course o kinds) n (until - n)
       are_calm i low on =
-          let j = joint_on o kinds in
+          let j = joint_on_course o kinds in
           let count = sit.count in
           let there : i < length bs = omega (arith, low, count) in
           let b = some_of bs i there in
           let body = get_or bs i b in
           let stands = sit.stand i b there in
-          let goes : GoesOn body = ap (λ (p : Player). is_ended p.mode) stands ∙ on in
+          let goes : BodyGoesOn body = ap (λ (p : Player). is_ended p.mode) stands ∙ on in
           let rest = all_can_rest i b there goes in
           subst (λ k. IsCalm j k n (until - n) (case_at j i) (instants j (players_after j n) i)) same_takers
           (calm_of i n takers until body (instants j (players_after j n) i) stands (sit.timed i b low) rest.0 (stays i b there goes))
@@ -160,9 +161,9 @@ module _ (o : Course) (kinds : List RuleKind) (is : IsJoint (joint_on o kinds)) 
         some_ms = omega (arith, later)
 
         -- not all have ended before its end
-        pub going_on : all_end_at (joint_on o kinds) n ≡ false → (k : ℕ) → k < until → all_end_at (joint_on o kinds) k ≡ false
+        pub going_on : all_end_at (joint_on_course o kinds) n ≡ false → (k : ℕ) → k < until → all_end_at (joint_on_course o kinds) k ≡ false
         going_on some k low =
-            let j = joint_on o kinds in
+            let j = joint_on_course o kinds in
             let one = one_goes (instants j (players_after j n)) (length kinds) some in
             let i = one.0 in
             let inside = one.1 in
@@ -173,19 +174,19 @@ module _ (o : Course) (kinds : List RuleKind) (is : IsJoint (joint_on o kinds)) 
             false_from_ne_true (all_end_at j k)
             (λ over. true≢false (sym (ap (λ (p : Player). is_ended p.mode) (sym (own_instant j is i inside k)) ∙ each_from_all (instants j (players_after j k)) (length kinds) over i inside) ∙ law))
 
-        module _ (mids : List Body) (passed : AllPass o (share_at (joint_on o kinds) n) bs mids) (mid : Sit kind stands_for o kinds (players_after (joint_on o kinds) (suc n)) mids rs) where
+        module _ (mids : List Body) (passed : AllPass o (share_at (joint_on_course o kinds) n) bs mids) (mid : Sit kind stands_for o kinds (players_after (joint_on_course o kinds) (suc n)) mids rs) where
           -- a body that goes on after the millisecond went on before it
-          mid_goes : (i : ℕ) (b : Body) → i < length kinds → GoesOn (get_or mids i b) → GoesOn (get_or bs i b)
+          mid_goes : (i : ℕ) (b : Body) → i < length kinds → BodyGoesOn (get_or mids i b) → BodyGoesOn (get_or bs i b)
           mid_goes i b inside on =
               let count = sit.count in
               let pass = passed.each i b (omega (arith, inside, count)) in
               ⊎_elim (λ (over : HasEnded (get_or bs i b)). absurd (true≢false (sym (subst HasEnded (sym (pass.over over)) over) ∙ on)))
-              (λ (goes : GoesOn (get_or bs i b)). goes) (cases_Bool (is_ended (mode_of (get_or bs i b).mode)))
+              (λ (goes : BodyGoesOn (get_or bs i b)). goes) (cases_Bool (is_ended (mode_of (get_or bs i b).mode)))
 
           -- each that goes on can come to its end at once
-          pub all_can_come : All (λ b. GoesOn b → CanCome until b) mids
+          pub all_can_come : All (λ b. BodyGoesOn b → CanCome until b) mids
           all_can_come i b low on =
-              let j = joint_on o kinds in
+              let j = joint_on_course o kinds in
               let count = mid.count in
               let before = sit.count in
               let inside : i < length kinds = omega (arith, low, count) in
@@ -217,9 +218,9 @@ module _ (o : Course) (kinds : List RuleKind) (is : IsJoint (joint_on o kinds)) 
               }
 
           -- a body at the end of the stretch stands for the player there
-          glide_stands : (i : ℕ) (b : Body) → i < length kinds → (new : Body) → Glides o takers until (get_or mids i b) new → StandsFor (players_after (joint_on o kinds) until i) new
+          glide_stands : (i : ℕ) (b : Body) → i < length kinds → (new : Body) → Glides o takers until (get_or mids i b) new → StandsFor (players_after (joint_on_course o kinds) until i) new
           glide_stands i b inside new glide =
-              let j = joint_on o kinds in
+              let j = joint_on_course o kinds in
               let count = mid.count in
               let before = sit.count in
               let there : i < length bs = omega (arith, inside, before) in
@@ -249,7 +250,7 @@ module _ (o : Course) (kinds : List RuleKind) (is : IsJoint (joint_on o kinds)) 
               let q_on : is_ended (instants j (players_after j n) i).mode ≡ false = ap (λ (p : Player). is_ended p.mode) here ∙ goes in
               let at : r.t ≡ n + 1 = pass_t c q ∙ ap (λ s. s + 1) (own_at o kinds is plain i n inside old was (mode ∙ goes)) in
               let time : body.t ≡ r.t = ap (λ (p : Player). p.t) same in
-              let on : GoesOn body = ap (λ (p : Player). is_ended p.mode) same ∙ ap is_ended (passes_passed c (takes_any c q) q.mode).mode ∙ goes in
+              let on : BodyGoesOn body = ap (λ (p : Player). is_ended p.mode) same ∙ ap is_ended (passes_passed c (takes_any c q) q.mode).mode ∙ goes in
               let less : until - body.t ≡ (until - n) - 1 = omega (arith, time, at) in
               let glided = glide.glides on (mid.timed i b inside) kind r.history in
               let seen_there = subst (λ (p : Player). seen new (glides (lane_case o takers kind) (until - body.t) p).history ≡ glides (lane_case o takers kind) (until - body.t) p) same glided in
@@ -261,9 +262,9 @@ module _ (o : Course) (kinds : List RuleKind) (is : IsJoint (joint_on o kinds)) 
               (cases_Bool (ends_at c n))
 
           -- on the way the rule was told nothing
-          glide_told : (i : ℕ) → i < length kinds → (players_after (joint_on o kinds) until i).history ≡ (players_after (joint_on o kinds) (suc n) i).history
+          glide_told : (i : ℕ) → i < length kinds → (players_after (joint_on_course o kinds) until i).history ≡ (players_after (joint_on_course o kinds) (suc n) i).history
           glide_told i inside =
-              let j = joint_on o kinds in
+              let j = joint_on_course o kinds in
               let c = own_case j i in
               let q = instant c (player_after c n) in
               let here = own_instant j is i inside n in
@@ -280,9 +281,9 @@ module _ (o : Course) (kinds : List RuleKind) (is : IsJoint (joint_on o kinds)) 
               (cases_Bool (ends_at c n))
 
           -- so do all, and the rules
-          pub top_glided : (news : List Body) → AllGlide o takers until mids news → Sit kind stands_for o kinds (players_after (joint_on o kinds) until) news rs
+          pub top_glided : (news : List Body) → AllGlide o takers until mids news → Sit kind stands_for o kinds (players_after (joint_on_course o kinds) until) news rs
           top_glided news all =
-              let j = joint_on o kinds in
+              let j = joint_on_course o kinds in
               let count = mid.count in
               let longer = all.count in
               record {

@@ -1,5 +1,6 @@
 -- What the sessions of a joint session within the limits keep.
 use Rattle.std.proofs.Common.{◌≡◌, ◌∙◌, ℕ, ◌<◌, ◌≤◌, false, List, length, get_or, map, sym, ap, subst, arith}
+use Rattle.lab_model.specs.Limits.{all_ahead}
 use Rattle.std.specs.List.{All}
 use Rattle.std.proofs.lemmas.List.{length-map}
 use Rattle.std.proofs.lemmas.List.Elements.{All-map}
@@ -10,13 +11,12 @@ use Rattle.lab_model.specs.Film.{Film, IsFilm, IsWithin}
 use Rattle.lab_model.specs.Fit.{SetupFits}
 use Rattle.lab_model.specs.Rules.{KindFits, RuleKind}
 use Rattle.player_core.specs.declared.session.Session.{Session}
-use Rattle.player_core.specs.Available.{all_ahead}
 use Rattle.player_core.specs.Scene.{IsTask, Task, task_of}
 use Rattle.player_core.specs.Session.{session_of, shown}
 use Rattle.player_core.proofs.Chain.{session_count, session_ends, session_rungs, session_times}
 use Rattle.shared_link.specs.Joint.{IsJoint, JointCase, case_at, joint_of, joint_session, players_of}
 use Rattle.shared_link.specs.Laws.{own_case}
-use Rattle.shared_link.specs.Table.{AreSessions, IsWhole}
+use Rattle.shared_link.specs.Table.{AreSessions, IsWholeSession}
 use Rattle.shared_link.proofs.Own.{alone_is_lone, own_is_case, session_own}
 
 -- what the joint session is called with keeps the limits
@@ -43,7 +43,7 @@ module _ {R : Type 0} (kind : R → RuleKind) (f : Film) (ps qs : List Period) (
 
 module _ (j : JointCase) (is : IsJoint j) (ss : List Session) (are : AreSessions j ss) where
   -- each keeps what every session does
-  pub all_whole : All (IsWhole j.film) ss
+  pub all_whole : All (IsWholeSession j.film) ss
   all_whole i s low =
       let count = are.count in
       let inside : i < players_of j = omega (arith, low, count) in

@@ -1,6 +1,7 @@
 -- Not part of the model: what the proofs keep.
 -- Calm stretches: milliseconds of several players in which nothing happens to any of them, as long as so many take.
 use Rattle.std.specs.Prelude.{◌≡◌, ℕ, ◌+◌, ◌-◌, ◌<◌, ◌≤◌, List, true, false, IfSome, length, get_or}
+use Rattle.network_clock.specs.Limits.{most_left}
 use Rattle.std.specs.List.{All}
 use Rattle.lab_model.specs.declared.trace.Period.{Period}
 use Rattle.lab_model.specs.Film.{IsWithin}
@@ -9,14 +10,13 @@ use Rattle.network_clock.specs.Network.{first_at, lands_on, lane_at, period_at, 
 use Rattle.player_core.specs.declared.body.Body.{Body}
 use Rattle.player_core.specs.declared.course.Course.{Course}
 use Rattle.player_core.specs.Course.{case_on}
-use Rattle.player_core.specs.Limits.{most_left}
 use Rattle.player_core.specs.Parts.{is_ended}
 use Rattle.player_core.specs.Quiet.{IsUntouched, glides}
 use Rattle.player_core.specs.Seen.{CanGlide, CanIdle, Follows, KnowsEnd, seen}
 use Rattle.player_core.specs.Sound.{asked_size}
 use Rattle.player_core.specs.State.{Case, Player}
 use Rattle.shared_link.specs.Joint.{JointCase, case_at, instants, players_after, players_of, takers_in, takes_bits}
-use Rattle.shared_link.specs.Table.{GoesOn, HasEnded}
+use Rattle.shared_link.specs.Table.{BodyGoesOn, HasEnded}
 
 -- the number of takers in the millisecond of an instant
 abbrev pub takers_at : JointCase → ℕ → ℕ
@@ -34,7 +34,7 @@ AreCalm j t ms = (i : ℕ) → i < players_of j → is_ended (instants j (player
     → IsCalm j (takers_at j t) t ms (case_at j i) (instants j (players_after j t) i)
 
 -- the milliseconds can be counted in which nothing happens to a body
-pub record CanRest (o : Course) (period : Period) (b : Body) : Type 0 where
+pub record CanRestTogether (o : Course) (period : Period) (b : Body) : Type 0 where
   pub idles : CanIdle o.scene.now.film o.scene.now.setup o.scene.now.ahead b
   pub left : IfSome b.download (λ r. IsWithin 1 most_left r.job.left)
   pub begins : IfSome b.download (λ r. spends period r.job ≡ false → b.t < r.begins)
@@ -53,7 +53,7 @@ lane_case o takers kind = record (case_on o kind) { network = lane_at o.scene.no
 -- a body has come to an instant at once, as one of so many takers, unless it has ended
 pub record Glides (o : Course) (takers until : ℕ) (old new : Body) : Type 0 where
   pub over : HasEnded old → new ≡ old
-  pub glides : GoesOn old → KnowsEnd o old → (kind : RuleKind) → Follows (glides (lane_case o takers kind) (until - old.t)) old new
+  pub glides : BodyGoesOn old → KnowsEnd o old → (kind : RuleKind) → Follows (glides (lane_case o takers kind) (until - old.t)) old new
   pub timed : KnowsEnd o old → KnowsEnd o new
 
 -- each has

@@ -1,5 +1,6 @@
 -- Several players on one link: the joint millisecond, and the joint session.
 use Rattle.std.specs.Prelude.{◌≡◌, ℕ, zero, suc, ◌+◌, ◌&&◌, Bool, true, false, List, [], length, get_or, if◌then◌else◌}
+use Rattle.lab_model.specs.Limits.{all_ahead}
 use Rattle.std.specs.List.{All}
 use Rattle.std.specs.Option.{option_map_or}
 use Rattle.lab_model.specs.declared.trace.Period.{Period}
@@ -10,7 +11,6 @@ use Rattle.lab_model.specs.Fit.{SetupFits}
 use Rattle.lab_model.specs.Rules.{KindFits, RuleKind, fixed}
 use Rattle.network_clock.specs.Network.{parted, period_at, spends}
 use Rattle.network_clock.specs.Search.{least_below}
-use Rattle.player_core.specs.Available.{all_ahead}
 use Rattle.player_core.specs.Limits.{latest_ms}
 use Rattle.player_core.specs.Parts.{instant, is_ended, pass_in}
 use Rattle.player_core.specs.Session.{Shown, shown_by}

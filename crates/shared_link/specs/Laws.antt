@@ -15,13 +15,13 @@ abbrev pub own_case : JointCase → ℕ → Case
 own_case j i = record (case_at j i) { network = share_at j }
 
 -- a joint session ends before 10 ^ 15: at its end each player has ended
-pub record Ends (j : JointCase) : Type 0 where
+pub record JointEnds (j : JointCase) : Type 0 where
   pub early : joint_end j < latest_ms
   pub ended : all_end_at j (joint_end j) ≡ true
 
 -- the law: so does every joint session within the limits
 abbrev pub JointSessionsEnd : Type 0
-JointSessionsEnd = (j : JointCase) → IsJoint j → Ends j
+JointSessionsEnd = (j : JointCase) → IsJoint j → JointEnds j
 
 -- the law: each player's part of it is the session of that player on its share of the link
 abbrev pub SessionsAreOwn : Type 0

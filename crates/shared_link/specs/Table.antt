@@ -1,6 +1,7 @@
 -- Not part of the model: what the proofs keep.
 -- What the bodies and rules of several players stand for, and what each step of the code makes of them.
 use Rattle.std.specs.Prelude.{◌≡◌, ℕ, ◌+◌, ◌-◌, ◌<◌, ◌≤◌, List, [], true, false, length, get_or}
+use Rattle.lab_model.specs.Limits.{all_ahead}
 use Rattle.std.specs.List.{All}
 use Rattle.lab_model.specs.declared.trace.Period.{Period}
 use Rattle.lab_model.specs.Film.{Film, rungs_of, segments_of}
@@ -8,23 +9,22 @@ use Rattle.lab_model.specs.Rules.{RuleKind}
 use Rattle.player_core.specs.declared.body.Body.{Body}
 use Rattle.player_core.specs.declared.course.Course.{Course}
 use Rattle.player_core.specs.declared.session.Session.{Session}
-use Rattle.player_core.specs.Available.{all_ahead}
 use Rattle.player_core.specs.Course.{case_on}
-use Rattle.player_core.specs.Limits.{latest_ms}
+use Rattle.player_core.specs.Limits.{latest_ms, most_played}
 use Rattle.player_core.specs.Parts.{instant, is_ended, pass_in}
 use Rattle.player_core.specs.Ready.{CanPass}
-use Rattle.player_core.specs.Seen.{KnowsEnd, StandsFor, Steps, mode_of, seen}
+use Rattle.player_core.specs.Seen.{KnowsEnd, StandsFor, StepsOn, mode_of, seen}
 use Rattle.player_core.specs.Session.{shown, shown_by}
 use Rattle.player_core.specs.Sound.{IsCase, Sound}
 use Rattle.player_core.specs.State.{Player, first_player}
 use Rattle.shared_link.specs.Joint.{JointCase, joint_of, joint_session, players_of}
 
 -- the joint case that a course makes with these rules
-abbrev pub joint_on : Course → List RuleKind → JointCase
-joint_on o rules = joint_of o.scene.now.film o.scene.now.periods o.scene.now.setup rules
+abbrev pub joint_on_course : Course → List RuleKind → JointCase
+joint_on_course o rules = joint_of o.scene.now.film o.scene.now.periods o.scene.now.setup rules
 
 -- a course without seeks, of a film on demand
-pub record IsPlain (o : Course) : Type 0 where
+pub record IsPlainCourse (o : Course) : Type 0 where
   pub seeks : o.seeks.now ≡ []
   pub ahead : o.scene.now.ahead ≡ all_ahead
 
@@ -37,11 +37,11 @@ abbrev pub HasEnded : Body → Type 0
 HasEnded b = is_ended (mode_of b.mode) ≡ true
 
 -- a body goes on
-abbrev pub GoesOn : Body → Type 0
-GoesOn b = is_ended (mode_of b.mode) ≡ false
+abbrev pub BodyGoesOn : Body → Type 0
+BodyGoesOn b = is_ended (mode_of b.mode) ≡ false
 
 -- so many bodies of players at the start
-pub record AreFirst (count : ℕ) (bs : List Body) : Type 0 where
+pub record AreFirstBodies (count : ℕ) (bs : List Body) : Type 0 where
   pub many : length bs ≡ count
   pub first : All (λ b. seen b [] ≡ first_player) bs
 
@@ -55,7 +55,7 @@ pub record CanMeet (o : Course) (rule : RuleKind) (b : Body) : Type 0 where
   pub sound : Sound (record (case_on o rule) { network = network }) from (seen b [])
   pub early : b.t < latest_ms
   pub keeps : o.scene.now.setup.abandon ≡ false
-  pub plain : IsPlain o
+  pub plain : IsPlainCourse o
 
 -- after an instant the body stands for what it makes of the player, and the rule was told what joined the history
 pub record Meets {R : Type 0} (kind : R → RuleKind) (stands_for : R → List ℕ → Type 0) (o : Course) (old new : Body) (rule heard : R) : Type 0 where
@@ -80,7 +80,7 @@ pub record AllMeet {R : Type 0} (kind : R → RuleKind) (stands_for : R → List
 -- a body has passed a millisecond on a share of the link, unless it has ended
 pub record Passes (o : Course) (share : Period) (old new : Body) : Type 0 where
   pub over : HasEnded old → new ≡ old
-  pub passes : GoesOn old → Steps o (λ c p. pass_in c share p) old new
+  pub passes : BodyGoesOn old → StepsOn o (λ c p. pass_in c share p) old new
 
 -- each has
 pub record AllPass (o : Course) (share : Period) (olds news : List Body) : Type 0 where
@@ -89,7 +89,7 @@ pub record AllPass (o : Course) (share : Period) (olds news : List Body) : Type 
 
 -- a millisecond can pass for each that goes on
 abbrev pub AllCanPass : List Body → Type 0
-AllCanPass bs = All (λ b. GoesOn b → CanPass (seen b [])) bs
+AllCanPass bs = All (λ b. BodyGoesOn b → CanPass (seen b [])) bs
 
 -- ---- the sessions
 
@@ -104,8 +104,8 @@ pub record AreSessions (j : JointCase) (ss : List Session) : Type 0 where
   pub each : (i : ℕ) (s : Session) → i < players_of j → shown (get_or ss i s) ≡ joint_session j i
 
 -- the session played at most 34000 segments of the film, ends before 10 ^ 15, and its times add up to no more than its end
-pub record IsWhole (f : Film) (s : Session) : Type 0 where
+pub record IsWholeSession (f : Film) (s : Session) : Type 0 where
   pub rungs : All (λ p. (p.rung < rungs_of f) × (p.segment < segments_of f)) s.played.items
-  pub count : length s.played.items ≤ 34000
+  pub count : length s.played.items ≤ most_played
   pub ends : s.end < latest_ms
   pub times : s.startup_ms + s.stall_ms + s.seek_ms ≤ s.end

@@ -2,17 +2,18 @@
 //! how they pass at once.
 
 ghost use Rattle.std.specs.Prelude.{◌≡◌, ℕ, ◌+◌, ◌-◌, ◌<◌, ◌≤◌, List};
+ghost use Rattle.network_clock.specs.Limits.{latest_answer};
 ghost use Rattle.std.specs.List.{All};
 ghost use Rattle.lab_model.specs.Cycle.{IsTrace};
 ghost use Rattle.lab_model.specs.Film.{size_of};
 ghost use Rattle.lab_model.specs.Rules.{RuleKind};
 ghost use Rattle.network_clock.specs.Network.{first_at, lane_at, period_at};
-ghost use Rattle.player_core.specs.Limits.{latest_answer, latest_ms};
+ghost use Rattle.player_core.specs.Limits.{latest_ms};
 ghost use Rattle.player_core.specs.Quiet.{taken_ms, takes_all};
 ghost use Rattle.player_core.specs.Seen.{CanMove, CanTake, Follows, KnowsEnd, SameRequest, download_of, seen};
 ghost use Rattle.player_core.specs.State.{Case};
-ghost use Rattle.shared_link.specs.Calm.{AllGlide, CanCome, CanRest, Glides, StaysCalm, lane_case};
-ghost use Rattle.shared_link.specs.Table.{GoesOn};
+ghost use Rattle.shared_link.specs.Calm.{AllGlide, CanCome, CanRestTogether, Glides, StaysCalm, lane_case};
+ghost use Rattle.shared_link.specs.Table.{BodyGoesOn};
 
 use lab_model::Period;
 use network_clock::Link;
@@ -26,7 +27,7 @@ fn calm_until(course: &Course<'_>, link: &Link, body: &Body, period: Period, tak
     requires takers { takers ≤ link.now.most }
     requires period { period ≡ period_at course.now.scene.now.periods body.now.t }
     requires instant { body.now.t < latest_ms }
-    requires rest { CanRest course.now period body.now }
+    requires rest { CanRestTogether course.now period body.now }
     ensures { StaysCalm course.now takers result body.now }
 {
     let own = body.t + body.untouched_ms(course);
@@ -50,10 +51,10 @@ pub fn all_calm_until(
     requires takers { takers ≤ link.now.most }
     requires period { period ≡ period_at course.now.scene.now.periods t }
     requires instant { t < latest_ms }
-    requires rest { All (λ b. GoesOn b → (b.t ≡ t) × CanRest course.now period b) bodies.now }
+    requires rest { All (λ b. BodyGoesOn b → (b.t ≡ t) × CanRestTogether course.now period b) bodies.now }
     ensures later { t < result }
     ensures limit { result ≤ t + latest_ms }
-    ensures calm { All (λ b. GoesOn b → StaysCalm course.now takers result b) bodies.now }
+    ensures calm { All (λ b. BodyGoesOn b → StaysCalm course.now takers result b) bodies.now }
 {
     let mut until = t + LATEST_MS;
     for body in bodies {
@@ -111,7 +112,7 @@ fn glide(course: &Course<'_>, link: &Link, body: &mut Body, takers: u8, until: u
     requires trace { IsTrace link.now.periods }
     requires link { link.now.periods ≡ course.now.scene.now.periods }
     requires takers { takers ≤ link.now.most }
-    requires comes { GoesOn body.old → CanCome until body.old }
+    requires comes { BodyGoesOn body.old → CanCome until body.old }
     ensures { Glides course.now takers until body.old body.new }
 {
     if body.mode.is_ended() {
@@ -128,7 +129,7 @@ pub fn glide_all(course: &Course<'_>, link: &Link, bodies: &mut [Body], takers: 
     requires trace { IsTrace link.now.periods }
     requires link { link.now.periods ≡ course.now.scene.now.periods }
     requires takers { takers ≤ link.now.most }
-    requires comes { All (λ b. GoesOn b → CanCome until b) bodies.old }
+    requires comes { All (λ b. BodyGoesOn b → CanCome until b) bodies.old }
     ensures { AllGlide course.now takers until bodies.old bodies.new }
 {
     for body in bodies.iter_mut() {

@@ -13,6 +13,4 @@ pub use laws::{alone_is_lone, joint_sessions_end, sessions_are_own};
 pub use play::play_shared;
 
 #[cfg(test)]
-mod plain;
-#[cfg(test)]
 mod tests;

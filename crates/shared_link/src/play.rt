@@ -1,16 +1,16 @@
 //! The joint session, from event to event.
 
 ghost use Rattle.std.specs.Prelude.{◌≡◌, ℕ, [], false, length, map, get_or, IfOk};
+ghost use Rattle.lab_model.specs.Limits.{all_ahead};
 ghost use Rattle.std.specs.List.{All};
 ghost use Rattle.lab_model.specs.Film.{IsWithin};
 ghost use Rattle.lab_model.specs.Fit.{SetupFits};
 ghost use Rattle.lab_model.specs.Rules.{KindFits, fixed};
 ghost use Rattle.network_clock.specs.Shared.{shared};
-ghost use Rattle.player_core.specs.Available.{all_ahead};
 ghost use Rattle.player_core.specs.Session.{session_of, shown};
 ghost use Rattle.player_core.specs.State.{case_of};
 ghost use Rattle.shared_link.specs.Joint.{IsJoint, joint_of};
-ghost use Rattle.shared_link.specs.Table.{AreSessions, IsPlain, IsWhole, joint_on};
+ghost use Rattle.shared_link.specs.Table.{AreSessions, IsPlainCourse, IsWholeSession, joint_on_course};
 
 use crate::calm::{all_calm_until, glide_all};
 use crate::joint::Joint;
@@ -29,12 +29,12 @@ fn play_on<T: Rule + Drop>(
     link: &Link,
     rules: Vec<T>,
 ) -> Result<Joint, NoMemory>
-    requires joint { IsJoint (joint_on course.now (map T.kind rules.items)) }
-    requires plain { IsPlain course.now }
+    requires joint { IsJoint (joint_on_course course.now (map T.kind rules.items)) }
+    requires plain { IsPlainCourse course.now }
     requires link { link.now ≡ shared course.now.scene.now.periods (length rules.items) }
     requires told { All (λ r. T.stands_for r []) rules.items }
     ensures { IfOk result (λ g.
-        AreSessions (joint_on course.now (map T.kind rules.items)) g.sessions.items) }
+        AreSessions (joint_on_course course.now (map T.kind rules.items)) g.sessions.items) }
 {
     let mut rules = rules;
     let mut bodies = first_bodies(alloc, rules.len())?;
@@ -73,7 +73,7 @@ pub fn play_shared<T: Rule + Drop>(
     requires told { All (λ r. T.stands_for r []) rules.items }
     ensures sessions { IfOk result (λ g. AreSessions
         (joint_of m.now trace.now set.now (map T.kind rules.items)) g.sessions.items) }
-    ensures whole { IfOk result (λ g. All (IsWhole m.now) g.sessions.items) }
+    ensures whole { IfOk result (λ g. All (IsWholeSession m.now) g.sessions.items) }
     ensures alone { length rules.items ≡ 1 → IfOk result (λ g. All (λ s. shown s ≡ session_of
         (case_of m.now trace.now set.now [] all_ahead
         (get_or (map T.kind rules.items) 0 (fixed 0)))) g.sessions.items) }

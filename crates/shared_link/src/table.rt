@@ -6,7 +6,7 @@ ghost use Rattle.player_core.specs.Ready.{CanPass};
 ghost use Rattle.player_core.specs.Seen.{seen};
 ghost use Rattle.player_core.specs.State.{Player};
 ghost use Rattle.shared_link.specs.Joint.{takers_in, takes_bits};
-ghost use Rattle.shared_link.specs.Table.{AllCanMeet, AllCanPass, AllMeet, AllPass, AreFirst, AreShown, CanMeet, GoesOn, HasEnded, Meets, Passes, Stand};
+ghost use Rattle.shared_link.specs.Table.{AllCanMeet, AllCanPass, AllMeet, AllPass, AreFirstBodies, AreShown, CanMeet, BodyGoesOn, HasEnded, Meets, Passes, Stand};
 
 use lab_model::{NoMemory, Period, Rule};
 use player_core::Session;
@@ -15,7 +15,7 @@ use std::alloc::Global;
 
 /// So many players at the start.
 pub fn first_bodies(alloc: Global, count: usize) -> Result<Vec<Body>, NoMemory>
-    ensures { IfOk result (λ bs. AreFirst count bs.items) }
+    ensures { IfOk result (λ bs. AreFirstBodies count bs.items) }
 {
     let mut bodies = Vec::new(alloc);
     for _place in 0..count {
@@ -88,7 +88,7 @@ pub fn count_takers(bodies: &[Body], period: Period) -> u8
 
 /// A millisecond passes for a player on this share of the link, unless it has ended.
 fn pass(course: &Course<'_>, body: &mut Body, share: Period) -> Result<(), NoMemory>
-    requires { GoesOn body.old → CanPass (seen body.old []) }
+    requires { BodyGoesOn body.old → CanPass (seen body.old []) }
     ensures { IfOk result (λ _. Passes course.now share body.old body.new) }
 {
     if body.mode.is_ended() {

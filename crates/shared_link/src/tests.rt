@@ -1,6 +1,5 @@
 //! Worked examples of several players on one link, and short joint sessions, with answers from outside.
 
-use crate::plain::play_plainly;
 use crate::{Joint, MOST_PLAYERS, play_shared};
 use lab_model::{Manifest, Period, Rule, Setup, Trace, Weights};
 use player_core::{Event, Listed};
@@ -20,8 +19,6 @@ struct Case {
     buffer_ms: u32,
     /// For each player a rung for each segment.
     rungs: &'static [&'static [u8]],
-    /// Whether it is short enough to be played millisecond by millisecond.
-    short: bool,
     /// Each player's events, and then startup, stall and stalls.
     text: &'static str,
 }
@@ -37,7 +34,6 @@ const CASES: [Case; 6] = [
         periods: &[(60_000, 2_000_000, 0)],
         buffer_ms: 10_000,
         rungs: &[&[1, 1, 1], &[1, 1, 1]],
-        short: true,
         text: "0r1 2000a0:1000000 2000r1 2000p0 3000s 4000a2000:1000000 4000r1 4000p1 5000s \
             6000a4000:1000000 6000p2 7000e 2000 2000 2|0r1 2000a0:1000000 2000r1 2000p0 3000s \
             4000a2000:1000000 4000r1 4000p1 5000s 6000a4000:1000000 6000p2 7000e 2000 2000 2|",
@@ -52,7 +48,6 @@ const CASES: [Case; 6] = [
         periods: &[(60_000, 2_000_000, 0)],
         buffer_ms: 10_000,
         rungs: &[&[0, 0, 0], &[1, 1, 1]],
-        short: true,
         text: "0r0 1000a0:1000000 1000r0 1000p0 2000a1000:1000000 2000r0 2000p1 3000a2000:1000000 \
             3000p2 4000e 1000 0 0|0r1 2000a0:1000000 2000r1 2000p0 3000s 3500a2000:1333333 \
             3500r1 3500p1 4500a3500:2000000 4500p2 5500e 2000 500 1|",
@@ -67,7 +62,6 @@ const CASES: [Case; 6] = [
         periods: &[(900, 2_000_000, 70), (350, 0, 10), (800, 3_000_000, 0)],
         buffer_ms: 2000,
         rungs: &[&[1, 0, 1]],
-        short: true,
         text: "0r1 1364a70:1545595 1364r0 1364p0 1698a1364:2994011 2364r1 2364p1 3364s \
             3623a2434:1682085 3623p2 4623e 1364 259 1|",
     },
@@ -84,7 +78,6 @@ const CASES: [Case; 6] = [
         ],
         buffer_ms: 1200,
         rungs: &[&[0, 1, 0], &[1, 1, 0], &[0, 0, 0]],
-        short: true,
         text: "0r0 241a40:1492542 241p0 641r1 1041s 1253a681:1748267 1253p1 1653r0 \
             1955a1713:1446326 2053p2 2853e 241 212 1|0r1 375a40:2686588 375p0 775r1 1175s \
             1258a925:3003030 1258p1 1658r0 1957a1718:1464481 2058p2 2858e 375 83 1|0r0 \
@@ -113,7 +106,6 @@ const CASES: [Case; 6] = [
             &[1, 0, 1],
             &[0, 0, 1],
         ],
-        short: true,
         text: "0r0 201a40:186341 201p0 301r1 515a410:952466 701p1 801r0 1105a841:132617 1201p2 \
             1701e 201 0 0|0r0 201a40:186341 201p0 301r1 515a410:952466 701p1 801r0 \
             1105a841:132617 1201p2 1701e 201 0 0|0r1 471a40:208832 471p0 571r0 680a631:816387 \
@@ -147,7 +139,6 @@ const CASES: [Case; 6] = [
             &[0, 0],
             &[0, 0],
         ],
-        short: false,
         text: "0r0 782338735a9000:127 782338735p0 782398735r1 782398735s 1814764702a782403735:145 \
             1814764702p1 1814824702e 782338735 1032365967 1|0r0 782338735a9000:127 782338735p0 \
             782398735r1 782398735s 1814764702a782403735:145 1814764702p1 1814824702e 782338735 \
@@ -202,8 +193,8 @@ fn rules(alloc: Global, case: &Case) -> Result<Vec<Listed>, Fail> {
     Ok(rules)
 }
 
-/// The joint session of a case, from event to event or millisecond by millisecond.
-fn joint(rt: &impl Abort, alloc: Global, case: &Case, plainly: bool) -> Result<Joint, Fail> {
+/// The joint session of a case.
+fn joint(rt: &impl Abort, alloc: Global, case: &Case) -> Result<Joint, Fail> {
     let m = film(alloc, case)?;
     let trace = trace(alloc, case)?;
     let set = setup(alloc, case)?;
@@ -211,11 +202,7 @@ fn joint(rt: &impl Abort, alloc: Global, case: &Case, plainly: bool) -> Result<J
     assert!(rt; set.fits(&m) && !set.abandon);
     assert!(rt; !rules.is_empty() && rules.len() <= MOST_PLAYERS);
     assert!(rt; rules.iter().all(|rule| rule.fits(&m)));
-    Ok(if plainly {
-        play_plainly(alloc, &m, &trace, &set, rules)?
-    } else {
-        play_shared(alloc, &m, &trace, &set, rules)?
-    })
+    Ok(play_shared(alloc, &m, &trace, &set, rules)?)
 }
 
 fn text_of(alloc: Global, event: Event) -> Result<String, Fail> {
@@ -261,21 +248,8 @@ fn joint_text(alloc: Global, joint: &Joint) -> Result<String, Fail> {
 fn joint_sessions(rt: HostRuntime) -> Result<(), Fail> {
     let alloc = rt.alloc();
     for case in &CASES {
-        let events = joint(&rt, alloc, case, false)?;
+        let events = joint(&rt, alloc, case)?;
         assert_eq!(rt; joint_text(alloc, &events)?.as_str(), case.text);
-    }
-    Ok(())
-}
-
-/// The body that goes millisecond by millisecond shows the same.
-#[test]
-fn plain_joint_sessions(rt: HostRuntime) -> Result<(), Fail> {
-    let alloc = rt.alloc();
-    for case in &CASES {
-        if case.short {
-            let plain = joint(&rt, alloc, case, true)?;
-            assert_eq!(rt; joint_text(alloc, &plain)?.as_str(), case.text);
-        }
     }
     Ok(())
 }

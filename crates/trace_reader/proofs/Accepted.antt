@@ -3,7 +3,7 @@ use Rattle.std.proofs.Common.{◌≡◌, ◌*◌, ℕ, cond, nat_lt, List, lengt
 use Rattle.std.specs.List.{All}
 use Rattle.std.proofs.lemmas.Bool.Decides.{nat_tests}
 use Rattle.serde_json.specs.Data.{Data}
-use Rattle.json_fields.specs.Fields.{value_of}
+use Rattle.json_fields.specs.Fields.{json_value_of}
 use Rattle.lab_model.proofs.Steps.{test_err, then_ok}
 use Rattle.csv_records.specs.Table.{table_of}
 use Rattle.lab_model.specs.Cycle.{IsPeriod, IsTrace, cycle_bits, cycle_ms}
@@ -14,7 +14,7 @@ use Rattle.lab_model.specs.declared.fault.Key.TheVariants as key
 use Rattle.trace_reader.specs.Cycle.{good_cycle}
 use Rattle.lab_model.specs.Reading.{refusal}
 use Rattle.reader_faults.specs.Faults.{value_at}
-use Rattle.trace_reader.specs.Trace.{periods_of, trace_json, trace_of}
+use Rattle.trace_reader.specs.Trace.{periods_of, trace_json, trace_of_json}
 use Rattle.trace_reader.specs.TraceCsv.{table_periods, trace_csv_of}
 use Rattle.trace_reader.proofs.CsvLimits.{table_periods-count, table_periods-periods}
 use Rattle.trace_reader.proofs.Limits.{periods_of-count, periods_of-periods}
@@ -26,8 +26,8 @@ good_cycle-limits ps qs count periods h =
     let same : ps ≡ qs = cc in
     subst IsTrace same (record { count = count; periods = periods; cycle = grind (arith, nat_tests, short.0); carries = grind (arith, nat_tests, carries.0) })
 
-trace_of-limits : (d : Data) (qs : List Period) → trace_of d ≡ Ok qs → IsTrace qs
-trace_of-limits d qs h =
+trace_of_json-limits : (d : Data) (qs : List Period) → trace_of_json d ≡ Ok qs → IsTrace qs
+trace_of_json-limits d qs h =
     let ps = then_ok (periods_of d) good_cycle qs h in
     good_cycle-limits ps.0 qs (periods_of-count d ps.0 ps.1) (periods_of-periods d ps.0 ps.1) ps.2
 
@@ -35,8 +35,8 @@ trace_of-limits d qs h =
 pub trace_json-limits : (bytes : List ℕ) (ps : List Period) → trace_json bytes ≡ Ok ps → IsTrace ps
 unfolding trace_json
 trace_json-limits bytes ps h =
-    let d = then_ok (value_at key.Whole 0 0 (value_of bytes)) trace_of ps h in
-    trace_of-limits d.0 ps d.2
+    let d = then_ok (value_at key.Whole 0 0 (json_value_of bytes)) trace_of_json ps h in
+    trace_of_json-limits d.0 ps d.2
 
 -- what a CSV trace is accepted as keeps the limits
 pub trace_csv-limits : (bytes : List ℕ) (ps : List Period) → trace_csv_of bytes ≡ Ok ps → IsTrace ps

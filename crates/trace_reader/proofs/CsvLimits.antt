@@ -16,7 +16,8 @@ use Rattle.lab_model.specs.declared.trace.Period.{Period}
 use Rattle.lab_model.specs.declared.fault.Kind.TheVariants as kind
 use Rattle.lab_model.specs.declared.fault.Key.TheVariants as key
 use Rattle.lab_model.specs.Reading.{refusal}
-use Rattle.trace_reader.specs.TraceCsv.{bandwidth_in, behind_header, row_within, duration_in, periods_to_end, latency_in, period, period_in_row, table_periods}
+use Rattle.reader_faults.specs.Header.{behind_header}
+use Rattle.trace_reader.specs.TraceCsv.{bandwidth_in, trace_row_within, duration_in, periods_to_end, latency_in, period, period_in_row, table_periods, is_trace_header}
 
 -- what a period that was read keeps
 record Keeps (row : ℕ) (p : Period) : Type 0 where
@@ -28,7 +29,7 @@ keeps-of row duration_ms bandwidth latency few a b c = record { few = few; limit
 
 keeps : (row : ℕ) (r : List (List ℕ)) (p : Period) → period_in_row row r ≡ Ok p → Keeps row p
 keeps row r p h =
-    let a = then_ok (row_within row) (λ _. duration_in row r >>= (λ x. bandwidth_in row r >>= (λ y. latency_in row r >>= (λ z. Ok (period x y z))))) p h in
+    let a = then_ok (trace_row_within row) (λ _. duration_in row r >>= (λ x. bandwidth_in row r >>= (λ y. latency_in row r >>= (λ z. Ok (period x y z))))) p h in
     let b = then_ok (duration_in row r) (λ x. bandwidth_in row r >>= (λ y. latency_in row r >>= (λ z. Ok (period x y z)))) p a.2 in
     let c = then_ok (bandwidth_in row r) (λ y. latency_in row r >>= (λ z. Ok (period b.0 y z))) p b.2 in
     let d = then_ok (latency_in row r) (λ z. Ok (period b.0 c.0 z)) p c.2 in
@@ -52,7 +53,7 @@ record Limits (ps : List Period) : Type 0 where
 
 limits : (t : Table) (qs : List Period) → table_periods t ≡ Ok qs → Limits qs
 limits t qs h =
-    let rs = then_ok (behind_header t.rows) (λ rs. each_from period_in_row 2 rs >>= periods_to_end t.uneven) qs h in
+    let rs = then_ok (behind_header is_trace_header t.rows) (λ rs. each_from period_in_row 2 rs >>= periods_to_end t.uneven) qs h in
     let ps = then_ok (each_from period_in_row 2 rs.0) (periods_to_end t.uneven) qs rs.2 in
     let last = periods_to_end-ok t.uneven ps.0 qs ps.2 in
     let most : length ps.0 + 2 ≤ 100001 + 1 = each_most (λ (_ : Option Period). period_in_row) 100001 None 2 rs.0 ps.0 (λ b p r s e. (keeps p r s e).few) ps.1 (omega arith) in

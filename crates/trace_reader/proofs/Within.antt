@@ -11,7 +11,8 @@ use Rattle.lab_model.specs.declared.fault.Kind.TheVariants as kind
 use Rattle.lab_model.specs.declared.fault.Key.TheVariants as key
 use Rattle.trace_reader.specs.Cycle.{good_cycle}
 use Rattle.lab_model.specs.Reading.{refusal}
-use Rattle.trace_reader.specs.TraceCsv.{behind_header, periods_to_end, is_header, period_in_row, table_trace, trace_csv_of}
+use Rattle.reader_faults.specs.Header.{behind_header}
+use Rattle.trace_reader.specs.TraceCsv.{periods_to_end, is_trace_header, period_in_row, table_trace, trace_csv_of}
 
 -- no period is read behind the row 100001
 last_row : EndsAt 100001 (λ (_ : Option Period). period_in_row)
@@ -22,4 +23,4 @@ pub trace_within : (bytes : List ℕ) → table_trace (table_within 100002 bytes
 unfolding trace_csv_of
 trace_within bytes =
     ap (λ (ps : Result (List Period) Refusal). ps >>= good_cycle)
-    (reads_within behind_header is_header (refusal kind.Shape key.Header 1 0) (λ (_ : Option Period). period_in_row) 100001 periods_to_end (λ r rs. refl) last_row (omega arith) bytes)
+    (reads_within (behind_header is_trace_header) is_trace_header (refusal kind.Shape key.Header 1 0) (λ (_ : Option Period). period_in_row) 100001 periods_to_end (λ r rs. refl) last_row (omega arith) bytes)

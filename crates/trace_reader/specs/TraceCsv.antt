@@ -10,20 +10,16 @@ use Rattle.lab_model.specs.declared.fault.Key.TheVariants as key
 use Rattle.lab_model.specs.Reading.{refusal}
 use Rattle.reader_faults.specs.Each.{each_from}
 use Rattle.reader_faults.specs.Faults.{field_at}
+use Rattle.reader_faults.specs.Header.{behind_header}
 use Rattle.trace_reader.specs.Cycle.{good_cycle}
 
 -- the record is the three fields `duration_ms`, `bandwidth_kbps` and `latency_ms`
-abbrev pub is_header : Fields → Bool
-is_header r = (length r == 3) && is_named 0 (codes "duration_ms") r && is_named 1 (codes "bandwidth_kbps") r && is_named 2 (codes "latency_ms") r
-
--- the records behind the header
-abbrev pub behind_header : List Fields → Result (List Fields) Refusal
-behind_header [] = Err (refusal kind.Empty key.Whole 0 0)
-behind_header (r ∷ rs) = if is_header r then Ok rs else Err (refusal kind.Shape key.Header 1 0)
+abbrev pub is_trace_header : Fields → Bool
+is_trace_header r = (length r == 3) && is_named 0 (codes "duration_ms") r && is_named 1 (codes "bandwidth_kbps") r && is_named 2 (codes "latency_ms") r
 
 -- a row of one of the 100000 records behind the header
-abbrev pub row_within : ℕ → Result ℕ Refusal
-row_within row = if nat_lt 100001 row then Err (refusal kind.OutOfRange key.Whole row 0) else Ok row
+abbrev pub trace_row_within : ℕ → Result ℕ Refusal
+trace_row_within row = if nat_lt 100001 row then Err (refusal kind.OutOfRange key.Whole row 0) else Ok row
 
 -- the duration in ms
 abbrev pub duration_in : ℕ → Fields → Result ℕ Refusal
@@ -44,7 +40,7 @@ period duration_ms bandwidth latency = record { duration_ms = duration_ms; bandw
 -- the period in a row
 abbrev pub period_in_row : ℕ → Fields → Result Period Refusal
 period_in_row row r = do
-  _ ← row_within row
+  _ ← trace_row_within row
   duration_ms ← duration_in row r
   bandwidth ← bandwidth_in row r
   latency ← latency_in row r
@@ -59,7 +55,7 @@ periods_to_end None (p ∷ ps) = Ok (p ∷ ps)
 -- the periods of a table
 abbrev pub table_periods : Table → Result (List Period) Refusal
 table_periods t = do
-  rs ← behind_header t.rows
+  rs ← behind_header is_trace_header t.rows
   ps ← each_from period_in_row 2 rs
   periods_to_end t.uneven ps
 

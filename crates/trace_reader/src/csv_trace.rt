@@ -10,7 +10,7 @@ ghost use Rattle.csv.specs.Records.{fields_of};
 ghost use Rattle.csv_records.specs.Table.{table_within};
 ghost use Rattle.csv_records.specs.Walk.{HasGiven};
 ghost use Rattle.lab_model.specs.Reading.{Gives};
-ghost use Rattle.trace_reader.specs.TraceCsv.{bandwidth_in, row_within, duration_in, is_header, latency_in, period_in_row, periods_to_end, table_periods, trace_csv_of};
+ghost use Rattle.trace_reader.specs.TraceCsv.{bandwidth_in, trace_row_within, duration_in, is_trace_header, latency_in, period_in_row, periods_to_end, table_periods, trace_csv_of};
 ghost use Rattle.trace_reader.specs.Walked.{Headed};
 
 use crate::cycle::whole_trace;
@@ -29,8 +29,8 @@ const LAST_ROW: u32 = MOST_PERIODS as u32 + 1;
 /// How many records are read: those of the longest trace, and the one behind them.
 const MOST_RECORDS: usize = LAST_ROW as usize + 1;
 
-fn is_header(fields: &ByteRecord) -> bool
-    ensures { result ≡ is_header (fields_of fields.now) }
+fn is_trace_header(fields: &ByteRecord) -> bool
+    ensures { result ≡ is_trace_header (fields_of fields.now) }
 {
     fields.len() == 3
         && is_named(fields, 0, "duration_ms")
@@ -44,7 +44,7 @@ fn read_header(walk: &mut Walk<'_>) -> Result<(), InputFault>
         → Headed bytes result walk.new }
 {
     match walk.advance() {
-        Ok(true) => if is_header(walk.row()) {
+        Ok(true) => if is_trace_header(walk.row()) {
             Ok(())
         } else {
             Err(refusal(Kind::Shape, Key::Header, 1, 0))
@@ -56,8 +56,8 @@ fn read_header(walk: &mut Walk<'_>) -> Result<(), InputFault>
 }
 
 /// A row, if it is one of the 100000 behind the header.
-fn row_within(row: u32) -> Result<u32, InputFault>
-    ensures row { Gives (λ n. n) result (row_within row) }
+fn trace_row_within(row: u32) -> Result<u32, InputFault>
+    ensures row { Gives (λ n. n) result (trace_row_within row) }
     ensures few { OnOk result (row ≤ 100001) }
 {
     if row > LAST_ROW {
@@ -95,7 +95,7 @@ fn period_in_row(fields: &ByteRecord, row: u32) -> Result<Period, InputFault>
     ensures period { Gives (λ p. p) result (period_in_row row (fields_of fields.now)) }
     ensures few { OnOk result (row ≤ 100001) }
 {
-    row_within(row)?;
+    trace_row_within(row)?;
     let duration_ms = duration_in(fields, row)?;
     let bandwidth = bandwidth_in(fields, row)?;
     let latency = latency_in(fields, row)?;

@@ -8,7 +8,7 @@ ghost use Rattle.std.specs.Prelude.{◌≡◌, ◌≤◌, IfOk, length, map};
 ghost use Rattle.serde_json.specs.View.{view};
 ghost use Rattle.lab_model.specs.Reading.{Gives};
 ghost use Rattle.reader_faults.specs.Each.{each_from};
-ghost use Rattle.trace_reader.specs.Trace.{field_of, fields_of, members_of, period_in, periods_of, trace_json, trace_of};
+ghost use Rattle.trace_reader.specs.Trace.{field_of, period_of_object, period_members, json_period_in, periods_of, trace_json, trace_of_json};
 
 use crate::cycle::whole_trace;
 use lab_model::{
@@ -20,8 +20,8 @@ use serde_json::Value;
 use std::alloc::Global;
 
 /// The members of the list that a value is.
-fn members_of(value: &Value) -> Result<&[Value], InputFault>
-    ensures list { Gives (λ v. map view v.now) result (members_of (view value.now)) }
+fn period_members(value: &Value) -> Result<&[Value], InputFault>
+    ensures list { Gives (λ v. map view v.now) result (period_members (view value.now)) }
     ensures most { IfOk result (λ v. length v.now ≤ 100000) }
 {
     let values = value_at(json_fields::list_from(value), Key::Whole, 0, 0)?;
@@ -48,8 +48,8 @@ fn field_of(
 }
 
 /// The period that an object is.
-fn fields_of(object: &Value, row: u32) -> Result<Period, InputFault>
-    ensures { Gives (λ p. p) result (fields_of row (view object.now)) }
+fn period_of_object(object: &Value, row: u32) -> Result<Period, InputFault>
+    ensures { Gives (λ p. p) result (period_of_object row (view object.now)) }
 {
     let duration_ms = field_of(
         object,
@@ -76,21 +76,21 @@ fn fields_of(object: &Value, row: u32) -> Result<Period, InputFault>
 }
 
 /// The period in a row.
-fn period_in(value: &Value, row: u32) -> Result<Period, InputFault>
-    ensures { Gives (λ p. p) result (period_in row (view value.now)) }
+fn json_period_in(value: &Value, row: u32) -> Result<Period, InputFault>
+    ensures { Gives (λ p. p) result (json_period_in row (view value.now)) }
 {
     let object = value_at(json_fields::object_from(value), Key::Period, row, 0)?;
-    fields_of(object, row)
+    period_of_object(object, row)
 }
 
 /// The periods that the members of a list are.
 fn all_periods(alloc: Global, values: &[Value]) -> Result<Vec<Period>, InputFault>
     requires { length values.now ≤ 100000 }
-    ensures { Gives (λ v. v.items) result (each_from period_in 1 (map view values.now)) }
+    ensures { Gives (λ v. v.items) result (each_from json_period_in 1 (map view values.now)) }
 {
     let mut periods = Vec::new(alloc);
     for (i, value) in values.iter().enumerate() {
-        let period = period_in(value, i as u32 + 1)?;
+        let period = json_period_in(value, i as u32 + 1)?;
         periods.push(period)?;
     }
     Ok(periods)
@@ -100,13 +100,13 @@ fn all_periods(alloc: Global, values: &[Value]) -> Result<Vec<Period>, InputFaul
 fn periods_of(alloc: Global, value: &Value) -> Result<Vec<Period>, InputFault>
     ensures { Gives (λ v. v.items) result (periods_of (view value.now)) }
 {
-    let values = members_of(value)?;
+    let values = period_members(value)?;
     all_periods(alloc, values)
 }
 
 /// The trace that a value is.
-fn trace_of(alloc: Global, value: &Value) -> Result<Trace, InputFault>
-    ensures { Gives (λ t. t) result (trace_of (view value.now)) }
+fn trace_of_json(alloc: Global, value: &Value) -> Result<Trace, InputFault>
+    ensures { Gives (λ t. t) result (trace_of_json (view value.now)) }
 {
     let periods = periods_of(alloc, value)?;
     whole_trace(periods)
@@ -119,5 +119,5 @@ pub fn read_trace_json(alloc: Global, bytes: &[u8]) -> Result<Trace, InputFault>
     ensures { Gives (λ t. t) result (trace_json bytes.now) }
 {
     let value = whole_value(alloc, bytes)?;
-    trace_of(alloc, &value)
+    trace_of_json(alloc, &value)
 }

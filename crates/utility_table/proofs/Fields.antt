@@ -1,5 +1,5 @@
 -- The fields of a record, by their columns.
-use Rattle.std.proofs.Common.{◌≡◌, ◌<◌, ℕ, zero, suc, List, [], ◌∷◌, Some, get_or, length, refl, ap, arith}
+use Rattle.std.proofs.Common.{◌≡◌, ◌<◌, ℕ, zero, suc, [], ◌∷◌, Some, get_or, length, refl, ap, arith}
 use Rattle.csv.specs.Records.{field_at}
 use Rattle.csv_records.specs.Field.{field_in, or_nothing, without_blanks}
 use Rattle.csv_records.specs.Table.{Fields}

@@ -1,5 +1,5 @@
 -- A table that was read keeps the limits of utilities.
-use Rattle.std.proofs.Common.{◌≡◌, ◌∙◌, ◌+◌, ◌*◌, ◌<◌, ◌≤◌, ◌==◌, ℕ, zero, suc, nat_lt, List, [], ◌∷◌, get_or, length, map, max, Option, Some, None, Ok, Err, refl, sym, ap, subst, arith}
+use Rattle.std.proofs.Common.{◌≡◌, ◌∙◌, ◌+◌, ◌*◌, ◌<◌, ◌≤◌, ◌==◌, ℕ, zero, suc, nat_lt, List, [], ◌∷◌, get_or, length, map, max, Option, Some, None, Ok, sym, ap, subst, arith}
 use Rattle.std.specs.List.{All, concat}
 use Rattle.std.proofs.lemmas.Bool.Decides.{nat_tests}
 use Rattle.std.proofs.lemmas.List.{length-map}
@@ -7,7 +7,7 @@ use Rattle.csv_records.specs.Table.{Fields, Table, table_of}
 use Rattle.csv_records.specs.Field.{whole_number, without_blanks}
 use Rattle.lab_model.specs.Film.{IsWithin, most_rungs, most_segments}
 use Rattle.lab_model.specs.Reading.{refusal}
-use Rattle.lab_model.specs.Row.{AreUtilities, IsRow, row_of}
+use Rattle.lab_model.specs.Row.{AreUtilities, IsRow}
 use Rattle.lab_model.specs.Steps.{◌>>=◌}
 use Rattle.lab_model.specs.declared.fault.Kind.TheVariants as kind
 use Rattle.lab_model.specs.declared.fault.Key.TheVariants as key
@@ -17,7 +17,7 @@ use Rattle.reader_faults.specs.Faults.{field_at}
 use Rattle.reader_faults.proofs.Each.{each_all, each_count, each_most}
 use Rattle.reader_faults.proofs.Places.{field_at-ok}
 use Rattle.reader_faults.proofs.Ranges.{whole_number-within}
-use Rattle.utility_table.specs.Table.{full_row, not_below, row_in, row_within, rows_to_end, table_rows, utilities_of, utility_in}
+use Rattle.utility_table.specs.Table.{full_row, not_below, utilities_in_row, utility_row_within, rows_to_end, table_rows, table_utilities, utility_in}
 use Rattle.utility_table.proofs.Rows.{HasWidth, length-concat, row_of-concat}
 
 -- at least the one before, where there is one
@@ -67,9 +67,9 @@ record Keeps (segments rungs row : ℕ) (xs : List ℕ) : Type 0 where
   width : HasWidth rungs xs
   is : IsRow xs
 
-row_in-keeps : (segments rungs row : ℕ) (r : Fields) (xs : List ℕ) → row_in segments rungs row r ≡ Ok xs → Keeps segments rungs row xs
-row_in-keeps segments rungs row r xs h =
-    let a = then_ok (row_within segments row) (λ _. full_row rungs row r >>= (λ fields. each_after (utility_in row) None 1 (map without_blanks fields))) xs h in
+utilities_in_row-keeps : (segments rungs row : ℕ) (r : Fields) (xs : List ℕ) → utilities_in_row segments rungs row r ≡ Ok xs → Keeps segments rungs row xs
+utilities_in_row-keeps segments rungs row r xs h =
+    let a = then_ok (utility_row_within segments row) (λ _. full_row rungs row r >>= (λ fields. each_after (utility_in row) None 1 (map without_blanks fields))) xs h in
     let b = then_ok (full_row rungs row r) (λ fields. each_after (utility_in row) None 1 (map without_blanks fields)) xs a.2 in
     let t = test_err (nat_lt segments row) (Ok row) a.0 (refusal kind.Shape key.Utility row 0) a.1 in
     let f = test_ok (length r == rungs) (Ok r) b.0 (refusal kind.Shape key.Utility row 0) b.1 in
@@ -102,19 +102,19 @@ record Limits (segments rungs : ℕ) (rows : List (List ℕ)) : Type 0 where
 
 table_rows-limits : (segments rungs : ℕ) (t : Table) (rows : List (List ℕ)) → table_rows segments rungs t ≡ Ok rows → Limits segments rungs rows
 table_rows-limits segments rungs t rows h =
-    let read = then_ok (each_from (row_in segments rungs) 1 t.rows) (rows_to_end segments t.uneven) rows h in
+    let read = then_ok (each_from (utilities_in_row segments rungs) 1 t.rows) (rows_to_end segments t.uneven) rows h in
     let last = rows_to_end-ok segments t.uneven read.0 rows read.2 in
-    let keeps : (b : Option (List ℕ)) (p : ℕ) (d : Fields) (x : List ℕ) → row_in segments rungs p d ≡ Ok x → Keeps segments rungs p x = λ b p d x e. row_in-keeps segments rungs p d x e in
-    let most = each_most (λ (_ : Option (List ℕ)). row_in segments rungs) segments None 1 t.rows read.0 (λ b p d x e. (keeps b p d x e).few) read.1 (omega arith) in
+    let keeps : (b : Option (List ℕ)) (p : ℕ) (d : Fields) (x : List ℕ) → utilities_in_row segments rungs p d ≡ Ok x → Keeps segments rungs p x = λ b p d x e. utilities_in_row-keeps segments rungs p d x e in
+    let most = each_most (λ (_ : Option (List ℕ)). utilities_in_row segments rungs) segments None 1 t.rows read.0 (λ b p d x e. (keeps b p d x e).few) read.1 (omega arith) in
     subst (Limits segments rungs) last.0 (record {
       count = omega (arith, last.1, most);
-      widths = each_all (HasWidth rungs) (λ (_ : Option (List ℕ)). row_in segments rungs) None 1 t.rows read.0 (λ b p d x e. (keeps b p d x e).width) read.1;
-      each = each_all IsRow (λ (_ : Option (List ℕ)). row_in segments rungs) None 1 t.rows read.0 (λ b p d x e. (keeps b p d x e).is) read.1;
+      widths = each_all (HasWidth rungs) (λ (_ : Option (List ℕ)). utilities_in_row segments rungs) None 1 t.rows read.0 (λ b p d x e. (keeps b p d x e).width) read.1;
+      each = each_all IsRow (λ (_ : Option (List ℕ)). utilities_in_row segments rungs) None 1 t.rows read.0 (λ b p d x e. (keeps b p d x e).is) read.1;
     })
 
 -- the utilities of a table that was read fit their film
-pub utilities-fit : (bytes : List ℕ) (segments rungs : ℕ) (us : List ℕ) → IsWithin 1 most_rungs rungs → IsWithin 1 most_segments segments → utilities_of bytes segments rungs ≡ Ok us → AreUtilities us rungs segments
-unfolding utilities_of
+pub utilities-fit : (bytes : List ℕ) (segments rungs : ℕ) (us : List ℕ) → IsWithin 1 most_rungs rungs → IsWithin 1 most_segments segments → table_utilities bytes segments rungs ≡ Ok us → AreUtilities us rungs segments
+unfolding table_utilities
 utilities-fit bytes segments rungs us few short h =
     let m = map_ok-ok concat (table_rows segments rungs (table_of bytes)) us h in
     let l = table_rows-limits segments rungs (table_of bytes) m.0 m.1 in

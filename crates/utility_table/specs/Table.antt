@@ -12,8 +12,8 @@ use Rattle.reader_faults.specs.Each.{each_after, each_from}
 use Rattle.reader_faults.specs.Faults.{field_at}
 
 -- a row of one of the segments
-abbrev pub row_within : ℕ → ℕ → Result ℕ Refusal
-row_within segments row = if nat_lt segments row then Err (refusal kind.Shape key.Utility row 0) else Ok row
+abbrev pub utility_row_within : ℕ → ℕ → Result ℕ Refusal
+utility_row_within segments row = if nat_lt segments row then Err (refusal kind.Shape key.Utility row 0) else Ok row
 
 -- a record with a field for each rung, as all of a table have that are as wide as the first
 abbrev pub full_row : ℕ → ℕ → Fields → Result Fields Refusal
@@ -31,9 +31,9 @@ utility_in row before column field = do
   not_below before row column u
 
 -- the utilities of a segment, rung by rung
-abbrev pub row_in : ℕ → ℕ → ℕ → Fields → Result (List ℕ) Refusal
-row_in segments rungs row r = do
-  _ ← row_within segments row
+abbrev pub utilities_in_row : ℕ → ℕ → ℕ → Fields → Result (List ℕ) Refusal
+utilities_in_row segments rungs row r = do
+  _ ← utility_row_within segments row
   fields ← full_row rungs row r
   each_after (utility_in row) None 1 (map without_blanks fields)
 
@@ -46,9 +46,9 @@ rows_to_end segments None (r ∷ rs) = if nat_lt (length (r ∷ rs)) segments th
 -- the rows of a table, in a film of so many segments and rungs
 abbrev pub table_rows : ℕ → ℕ → Table → Result (List (List ℕ)) Refusal
 table_rows segments rungs t = do
-  rows ← each_from (row_in segments rungs) 1 t.rows
+  rows ← each_from (utilities_in_row segments rungs) 1 t.rows
   rows_to_end segments t.uneven rows
 
 -- the utilities that the bytes are, row by row, in a film of so many segments and rungs
-unfoldable pub utilities_of : List ℕ → ℕ → ℕ → Result (List ℕ) Refusal
-utilities_of bytes segments rungs = map_ok concat (table_rows segments rungs (table_of bytes))
+unfoldable pub table_utilities : List ℕ → ℕ → ℕ → Result (List ℕ) Refusal
+table_utilities bytes segments rungs = map_ok concat (table_rows segments rungs (table_of bytes))

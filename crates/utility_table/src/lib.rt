@@ -14,7 +14,7 @@ ghost use Rattle.lab_model.specs.Reading.{Gives};
 ghost use Rattle.lab_model.specs.Row.{AreUtilities};
 ghost use Rattle.lab_model.specs.Steps.{map_ok};
 ghost use Rattle.reader_faults.specs.Each.{each_after, each_from};
-ghost use Rattle.utility_table.specs.Table.{full_row, row_in, row_within, rows_to_end, table_rows, utilities_of, utility_in};
+ghost use Rattle.utility_table.specs.Table.{full_row, utilities_in_row, utility_row_within, rows_to_end, table_rows, table_utilities, utility_in};
 
 use csv::ByteRecord;
 use csv_records::{Records, field_in, records_of, whole_number};
@@ -33,8 +33,8 @@ pub struct Table {
 }
 
 /// A row, if it is one of the segments'.
-fn row_within(segments: u16, row: u32) -> Result<u32, InputFault>
-    ensures row { Gives (λ n. n) result (row_within segments row) }
+fn utility_row_within(segments: u16, row: u32) -> Result<u32, InputFault>
+    ensures row { Gives (λ n. n) result (utility_row_within segments row) }
     ensures few { OnOk result (row ≤ segments) }
 {
     if row > u32::from(segments) {
@@ -93,10 +93,10 @@ fn push_row(
 ) -> Result<(), InputFault>
     ensures utilities { Gives (λ _. utilities.new.items) result
         (map_ok (λ us. utilities.old.items ++ us)
-        (row_in segments rungs row (fields_of fields.now))) }
+        (utilities_in_row segments rungs row (fields_of fields.now))) }
     ensures few { OnOk result (row ≤ segments) }
 {
-    row_within(segments, row)?;
+    utility_row_within(segments, row)?;
     full_row(fields, rungs, row)?;
     push_utilities(utilities, fields, row)
 }
@@ -109,7 +109,7 @@ fn all_rows(
     rungs: u8,
 ) -> Result<Vec<u32>, InputFault>
     ensures utilities { Gives (λ v. v.items) result
-        (map_ok concat (each_from (row_in segments rungs) 1 (map fields_of rows.now))) }
+        (map_ok concat (each_from (utilities_in_row segments rungs) 1 (map fields_of rows.now))) }
     ensures few { OnOk result (length rows.now ≤ segments) }
 {
     let mut utilities = Vec::new(alloc);
@@ -149,12 +149,16 @@ fn table_rows(
     segments: u16,
     rungs: u8,
 ) -> Result<Vec<u32>, InputFault>
-    requires { IfSome records.now.uneven (λ k. k ≡ length records.now.rows.items + 1) }
     ensures { Gives (λ v. v.items) result
         (map_ok concat (table_rows segments rungs (table_in records.now))) }
 {
     let utilities = all_rows(alloc, &records.rows, segments, rungs)?;
-    rows_to_end(utilities, records.rows.len(), records.uneven, segments)
+    rows_to_end(
+        utilities,
+        records.rows.len(),
+        records.uneven_row(),
+        segments,
+    )
 }
 
 /// Reads the utilities of a film of so many segments and rungs, each from 0 to 1000000 points. The answer is
@@ -167,7 +171,7 @@ pub fn read_utilities(
     segments: u16,
     rungs: u8,
 ) -> Result<Table, InputFault>
-    ensures table { Gives (λ t. t.rows.items) result (utilities_of bytes.now segments rungs) }
+    ensures table { Gives (λ t. t.rows.items) result (table_utilities bytes.now segments rungs) }
     ensures within { IsWithin 1 most_rungs rungs → IsWithin 1 most_segments segments
         → IfOk result (λ t. AreUtilities t.rows.items rungs segments) }
 {

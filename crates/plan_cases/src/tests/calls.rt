@@ -112,9 +112,9 @@ fn labels_on_grids(rt: HostRuntime) -> Result<(), Fail> {
         ),
     ];
     for (time, value, exact, rounded) in rows {
-        assert!(rt; 1 <= time && time <= 10_000 && 1 <= value && value <= 1_000_000);
+        let grid = Grid::new(time, value).ok_or("not a grid")?;
         follows(&rt, exact);
-        assert_eq!(rt; round_label(Grid { time, value }, exact), rounded);
+        assert_eq!(rt; round_label(grid, exact), rounded);
     }
     Ok(())
 }

@@ -6,7 +6,8 @@ use crate::tests::certificates::{
 use crate::tests::inputs::{Case, Inputs, M1, SMALLEST};
 use certificate_check::{Verdict, check, check_bound, check_from, check_lines, check_lines_from};
 use certificate_text::{Lines, read_certificate};
-use lab_model::InputFault;
+use lab_model::{Ahead, InputFault};
+use player_core::Scene;
 use std::alloc::Global;
 use std::process::Abort;
 use std::test::Fail;
@@ -165,11 +166,12 @@ fn with_ahead(
 ) -> Result<String, Fail> {
     let m1 = Inputs::of(alloc, &M1)?;
     assert!(rt; m1.set.fits(&m1.m));
-    assert!(rt; ahead <= 120_000_000);
+    let ahead = Ahead::new(ahead).ok_or("too much ahead")?;
+    let scene = Scene::new(&m1.m, &m1.clock, &m1.set, ahead);
     let certificate = read_certificate(alloc, text.as_bytes())?;
-    let verdict = check_from(&m1.m, &m1.clock, &m1.set, ahead, &certificate, bound);
+    let verdict = check_from(&scene, &certificate, bound);
     let lines = Lines::begin(alloc, text.as_bytes())?;
-    let by_layer = check_lines_from(&m1.m, &m1.clock, &m1.set, ahead, lines, bound)?;
+    let by_layer = check_lines_from(&scene, lines, bound)?;
     assert_eq!(rt; by_layer, verdict);
     told(alloc, &Ok(verdict))
 }

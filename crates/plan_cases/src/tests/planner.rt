@@ -2,7 +2,8 @@
 
 use crate::tests::inputs::{Case, Inputs, M1, SMALLEST};
 use frontier_planner::{BoundedList, Grid, Plan, PlanErr, list_from, plan};
-use player_core::limits::ALL_AHEAD_MS;
+use lab_model::Budget;
+use player_core::Scene;
 use std::alloc::Global;
 use std::process::Abort;
 use std::test::Fail;
@@ -32,17 +33,9 @@ fn list_of(
 ) -> Result<Result<BoundedList, PlanErr>, Fail> {
     let inputs = Inputs::of(alloc, case)?;
     assert!(rt; inputs.set.fits(&inputs.m));
-    assert!(rt; budget >= 1 && budget <= 1_000_000);
-    let exact = Grid { time: 1, value: 1 };
-    Ok(list_from(
-        alloc,
-        &inputs.m,
-        &inputs.clock,
-        &inputs.set,
-        ALL_AHEAD_MS,
-        exact,
-        budget,
-    ))
+    let budget = Budget::new(budget).ok_or("not a budget")?;
+    let scene = Scene::on_demand(&inputs.m, &inputs.clock, &inputs.set);
+    Ok(list_from(alloc, &scene, Grid::exact(), budget))
 }
 
 #[test]

@@ -6,10 +6,10 @@ ghost use Rattle.lab_model.specs.Film.{film};
 ghost use Rattle.lab_model.specs.Number.{IsNear};
 ghost use Rattle.labels.specs.Near.{CanFollow};
 
-use lab_model::{Label, Manifest, Period, Rule, Setup, Trace, Weights};
-use labels::{end_value, next_from, start_from};
+use lab_model::{ALL_AHEAD_MS, Ahead, Label, Manifest, Period, Rule, Setup, Trace, Weights};
+use labels::{RungLabel, end_value, start_on};
 use network_clock::Clock;
-use player_core::{Listed, play_from};
+use player_core::{Listed, Scene, play_from};
 use quality_score::score;
 use std::alloc::Global;
 use std::process::Abort;
@@ -31,9 +31,6 @@ pub struct Case {
     pub value: i128,
 }
 
-/// All media of any film is there at instant 0.
-pub const ON_DEMAND: u32 = 120_000_000;
-
 /// No label of the cases is later, in milliseconds, or worth more, in thousandths of a point.
 const FAR_MS: u64 = 1_000_000;
 
@@ -48,7 +45,7 @@ pub const STEADY: Case = Case {
     ],
     periods: &[(60_000, 2_000_000, 0)],
     buffer_ms: 10_000,
-    ahead: ON_DEMAND,
+    ahead: ALL_AHEAD_MS,
     rungs: &[1, 0, 1],
     value: 6860,
 };
@@ -138,14 +135,20 @@ fn setup(alloc: Global, case: &Case) -> Result<Setup, Fail> {
     })
 }
 
+/// The media ahead.
+fn ahead(case: &Case) -> Result<Ahead, Fail> {
+    Ok(Ahead::new(case.ahead).ok_or("too much ahead")?)
+}
+
 /// The score of the session that plays the rung list.
 fn session_score(rt: &impl Abort, alloc: Global, case: &Case) -> Result<i128, Fail> {
     let m = film(alloc, case)?;
     let clock = clock(alloc, case)?;
     let set = setup(alloc, case)?;
     let rule = Listed::new(case.rungs.to_vec(alloc)?);
-    assert!(rt; set.fits(&m) && rule.fits(&m) && case.ahead <= ON_DEMAND);
-    let session = play_from(alloc, &m, &clock, &set, &[], case.ahead, rule)?;
+    assert!(rt; set.fits(&m) && rule.fits(&m));
+    let scene = Scene::new(&m, &clock, &set, ahead(case)?);
+    let session = play_from(alloc, &scene, &[], rule)?;
     Ok(score(
         &session.played,
         session.stall_ms,
@@ -168,16 +171,17 @@ fn last_value(rt: &impl Abort, alloc: Global, case: &Case) -> Result<i128, Fail>
     let m = film(alloc, case)?;
     let clock = clock(alloc, case)?;
     let set = setup(alloc, case)?;
-    assert!(rt; set.fits(&m) && case.ahead <= ON_DEMAND && !case.rungs.is_empty());
+    assert!(rt; set.fits(&m) && !case.rungs.is_empty());
     assert!(rt; case.rungs[0] < m.rungs());
-    let mut label = start_from(&m, &clock, &set, case.ahead, case.rungs[0]);
+    let scene = Scene::new(&m, &clock, &set, ahead(case)?);
+    let mut label = start_on(&scene, case.rungs[0]);
     for i in 1..m.segments() {
         let segment = i as usize;
         assert!(rt; segment < case.rungs.len());
         let (before, rung) = (case.rungs[segment - 1], case.rungs[segment]);
         assert!(rt; before < m.rungs() && rung < m.rungs());
         follows(rt, label);
-        label = next_from(&m, &clock, &set, case.ahead, i, before, label, rung);
+        label = RungLabel::new(&scene, i - 1, before, label).next(rung);
     }
     follows(rt, label);
     Ok(end_value(&set, label))

@@ -2,7 +2,7 @@
 
 use super::{Case, ON_DEMAND, clock_of, counters, fixed_session, setup_of};
 use lab_model::{Manifest, Period, Rule, Seek};
-use player_core::{Fixed, play_from, seeks_fit};
+use player_core::{Fixed, Scene, play_from, seeks_fit};
 use std::alloc::Global;
 use std::process::Abort;
 use std::test::Fail;
@@ -115,7 +115,8 @@ fn many_periods(rt: HostRuntime) -> Result<(), Fail> {
     let seeks = many_seeks(alloc)?;
     let rule = Fixed { rung: 2 };
     assert!(rt; set.fits(&m) && seeks_fit(&seeks, &m) && rule.fits(&m));
-    let session = play_from(alloc, &m, &clock, &set, &seeks, ON_DEMAND, rule)?;
+    let scene = Scene::on_demand(&m, &clock, &set);
+    let session = play_from(alloc, &scene, &seeks, rule)?;
     assert_eq!(rt;
         counters(&session),
         [983, 485_471, 1061, 35_246, 299_202_070, 4_083_457]

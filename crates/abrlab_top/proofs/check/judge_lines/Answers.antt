@@ -1,10 +1,10 @@
-use Rattle.std.proofs.Common.{◌∙◌, Err, rules, subst, sym}
+use Rattle.std.proofs.Common.{◌∙◌, Err, ap, rules, subst, sym}
 use Rattle.std.specs.Int.{w128}
 use Rattle.std.proofs.lemmas.Int.{to_z-of_z}
 use Rattle.lab_inputs.specs.Stages.{network_of}
+use Rattle.abrlab_top.specs.Plan.{task_on}
 use Rattle.abrlab_top.specs.Stages.{Judges}
 use Rattle.abrlab_top.proofs.Judged.{bad_judged, judging_wants, verdict_fails, verdict_judged}
-use Rattle.abrlab_top.proofs.Plans.{task_is}
 use Rattle.abrlab_top.proofs.check.judge_lines.Goals as goal
 
 pub returns-in_err-clock : goal.returns-in_err-clock
@@ -16,7 +16,7 @@ returns-in-Ok c =
     let score = to_z-of_z w128 c.score-score.result (search rules) ∙ c.score-score.ensures in
     let bound = to_z-of_z w128 c.bound-bound.result (search rules) ∙ c.bound-bound.ensures in
     verdict_judged c.args.gap i (network_of c.args.network.now) _ c.args.lines (record { score = _; bound = _; verdict = c.in-Ok.verdict }) c.requires.network c.requires.settled
-    (task_is i c.args.network.now.trace c.in_ok-clock.clock c.manifest-film.result.now c.setup-setup.result.now c.media_ahead.result c.manifest-film.ensures c.in_ok-clock.ensures.clock c.setup-setup.ensures c.media_ahead.ensures.value)
+    (c.scene_on.ensures.value ∙ ap (task_on i) c.in_ok-clock.ensures.clock)
     c.requires.certificate score bound _ bound (c.in-Ok.ensures.verdict i.certificate) (c.in-Ok.ensures.gap i.certificate)
 
 pub returns : goal.returns

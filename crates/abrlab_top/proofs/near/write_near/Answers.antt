@@ -1,4 +1,4 @@
-use Rattle.std.proofs.Common.{◌≡◌, Some}
+use Rattle.std.proofs.Common.{◌≡◌, ◌∙◌, Some, ap, refl}
 use Rattle.std.specs.List.{slice_get}
 use Rattle.lab_inputs.specs.Stages.{network_of}
 use Rattle.price_bounds.specs.Verdict.{price_parts}
@@ -10,7 +10,6 @@ use Rattle.abrlab_top.specs.Plan.{task_on}
 use Rattle.abrlab_top.specs.Stages.{at_the_end}
 use Rattle.abrlab_top.proofs.Chosen.{near_of_none, near_on, near_unwritten}
 use Rattle.abrlab_top.proofs.PriceAnswers.{found_near, near_stopped, near_told, no_near_network}
-use Rattle.abrlab_top.proofs.Plans.{task_is}
 use Rattle.abrlab_top.proofs.Whole.{all_settled, exit, none_there, nothing_printed, put_done, put_failed, settings_stop, some_there, unsettled, wanting}
 use Rattle.abrlab_top.proofs.near.write_near.Goals as goal
 
@@ -32,8 +31,8 @@ pub returns-in_err-clock : goal.returns-in_err-clock
 returns-in_err-clock g c =
     near_unwritten c.args.as_certificate c.args.inputs.now _ _ c.from_residual-in_err-clock.result ending.NoMemory c.from_residual-in_err-clock.ensures.1 (λ h. h) (wanting at_the_end (near_plan c.args.as_certificate no_choice.certificate c.args.inputs.now) _)
 
-pub new-scene-requires-clause-setup : goal.new-scene-requires-clause-setup
-new-scene-requires-clause-setup g c = rw (c.setup-setup.ensures, c.manifest-film.ensures) (all_settled c.args.inputs.now c.fit.result _ c.in_ok-fit.was c.fit.ensures).1.setup
+pub scene_on-scene-requires : goal.scene_on-scene-requires
+scene_on-scene-requires g c = (all_settled c.args.inputs.now c.fit.result _ c.in_ok-fit.was c.fit.ensures).1.setup
 
 pub returns-in_err-certificate : goal.returns-in_err-certificate
 returns-in_err-certificate g c =
@@ -42,8 +41,8 @@ returns-in_err-certificate g c =
 pub put_near-requires : goal.put_near-requires
 put_near-requires g c =
     let i = c.args.inputs.now in
-    let task = task_is i c.in-Some.network.now.trace c.in_ok-clock.clock c.manifest-film.result.now c.setup-setup.result.now c.media_ahead.result c.manifest-film.ensures c.in_ok-clock.ensures.clock c.setup-setup.ensures c.media_ahead.ensures.value in
-    let found = found_near _ _ _ (price_parts c.in_ok-certificate.certificate) c.new-scene.ensures.value task c.new-scene.ensures.task c.in_ok-certificate.ensures.valid c.in_ok-certificate.ensures.score c.in_ok-certificate.ensures.bound c.in_ok-certificate.ensures.exact in
+    let task = c.scene_on-scene.ensures.value ∙ ap (task_on i) c.in_ok-clock.ensures.clock in
+    let found = found_near _ _ _ (price_parts c.in_ok-certificate.certificate) refl task c.scene_on-scene.ensures.task c.in_ok-certificate.ensures.valid c.in_ok-certificate.ensures.score c.in_ok-certificate.ensures.bound c.in_ok-certificate.ensures.exact in
     record { form = found.form }
 
 pub returns-in_err-put_near : goal.returns-in_err-put_near
@@ -53,8 +52,8 @@ returns-in_err-put_near g c =
     let p = price_parts c.in_ok-certificate.certificate in
     let network : slice_get i.networks 0 ≡ Some (network_of c.in-Some.network.now) = some_there _ _ _ _ c.in-Some.is c.network.ensures in
     let fits = all_settled i c.fit.result _ c.in_ok-fit.was c.fit.ensures in
-    let task = task_is i c.in-Some.network.now.trace c.in_ok-clock.clock c.manifest-film.result.now c.setup-setup.result.now c.media_ahead.result c.manifest-film.ensures c.in_ok-clock.ensures.clock c.setup-setup.ensures c.media_ahead.ensures.value in
-    let found : IsNearBest (task_on i c.in-Some.network.now.trace) p = found_near _ _ _ p c.new-scene.ensures.value task c.new-scene.ensures.task c.in_ok-certificate.ensures.valid c.in_ok-certificate.ensures.score c.in_ok-certificate.ensures.bound c.in_ok-certificate.ensures.exact in
+    let task = c.scene_on-scene.ensures.value ∙ ap (task_on i) c.in_ok-clock.ensures.clock in
+    let found : IsNearBest (task_on i c.in-Some.network.now.trace) p = found_near _ _ _ p refl task c.scene_on-scene.ensures.task c.in_ok-certificate.ensures.valid c.in_ok-certificate.ensures.score c.in_ok-certificate.ensures.bound c.in_ok-certificate.ensures.exact in
     record {
       certificate = p;
       is = λ h. near_on i (network_of c.in-Some.network.now) p network found;
@@ -69,8 +68,8 @@ returns g c =
     let p = price_parts c.in_ok-certificate.certificate in
     let network : slice_get i.networks 0 ≡ Some (network_of c.in-Some.network.now) = some_there _ _ _ _ c.in-Some.is c.network.ensures in
     let fits = all_settled i c.fit.result _ c.in_ok-fit.was c.fit.ensures in
-    let task = task_is i c.in-Some.network.now.trace c.in_ok-clock.clock c.manifest-film.result.now c.setup-setup.result.now c.media_ahead.result c.manifest-film.ensures c.in_ok-clock.ensures.clock c.setup-setup.ensures c.media_ahead.ensures.value in
-    let found : IsNearBest (task_on i c.in-Some.network.now.trace) p = found_near _ _ _ p c.new-scene.ensures.value task c.new-scene.ensures.task c.in_ok-certificate.ensures.valid c.in_ok-certificate.ensures.score c.in_ok-certificate.ensures.bound c.in_ok-certificate.ensures.exact in
+    let task = c.scene_on-scene.ensures.value ∙ ap (task_on i) c.in_ok-clock.ensures.clock in
+    let found : IsNearBest (task_on i c.in-Some.network.now.trace) p = found_near _ _ _ p refl task c.scene_on-scene.ensures.task c.in_ok-certificate.ensures.valid c.in_ok-certificate.ensures.score c.in_ok-certificate.ensures.bound c.in_ok-certificate.ensures.exact in
     record {
       certificate = p;
       is = λ h. near_on i (network_of c.in-Some.network.now) p network found;

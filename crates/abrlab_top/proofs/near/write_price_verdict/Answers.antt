@@ -1,4 +1,4 @@
-use Rattle.std.proofs.Common.{◌≡◌, Err, Ok, Some, rules, subst, sym}
+use Rattle.std.proofs.Common.{◌≡◌, ◌∙◌, Err, Ok, Some, ap, refl, rules, subst, sym}
 use Rattle.std.specs.Int.{w128}
 use Rattle.std.proofs.lemmas.Int.{to_z-of_z}
 use Rattle.lab_io.proofs.Puts.{puts_as}
@@ -9,9 +9,9 @@ use Rattle.price_bounds.specs.Verdict.{price_parts}
 use Rattle.price_text.specs.Reading.{prices_of}
 use Rattle.abrlab_top.specs.declared.ending.Ending.TheVariants as ending
 use Rattle.abrlab_top.specs.Near.{near_check}
+use Rattle.abrlab_top.specs.Plan.{task_on}
 use Rattle.abrlab_top.specs.Stages.{Writes, of_a_price_check}
 use Rattle.abrlab_top.proofs.PriceAnswers.{bad_prices, misfit_prices, no_check_network, price_done, price_failed, price_text_as, prices_told}
-use Rattle.abrlab_top.proofs.Plans.{task_is}
 use Rattle.abrlab_top.proofs.Whole.{all_settled, exit, none_there, nothing_printed, some_there, unsettled, wanting}
 use Rattle.abrlab_top.proofs.near.write_price_verdict.Goals as goal
 
@@ -43,9 +43,9 @@ returns-in_err-put_price_verdict g c =
     let network : slice_get i.networks 0 ≡ Some (network_of c.in-Some.network.now) = some_there _ _ _ _ c.in-Some.is c.network.ensures in
     let read : prices_of i.certificate ≡ Ok (price_parts c.in-Ok.certificate) = subst (λ bytes. Gives price_parts (Ok c.in-Ok.certificate) (prices_of bytes)) c.certificate.ensures c.in-Ok.ensures.exact in
     let fits = all_settled i c.fit.result _ c.in_ok-fit.was c.fit.ensures in
-    let task = task_is i c.in-Some.network.now.trace c.in_ok-clock.clock c.manifest-film.result.now c.setup-setup.result.now c.media_ahead.result c.manifest-film.ensures c.in_ok-clock.ensures.clock c.setup-setup.ensures c.media_ahead.ensures.value in
+    let task = c.scene_on-scene.ensures.value ∙ ap (task_on i) c.in_ok-clock.ensures.clock in
     let p = price_parts c.in-Ok.certificate in
-    let told = prices_told i (network_of c.in-Some.network.now) p _ _ c.in_ok-verdict.verdict network read fits.0 c.new-scene.ensures.value task c.in_ok-verdict.ensures.verdict in
+    let told = prices_told i (network_of c.in-Some.network.now) p _ _ c.in_ok-verdict.verdict network read fits.0 refl task c.in_ok-verdict.ensures.verdict in
     let score = to_z-of_z w128 c.in-Ok.certificate.score (search rules) in
     let bound = to_z-of_z w128 c.in-Ok.certificate.bound (search rules) in
     let put = puts_as _ _ _ _ _ (price_text_as _ _ _ _ c.in_ok-verdict.verdict score bound) c.put_price_verdict.ensures in
@@ -58,9 +58,9 @@ returns g c =
     let network : slice_get i.networks 0 ≡ Some (network_of c.in-Some.network.now) = some_there _ _ _ _ c.in-Some.is c.network.ensures in
     let read : prices_of i.certificate ≡ Ok (price_parts c.in-Ok.certificate) = subst (λ bytes. Gives price_parts (Ok c.in-Ok.certificate) (prices_of bytes)) c.certificate.ensures c.in-Ok.ensures.exact in
     let fits = all_settled i c.fit.result _ c.in_ok-fit.was c.fit.ensures in
-    let task = task_is i c.in-Some.network.now.trace c.in_ok-clock.clock c.manifest-film.result.now c.setup-setup.result.now c.media_ahead.result c.manifest-film.ensures c.in_ok-clock.ensures.clock c.setup-setup.ensures c.media_ahead.ensures.value in
+    let task = c.scene_on-scene.ensures.value ∙ ap (task_on i) c.in_ok-clock.ensures.clock in
     let p = price_parts c.in-Ok.certificate in
-    let told = prices_told i (network_of c.in-Some.network.now) p _ _ c.in_ok-verdict.verdict network read fits.0 c.new-scene.ensures.value task c.in_ok-verdict.ensures.verdict in
+    let told = prices_told i (network_of c.in-Some.network.now) p _ _ c.in_ok-verdict.verdict network read fits.0 refl task c.in_ok-verdict.ensures.verdict in
     let score = to_z-of_z w128 c.in-Ok.certificate.score (search rules) in
     let bound = to_z-of_z w128 c.in-Ok.certificate.bound (search rules) in
     let put = puts_as _ _ _ _ _ (price_text_as _ _ _ _ c.in_ok-verdict.verdict score bound) c.put_price_verdict.ensures in

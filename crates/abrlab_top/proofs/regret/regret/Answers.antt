@@ -10,10 +10,10 @@ pub returns-in_err-inputs : goal.returns-in_err-inputs
 returns-in_err-inputs g c =
     read_failed at_the_end (regret c.args.words.budget) c.args.words _ _ _ c.read_inputs.result c.from_residual.result _ c.in_err-inputs.was c.from_residual.ensures.1 (rw c.into_film_words.ensures.value at c.read_inputs.ensures.comes)
 
-pub write_regrets-requires-clause-calm : goal.write_regrets-requires-clause-calm
-write_regrets-requires-clause-calm g c =
+pub write_regrets-requires : goal.write_regrets-requires
+write_regrets-requires g c =
     ap (λ (v : InputValues). v.setup.abandon) c.in_ok-inputs.ensures.kept.is ∙ ap (λ (w : CommandWords). w.abandon) c.into_film_words.ensures.value ∙ c.into_film_words.ensures.calm
 
 pub returns : goal.returns
 returns g c =
-    about_ends at_the_end (regret c.args.words.budget) c.args.words c.in_ok-inputs.inputs _ _ _ _ _ (λ r h. cc) (rw c.into_film_words.ensures.value at c.in_ok-inputs.ensures.comes) (rw c.budget-budget.ensures.value at c.write_regrets.ensures)
+    about_ends at_the_end (regret c.args.words.budget) c.args.words c.in_ok-inputs.inputs _ _ _ _ _ (λ r h. cc) (rw c.into_film_words.ensures.value at c.in_ok-inputs.ensures.comes) (rw c.budget-budget.ensures at c.write_regrets.ensures)

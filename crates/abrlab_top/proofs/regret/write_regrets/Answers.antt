@@ -13,8 +13,8 @@ returns-in_err-fit g c =
     let stop = unsettled i c.fit.result _ c.in_err-fit.was c.fit.ensures in
     exit at_the_end (regret c.args.budget i) _ _ c.from_residual.result _ c.from_residual.ensures.1 (settings_stop at_the_end i (regret c.args.budget i) _ _ stop (regret_stopped c.args.budget i _ stop))
 
-pub score_all-requires-clause-can : goal.score_all-requires-clause-can
-score_all-requires-clause-can g c = record { fits = (all_settled c.args.inputs.now c.fit.result _ c.in_ok-fit.was c.fit.ensures).1; calm = c.requires.calm }
+pub score_all-requires : goal.score_all-requires
+score_all-requires g c = record { fits = (all_settled c.args.inputs.now c.fit.result _ c.in_ok-fit.was c.fit.ensures).1; calm = c.requires }
 
 pub returns-in_err-table : goal.returns-in_err-table
 returns-in_err-table g c =

@@ -2,7 +2,7 @@ use Rattle.std.proofs.Common.{ℤ, sym, ap, subst}
 use Rattle.std.specs.Int.{w128}
 use Rattle.std.proofs.lemmas.Int.{to_z-of_z}
 use Rattle.lab_model.specs.Reading.{Gives}
-use Rattle.player_core.specs.Scene.{IsTask, Task, task_of}
+use Rattle.player_core.specs.Scene.{Task}
 use Rattle.certificate_text.specs.Walk.{certificate_by}
 use Rattle.certificate_text.proofs.WalkLaws.{begun_rest}
 use Rattle.certificate_check.specs.Verdict.{verdict_on}
@@ -12,13 +12,12 @@ use Rattle.certificate_check.proofs.by_layer.check_lines_from.Goals.{After-verdi
 
 -- the task of the call
 abbrev task : After-verdict_on → Task
-task c = task_of c.args.film.now c.args.clock.now c.args.setup.now c.args.ahead
+task c = c.args.scene.now
 
 -- its answer is the verdict on the certificate that the lines come to
 said : (c : After-verdict_on) → Gives (λ v. v) c.verdict_on.result (verdict_on (task c) c.args.bound (certificate_by c.args.lines))
 said c =
-    let own = subst (λ (b : ℤ). Gives (λ v. v) c.verdict_on.result (verdict_on c.new-checker.result b (certificate_by c.args.lines))) (to_z-of_z w128 c.args.bound c.ranges.bound) c.verdict_on.ensures in
-    subst (λ (g : Task). Gives (λ v. v) c.verdict_on.result (verdict_on g c.args.bound (certificate_by c.args.lines))) c.new-checker.ensures.value own
+    subst (λ (b : ℤ). Gives (λ v. v) c.verdict_on.result (verdict_on (task c) b (certificate_by c.args.lines))) (to_z-of_z w128 c.args.bound c.ranges.bound) c.verdict_on.ensures
 
 pub returns-clause-verdict : goal.returns-clause-verdict
 returns-clause-verdict c = λ bytes is. subst (Gives (λ v. v) c.verdict_on.result) (ap (verdict_on (task c) c.args.bound) (sym (begun_rest bytes c.args.lines is))) (said c)
@@ -33,4 +32,4 @@ pub returns-clause-gap_valid : goal.returns-clause-gap_valid
 returns-clause-gap_valid c = λ bytes is. gap_valid_said (task c) c.args.bound c.args.lines c.verdict_on.result c.requires.begun (said c) bytes is
 
 pub returns-clause-sound : goal.returns-clause-sound
-returns-clause-sound c = sound_said (task c) c.args.bound c.args.lines c.verdict_on.result (subst IsTask c.new-checker.ensures.value c.new-checker.ensures.task) c.requires.begun (said c)
+returns-clause-sound c = sound_said (task c) c.args.bound c.args.lines c.verdict_on.result c.film.ensures.task c.requires.begun (said c)

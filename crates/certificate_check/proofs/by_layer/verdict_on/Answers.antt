@@ -50,12 +50,12 @@ found_first-found-requires-clause-fits c = λ passed.
     let r = first_read c.args.lines c.next_layer.new.lines c.in_ok-here.here.chains.items c.requires c.in_ok-here.ensures in
     let said = c.head_verdict-head.ensures ∙ rw (c.table.ensures, c.segments.ensures, c.rungs.ensures, c.plan.ensures) refl in
     ap length (c.starts.ensures ∙ ap (λ x. x.starts) r.head) ∙ known.form.starts.0
-    ∙ (counts_match c.args.checker.now h (both_first (counts_verdict c.args.checker.now h.table h.segments h.rungs) (plan_verdict h.segments h.rungs h.plan) (sym said ∙ passed))).rungs
+    ∙ (counts_match c.args.scene.now h (both_first (counts_verdict c.args.scene.now h.table h.segments h.rungs) (plan_verdict h.segments h.rungs h.plan) (sym said ∙ passed))).rungs
 
 pub loop-segment-init : goal.loop-segment-init
 loop-segment-init c =
     let h = c.args.lines.head in
-    let g = c.args.checker.now in
+    let g = c.args.scene.now in
     let head = c.head_verdict-head.result in
     let r = first_read c.args.lines c.next_layer.new.lines c.in_ok-here.here.chains.items c.requires c.in_ok-here.ensures in
     let starts = c.starts.ensures ∙ ap (λ x. x.starts) r.head in
@@ -71,32 +71,32 @@ returns-in_err-next c =
     let all = c.segments-last.ensures in
     gives_error _ c.from_residual-in_err-next.result c.in_err-next.field-0.0 _ c.from_residual-in_err-next.ensures.1
     (fault_said _ c.args.bound c.args.lines c.loop-segment.lines _ c.in_err-next.field-0.0
-    (still_inside c.args.checker.now c.args.lines c.loop-segment.lines c.loop-segment.segment c.loop-segment.here.chains.items c.loop-segment.found (omega (arith, low, all)) s) s.rest c.in_err-next.ensures)
+    (still_inside c.args.scene.now c.args.lines c.loop-segment.lines c.loop-segment.segment c.loop-segment.here.chains.items c.loop-segment.found (omega (arith, low, all)) s) s.rest c.in_err-next.ensures)
 
 pub found_more-found-requires-clause-form : goal.found_more-found-requires-clause-form
 found_more-found-requires-clause-form c =
     let low = c.loop-segment-test.true in
     let all = c.segments-last.ensures in
-    let fit = more_fits c.args.checker.now c.args.lines c.loop-segment.lines c.next_layer-in-loop-segment.new.lines c.loop-segment.segment c.loop-segment.here.chains.items c.in_ok-next.next.chains.items c.loop-segment.found c.requires (omega (arith, low, all)) c.loop-segment.invariant c.in_ok-next.ensures in
+    let fit = more_fits c.args.scene.now c.args.lines c.loop-segment.lines c.next_layer-in-loop-segment.new.lines c.loop-segment.segment c.loop-segment.here.chains.items c.in_ok-next.next.chains.items c.loop-segment.found c.requires (omega (arith, low, all)) c.loop-segment.invariant c.in_ok-next.ensures in
     rw (c.deref-in-loop-segment.ensures.value, c.deref-in-loop-segment-2.ensures.value) fit.form
 
 pub found_more-found-requires-clause-next : goal.found_more-found-requires-clause-next
 found_more-found-requires-clause-next c =
     let low = c.loop-segment-test.true in
     let all = c.segments-last.ensures in
-    let fit = more_fits c.args.checker.now c.args.lines c.loop-segment.lines c.next_layer-in-loop-segment.new.lines c.loop-segment.segment c.loop-segment.here.chains.items c.in_ok-next.next.chains.items c.loop-segment.found c.requires (omega (arith, low, all)) c.loop-segment.invariant c.in_ok-next.ensures in
+    let fit = more_fits c.args.scene.now c.args.lines c.loop-segment.lines c.next_layer-in-loop-segment.new.lines c.loop-segment.segment c.loop-segment.here.chains.items c.in_ok-next.next.chains.items c.loop-segment.found c.requires (omega (arith, low, all)) c.loop-segment.invariant c.in_ok-next.ensures in
     rw c.deref-in-loop-segment-2.ensures.value fit.few
 
 pub found_more-found-requires-clause-fits : goal.found_more-found-requires-clause-fits
 found_more-found-requires-clause-fits c =
     let low = c.loop-segment-test.true in
     let all = c.segments-last.ensures in
-    let fit = more_fits c.args.checker.now c.args.lines c.loop-segment.lines c.next_layer-in-loop-segment.new.lines c.loop-segment.segment c.loop-segment.here.chains.items c.in_ok-next.next.chains.items c.loop-segment.found c.requires (omega (arith, low, all)) c.loop-segment.invariant c.in_ok-next.ensures in
+    let fit = more_fits c.args.scene.now c.args.lines c.loop-segment.lines c.next_layer-in-loop-segment.new.lines c.loop-segment.segment c.loop-segment.here.chains.items c.in_ok-next.next.chains.items c.loop-segment.found c.requires (omega (arith, low, all)) c.loop-segment.invariant c.in_ok-next.ensures in
     rw (c.deref-in-loop-segment.ensures.value, c.deref-in-loop-segment-2.ensures.value) fit.fits
 
 pub loop-segment-preserved : goal.loop-segment-preserved
 loop-segment-preserved c =
-    let g = c.args.checker.now in
+    let g = c.args.scene.now in
     let i = c.loop-segment.segment in
     let low = c.loop-segment-test.true in
     let all = c.segments-last.ensures in
@@ -105,22 +105,22 @@ loop-segment-preserved c =
     (c.found_more-found.ensures.ranges ∙ ap₂ (λ x y. both f.ranges (ranges_verdict (length y) (length x) i (chains_by_rung x) (chains_by_rung y))) c.deref-in-loop-segment.ensures.value c.deref-in-loop-segment-2.ensures.value)
     (λ passed. c.found_more-found.ensures.claims passed ∙ ap₂ (λ x y. both f.claims (names_verdict g (length y) (length x) i (chains_by_rung x) (chains_by_rung y))) c.deref-in-loop-segment.ensures.value c.deref-in-loop-segment-2.ensures.value)
 
-pub verdict-verdict-requires-clause-form : goal.verdict-verdict-requires-clause-form
-verdict-verdict-requires-clause-form c =
+pub final_verdict-verdict-requires-clause-form : goal.final_verdict-verdict-requires-clause-form
+final_verdict-verdict-requires-clause-form c =
     let past = c.loop-segment-test.false in
     let most = c.loop-segment.auto.segment-end in
     let all = c.segments-last.ensures in
     let some = (head_read c.args.lines c.requires).form.segments.0 in
-    let fit = end_fits c.args.checker.now c.args.lines c.loop-segment.lines c.loop-segment.segment c.loop-segment.here.chains.items c.loop-segment.found c.requires (omega (arith, past, most, all, some)) c.loop-segment.invariant in
+    let fit = end_fits c.args.scene.now c.args.lines c.loop-segment.lines c.loop-segment.segment c.loop-segment.here.chains.items c.loop-segment.found c.requires (omega (arith, past, most, all, some)) c.loop-segment.invariant in
     rw c.deref-2.ensures.value fit.form
 
-pub verdict-verdict-requires-clause-fits : goal.verdict-verdict-requires-clause-fits
-verdict-verdict-requires-clause-fits c =
+pub final_verdict-verdict-requires-clause-fits : goal.final_verdict-verdict-requires-clause-fits
+final_verdict-verdict-requires-clause-fits c =
     let past = c.loop-segment-test.false in
     let most = c.loop-segment.auto.segment-end in
     let all = c.segments-last.ensures in
     let some = (head_read c.args.lines c.requires).form.segments.0 in
-    let fit = end_fits c.args.checker.now c.args.lines c.loop-segment.lines c.loop-segment.segment c.loop-segment.here.chains.items c.loop-segment.found c.requires (omega (arith, past, most, all, some)) c.loop-segment.invariant in
+    let fit = end_fits c.args.scene.now c.args.lines c.loop-segment.lines c.loop-segment.segment c.loop-segment.here.chains.items c.loop-segment.found c.requires (omega (arith, past, most, all, some)) c.loop-segment.invariant in
     let here : c.loop-segment.segment ≡ c.segments-last.result - 1 = omega (arith, past, most) in
     rw (← here, c.deref-2.ensures.value, c.plan-2.ensures, c.loop-segment.invariant.head) fit.fits
 
@@ -133,7 +133,7 @@ returns-in_err-next_layer c =
     let s = c.loop-segment.invariant in
     gives_error _ c.from_residual-in_err-next_layer.result c.in_err-next_layer.field-0.0 _ c.from_residual-in_err-next_layer.ensures.1
     (fault_said _ c.args.bound c.args.lines c.loop-segment.lines _ c.in_err-next_layer.field-0.0
-    (still_inside c.args.checker.now c.args.lines c.loop-segment.lines c.loop-segment.segment c.loop-segment.here.chains.items c.loop-segment.found (omega (arith, past, most, all, some)) s) s.rest c.in_err-next_layer.ensures.steps.0)
+    (still_inside c.args.scene.now c.args.lines c.loop-segment.lines c.loop-segment.segment c.loop-segment.here.chains.items c.loop-segment.found (omega (arith, past, most, all, some)) s) s.rest c.in_err-next_layer.ensures.steps.0)
 
 pub returns : goal.returns
 returns c =
@@ -144,12 +144,12 @@ returns c =
     let here : c.segments-last.result - 1 ≡ c.loop-segment.segment = omega (arith, past, most) in
     let s = c.loop-segment.invariant in
     let f = c.loop-segment.found in
-    let body = λ (x : List Chain) (n : ℕ) (p : List ℕ) (z b : ℤ). both (both f.ranges (ranges_verdict 0 (length x) n (chains_by_rung x) (chains_by_rung []))) (both f.claims (both (ends_verdict c.args.checker.now b (length x) n (chains_by_rung x)) (score_verdict c.args.checker.now p z))) in
+    let body = λ (x : List Chain) (n : ℕ) (p : List ℕ) (z b : ℤ). both (both f.ranges (ranges_verdict 0 (length x) n (chains_by_rung x) (chains_by_rung []))) (both f.claims (both (ends_verdict c.args.scene.now b (length x) n (chains_by_rung x)) (score_verdict c.args.scene.now p z))) in
     let score = c.score-score.result in
     let bound = c.args.bound in
     let fits : SFits w128 score = search rules in
-    verdict_said c.args.checker.now bound c.args.lines c.loop-segment.lines c.next_layer-2.new.self c.loop-segment.segment c.loop-segment.here.chains.items c.loop-segment.found c.in_ok-next_layer.field-0 c.verdict-verdict.result (omega (arith, past, most, all, some)) s c.in_ok-next_layer.ensures.steps
-    (c.verdict-verdict.ensures
+    verdict_said c.args.scene.now bound c.args.lines c.loop-segment.lines c.next_layer-2.new.self c.loop-segment.segment c.loop-segment.here.chains.items c.loop-segment.found c.in_ok-next_layer.field-0 c.final_verdict-verdict.result (omega (arith, past, most, all, some)) s c.in_ok-next_layer.ensures.steps
+    (c.final_verdict-verdict.ensures
     ∙ ap₂ (body c.deref-2.result.now (c.segments-last.result - 1) c.plan-2.result.now) (to_z-of_z w128 score fits) (to_z-of_z w128 bound c.ranges.bound)
     ∙ ap₂ (λ x n. body x n c.plan-2.result.now score bound) c.deref-2.ensures.value here
     ∙ ap₂ (λ p z. body c.loop-segment.here.chains.items c.loop-segment.segment p z bound) (c.plan-2.ensures ∙ ap (λ h. h.plan) s.head) (c.score-score.ensures ∙ ap (λ h. h.score) s.head))

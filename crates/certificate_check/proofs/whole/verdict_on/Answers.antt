@@ -20,12 +20,12 @@ found_first-found-requires c =
     record {
       rungs = omega (arith, long, starts, few);
       chains = c.layer.ensures.own.count ∙ sym starts ∙ sym long;
-      fits = λ passed. long ∙ starts ∙ (counts_match c.args.checker.now parts (both_first (counts_verdict c.args.checker.now parts.table parts.segments parts.rungs) _ (sym c.head_verdict-head.ensures ∙ passed))).rungs;
+      fits = λ passed. long ∙ starts ∙ (counts_match c.args.scene.now parts (both_first (counts_verdict c.args.scene.now parts.table parts.segments parts.rungs) _ (sym c.head_verdict-head.ensures ∙ passed))).rungs;
     }
 
 pub loop-segment-init : goal.loop-segment-init
 loop-segment-init c =
-    let g = c.args.checker.now in
+    let g = c.args.scene.now in
     let parts = certificate_parts c.args.cert.now in
     stands_first g parts c.head_verdict-head.result c.layer.result.now c.found_first-found.result c.requires.head.starts.0 c.layer.ensures.own
     (c.head_verdict-head.ensures ∙ ap (λ p. both (counts_verdict g parts.table parts.segments parts.rungs) (plan_verdict parts.segments parts.rungs p)) c.deref.ensures.value)
@@ -43,7 +43,7 @@ found_more-found-requires c =
     record {
       form = subst (λ p. IsLayer p c.layer-here.result.now) (per_inside parts.segments parts.rungs i inside ∙ sym next) c.layer-here.ensures.form;
       next = omega (arith, few, next);
-      fits = are_both c.args.checker.now parts i c.layer-here.result.now c.layer-next.result.now c.loop-segment.found inside c.layer-here.ensures.own c.layer-next.ensures.own c.loop-segment.invariant;
+      fits = are_both c.args.scene.now parts i c.layer-here.result.now c.layer-next.result.now c.loop-segment.found inside c.layer-here.ensures.own c.layer-next.ensures.own c.loop-segment.invariant;
     }
 
 pub loop-segment-preserved : goal.loop-segment-preserved
@@ -52,12 +52,12 @@ loop-segment-preserved c =
     let i = c.loop-segment.segment in
     let low = c.loop-segment-test.true in
     let inside : i + 1 < parts.segments = omega (arith, low) in
-    stands_more c.args.checker.now parts i c.layer-here.result.now c.layer-next.result.now c.loop-segment.found c.found_more-found.result inside c.layer-here.ensures.own c.layer-next.ensures.own c.loop-segment.invariant
+    stands_more c.args.scene.now parts i c.layer-here.result.now c.layer-next.result.now c.loop-segment.found c.found_more-found.result inside c.layer-here.ensures.own c.layer-next.ensures.own c.loop-segment.invariant
     c.found_more-found.ensures.ranges c.found_more-found.ensures.claims
 
-pub verdict-requires : goal.verdict-requires
-verdict-requires c =
-    let g = c.args.checker.now in
+pub final_verdict-requires : goal.final_verdict-requires
+final_verdict-requires c =
+    let g = c.args.scene.now in
     let parts = certificate_parts c.args.cert.now in
     let some = c.requires.head.segments.0 in
     let past = c.loop-segment-test.false in
@@ -73,7 +73,7 @@ verdict-requires c =
 
 pub returns : goal.returns
 returns c =
-    let g = c.args.checker.now in
+    let g = c.args.scene.now in
     let parts = certificate_parts c.args.cert.now in
     let some = c.requires.head.segments.0 in
     let past = c.loop-segment-test.false in
@@ -87,7 +87,7 @@ returns c =
     let last_layer = c.layer-2.result.now in
     let found = c.loop-segment.found in
     let n = parts.segments - 1 in
-    stands_last g parts c.args.bound n last_layer found c.verdict.result end c.layer-2.ensures.own stands
-    (c.verdict.ensures
+    stands_last g parts c.args.bound n last_layer found c.final_verdict.result end c.layer-2.ensures.own stands
+    (c.final_verdict.ensures
     ∙ ap (λ b. both (both found.ranges (ranges_verdict 0 (length last_layer) n (chains_by_rung last_layer) (chains_by_rung []))) (both found.claims (both (ends_verdict g b (length last_layer) n (chains_by_rung last_layer)) (score_verdict g c.deref-3.result.now (to_z w128 (of_z w128 value)))))) bound
     ∙ ap₂ (λ p z. both (both found.ranges (ranges_verdict 0 (length last_layer) n (chains_by_rung last_layer) (chains_by_rung []))) (both found.claims (both (ends_verdict g c.args.bound (length last_layer) n (chains_by_rung last_layer)) (score_verdict g p z)))) c.deref-3.ensures.value (to_z-of_z w128 value fits))

@@ -59,20 +59,20 @@ loop-row-preserved c =
       stands = w.stands;
     })
 
-pub returns-in-Err-clause-records : goal.returns-in-Err-clause-records
-returns-in-Err-clause-records c =
+pub returns-in-Err : goal.returns-in-Err
+returns-in-Err c =
     let inv = c.loop-row.invariant in
     let took = rw (c.in-Some.is, c.in-Err.is) at c.next.ensures.steps in
     let s = (took.0 inv.left inv.trim).0 inv.ready in
-    let n : c.len.result + 1 ≡ length (map fields_of c.loop-row.rows.items) + 1 = simp length-map (omega (arith, c.len.ensures)) in
+    let n : length c.loop-row.rows.items + 1 ≡ length (map fields_of c.loop-row.rows.items) + 1 = ap (λ k. k + 1) (sym (length-map c.loop-row.rows.items fields_of)) in
     let few : length (map fields_of c.loop-row.rows.items) < c.args.most = simp length-map (omega (arith, inv.count, took.1)) in
     let uneven : is_uneven c.in-Err.error.kind ≡ true = sym c.is_uneven.ensures ∙ c.if-not-is_uneven.false in
     ap (λ (k : ℕ). tabled (map fields_of c.loop-row.rows.items) (Some k)) n
     ∙ sym (refused (λ (s : Bor (List ℕ)). Some s.now) c.loop-row.row-iterator.iter.rdr c.next.new.self.iter.rdr c.args.most c.args.bytes.now inv.unread (map fields_of c.loop-row.rows.items) c.in-Err.error.kind
     few inv.config inv.expected inv.fit inv.source inv.stands s uneven)
 
-pub returns-clause-records : goal.returns-clause-records
-returns-clause-records c =
+pub returns : goal.returns
+returns c =
     let inv = c.loop-row.invariant in
     let rows = map fields_of c.loop-row.rows.items in
     let rdr = c.loop-row.row-iterator.iter.rdr in

@@ -2,7 +2,7 @@ use Rattle.std.proofs.Common.{◌≡◌, ◌+◌, ◌<◌, ℕ, List, Some, leng
 use Rattle.csv.specs.Reading.{Ready, default_config, source_of, strip_bom}
 use Rattle.csv.specs.Records.{fields_of}
 use Rattle.csv.specs.declared.reader.Trim.TheVariants as trim
-use Rattle.csv_records.specs.Walk.{Fit, Stands, width_of}
+use Rattle.csv_records.specs.Walk.{Fit, StandsBehind, width_of}
 use Rattle.csv_records.proofs.records.records_of.Given as goal
 
 abbrev pub invariant-loop-row : goal.invariant-loop-row
@@ -17,5 +17,5 @@ invariant-loop-row l = record {
   fit : Fit (map fields_of l.rows.items);
   unread : List ℕ;
   source : source_of (λ s. Some s.now) l.row-iterator.iter.rdr ≡ Some unread;
-  stands : Stands (strip_bom l.fn.bytes) (map fields_of l.rows.items) l.row-iterator.iter.rdr.state unread;
+  stands : StandsBehind (strip_bom l.fn.bytes) (map fields_of l.rows.items) l.row-iterator.iter.rdr.state unread;
 }

@@ -15,8 +15,9 @@ loop-segment-init c =
     let none = before_none g (grown d g) in
     let holds = holds_none d g a c.chain_count.result 0 c.chain_count.ensures.value c.in_ok-arena.ensures in
     let count = count_none d g a holds in
+    let most = c.labels-most.ensures.value in
     let start : 0 ≡ 0 * rungs_of g.film = omega arith in
-    record { holds = subst (HoldsBelow d g a) start holds; left = omega (arith, none); count = omega (arith, count) }
+    record { holds = subst (HoldsBelow d g a) start holds; left = omega (arith, none, most); count = omega (arith, count, most) }
 
 pub returns-in_err-left : goal.returns-in_err-left
 returns-in_err-left c =

@@ -9,6 +9,6 @@ use Rattle.frontier_planner.proofs.frontiers.grown_frontiers.Given as goal
 abbrev pub invariant-loop-segment : goal.invariant-loop-segment
 invariant-loop-segment l = record {
   holds : HoldsBelow l.brief.grid l.brief.scene l.arena (l.segment * rungs_of l.brief.scene.film);
-  left : l.left + labels_before l.brief.scene (grown l.brief.grid l.brief.scene) l.segment ≡ l.budget;
-  count : node_count l.arena + l.left ≡ l.budget;
+  left : l.left + labels_before l.brief.scene (grown l.brief.grid l.brief.scene) l.segment ≡ l.fn.budget;
+  count : node_count l.arena + l.left ≡ l.fn.budget;
 }

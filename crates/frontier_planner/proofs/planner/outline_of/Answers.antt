@@ -14,7 +14,8 @@ value_of_list-score-requires c =
     let d = c.args.brief.now.grid in
     let g = c.args.brief.now.scene in
     let case = c.segments.ensures.can in
-    subst (AreRungs g (segments_of g.film)) (sym (c.deref.ensures.value ∙ c.in_ok-end.ensures.rungs)) (list_fits d g case.grid case.task)
+    subst (λ t. AreRungs t (segments_of t.film) c.deref.result.now) (sym c.scene.ensures.value)
+    (subst (AreRungs g (segments_of g.film)) (sym (c.deref.ensures.value ∙ c.in_ok-end.ensures.rungs)) (list_fits d g case.grid case.task))
 
 pub end_value-requires : goal.end_value-requires
 end_value-requires c =
@@ -36,7 +37,7 @@ returns c =
     let held = c.in_ok-arena.ensures in
     let score : to_z w128 (of_z w128 c.value_of_list-score.result) ≡ c.value_of_list-score.result = search rules in
     let bound : to_z w128 (of_z w128 c.end_value.result) ≡ c.end_value.result = search rules in (
-      list_read d g case c.args.budget _ c.in_ok-end.ensures.rungs (score ∙ c.value_of_list-score.ensures ∙ ap (list_value g) c.deref.ensures.value) held.1 held.2
+      list_read d g case c.args.budget _ c.in_ok-end.ensures.rungs (score ∙ c.value_of_list-score.ensures.value ∙ ap (λ t. list_value t c.deref.result.now) c.scene.ensures.value ∙ ap (list_value g) c.deref.ensures.value) held.1 held.2
           (bound ∙ c.end_value.ensures ∙ ap (end_value g) c.in_ok-end.ensures.end),
       held.0,
     )

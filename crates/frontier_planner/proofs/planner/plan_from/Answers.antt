@@ -1,5 +1,4 @@
-use Rattle.std.proofs.Common.{◌≡◌, ◌∙◌, ap, subst}
-use Rattle.player_core.specs.Scene.{Task, task_of}
+use Rattle.std.proofs.Common.{◌≡◌, subst}
 use Rattle.labels.specs.Grown.{CanPlan}
 use Rattle.frontier_planner.specs.Planned.{CoarseAnswer}
 use Rattle.frontier_planner.specs.Planning.{IsPlanning, Planning}
@@ -8,11 +7,11 @@ use Rattle.frontier_planner.proofs.planner.plan_from.Goals as goal
 use Rattle.frontier_planner.proofs.planner.plan_from.Goals.{After-plan_of}
 
 -- what is planned is what is given
-planning_is : (c : After-plan_of) → c.new.result ≡ record { scene = task_of c.args.film.now c.args.clock.now c.args.setup.now c.args.ahead; grid = c.args.grid }
-planning_is c = c.new.ensures.value ∙ ap (λ (g : Task). record { scene = g; grid = c.args.grid }) c.new-scene.ensures.value
+planning_is : (c : After-plan_of) → c.new.result ≡ record { scene = c.args.scene.now; grid = c.args.grid }
+planning_is c = c.new.ensures.value
 
 -- a plan can be made of it
-can_plan : (c : After-plan_of) → CanPlan c.args.grid (task_of c.args.film.now c.args.clock.now c.args.setup.now c.args.ahead)
+can_plan : (c : After-plan_of) → CanPlan c.args.grid c.args.scene.now
 can_plan c = subst IsPlanning (planning_is c) c.new.ensures.can
 
 pub returns-clause-coarse : goal.returns-clause-coarse
@@ -20,7 +19,7 @@ returns-clause-coarse c =
     subst (λ (p : Planning). CoarseAnswer p.grid p.scene c.args.budget c.plan_of.result) (planning_is c) c.plan_of.ensures
 
 pub returns-clause-exact : goal.returns-clause-exact
-returns-clause-exact c = exact_answer c.args.grid (task_of c.args.film.now c.args.clock.now c.args.setup.now c.args.ahead) (can_plan c) c.args.budget c.plan_of.result (returns-clause-coarse c)
+returns-clause-exact c = exact_answer c.args.grid c.args.scene.now (can_plan c) c.args.budget c.plan_of.result (returns-clause-coarse c)
 
 pub returns-clause-bound : goal.returns-clause-bound
-returns-clause-bound c = exact_bound c.args.grid (task_of c.args.film.now c.args.clock.now c.args.setup.now c.args.ahead) (can_plan c) c.args.budget c.plan_of.result (returns-clause-coarse c)
+returns-clause-bound c = exact_bound c.args.grid c.args.scene.now (can_plan c) c.args.budget c.plan_of.result (returns-clause-coarse c)

@@ -6,7 +6,7 @@ use Rattle.frontier_planner.specs.Brief.{AreFollowed}
 use Rattle.frontier_planner.specs.Linked.{pair_of}
 use Rattle.labels.specs.Near.{CanFollow}
 use Rattle.frontier_planner.specs.Thinned.{AreLeaders}
-use Rattle.labels.proofs.Follows.{label_follows}
+use Rattle.labels.proofs.Follows.{in_reach, label_follows}
 use Rattle.labels.proofs.Walks.{in_map}
 use Rattle.frontier_planner.proofs.Thinned.{sorted_enough, sorted_follow}
 use Rattle.frontier_planner.proofs.thin.labels_to_follow.Goals as goal
@@ -15,8 +15,10 @@ pub waiting_labels-requires-clause-before : goal.waiting_labels-requires-clause-
 waiting_labels-requires-clause-before c = λ k e inside.
     let x = get_or c.args.before.now k e in
     let low = c.requires.segment.1 in
-    label_follows c.args.brief.now.grid c.args.brief.now.scene c.segments.ensures.can (c.args.segment - 1) (pair_of x) (omega (arith, low))
-    (subst (λ cs. Contains cs (pair_of x)) c.requires.before (in_map pair_of c.args.before.now x (Contains-get_or c.args.before.now k e inside)))
+    let d = c.args.brief.now.grid in
+    let g = c.args.brief.now.scene in
+    let there = subst (λ cs. Contains cs (pair_of x)) c.requires.before (in_map pair_of c.args.before.now x (Contains-get_or c.args.before.now k e inside)) in
+    ((in_reach d g c.segments.ensures.can (c.args.segment - 1) (pair_of x) (omega (arith, low)) there).0, label_follows d g c.segments.ensures.can (c.args.segment - 1) (pair_of x) (omega (arith, low)) there)
 
 pub leaders-requires-clause-follow : goal.leaders-requires-clause-follow
 leaders-requires-clause-follow c =

@@ -3,7 +3,7 @@ use Rattle.std.proofs.lemmas.List.{take_all}
 use Rattle.lab_words.specs.Command.{view}
 use Rattle.lab_inputs.specs.Roles.{later_files}
 use Rattle.lab_inputs.specs.Contents.{ContentValues}
-use Rattle.lab_inputs.specs.Stages.{file_of}
+use Rattle.lab_inputs.specs.Stages.{named_file}
 use Rattle.lab_inputs.proofs.Steps.{asks_more, at_file, film_first, film_halts, film_wanting, inputs_one_more, later_halts, next_file}
 use Rattle.lab_inputs.proofs.Roles.{among_none, networks_among, networks_named}
 use Rattle.lab_inputs.proofs.Within.{one_more_counted}
@@ -29,9 +29,9 @@ loop-file-init g c =
 
 pub returns-in-Err-take_file-clause-comes : goal.returns-in-Err-take_file-clause-comes
 returns-in-Err-take_file-clause-comes g c =
-    (later_halts _ (λ v. v) (string_bytes c.args.command.now.manifest) (later_files (view c.args.command.now)) (map file_of (take c.loop-file.file-index c.deref-file-items.result.now)) (map file_of (drop (c.loop-file.file-index + 1) c.deref-file-items.result.now))
-    (file_of (get_or c.deref-file-items.result.now c.loop-file.file-index _)) c.loop-file.contents (g.F.Shelf.shelved c.args.shelf.now) (g.F.Shelf.shelved c.loop-file.shelf) (g.F.Shelf.shelved c.take_file.new.shelf) c.take_file.result c.in-Err-take_file.err c.at-in-Err-take_file.result
-    (sym c.in_ok-later.ensures ∙ ap (map file_of) (sym c.deref-file-items.ensures.value) ∙ at_file c.deref-file-items.result.now c.loop-file.file-index _ c.loop-file-test.true)
+    (later_halts _ (λ v. v) (string_bytes c.args.command.now.manifest) (later_files (view c.args.command.now)) (map named_file (take c.loop-file.file-index c.deref-file-items.result.now)) (map named_file (drop (c.loop-file.file-index + 1) c.deref-file-items.result.now))
+    (named_file (get_or c.deref-file-items.result.now c.loop-file.file-index _)) c.loop-file.contents (g.F.Shelf.shelved c.args.shelf.now) (g.F.Shelf.shelved c.loop-file.shelf) (g.F.Shelf.shelved c.take_file.new.shelf) c.take_file.result c.in-Err-take_file.err c.at-in-Err-take_file.result
+    (sym c.in_ok-later.ensures ∙ ap (map named_file) (sym c.deref-file-items.ensures.value) ∙ at_file c.deref-file-items.result.now c.loop-file.file-index _ c.loop-file-test.true)
     c.in-Err-take_file.is c.at-in-Err-take_file.ensures c.loop-file.invariant.asks c.loop-file.invariant.values c.take_file.ensures.reads)
 
 pub loop-file-preserved : goal.loop-file-preserved
@@ -46,10 +46,10 @@ loop-file-preserved g c =
 
 pub returns-clause-comes : goal.returns-clause-comes
 returns-clause-comes g c =
-    let all = ap (map file_of) (take_all c.loop-file.file-index c.deref-file-items.result.now c.loop-file-test.false) ∙ ap (map file_of) c.deref-file-items.ensures.value ∙ c.in_ok-later.ensures in
+    let all = ap (map named_file) (take_all c.loop-file.file-index c.deref-file-items.result.now c.loop-file-test.false) ∙ ap (map named_file) c.deref-file-items.ensures.value ∙ c.in_ok-later.ensures in
     (rw all at c.loop-file.invariant.asks, rw all at c.loop-file.invariant.values)
 
 pub returns-clause-count : goal.returns-clause-count
 returns-clause-count g c =
-    let all = ap (map file_of) (take_all c.loop-file.file-index c.deref-file-items.result.now c.loop-file-test.false) ∙ ap (map file_of) c.deref-file-items.ensures.value ∙ c.in_ok-later.ensures in
+    let all = ap (map named_file) (take_all c.loop-file.file-index c.deref-file-items.result.now c.loop-file-test.false) ∙ ap (map named_file) c.deref-file-items.ensures.value ∙ c.in_ok-later.ensures in
     c.loop-file.invariant.count ∙ ap networks_among all ∙ networks_named (view c.args.command.now)

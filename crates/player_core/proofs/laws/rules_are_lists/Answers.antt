@@ -1,4 +1,4 @@
-use Rattle.player_core.proofs.Lists.{rules_are_lists}
+use Rattle.player_core.proofs.Tasks.{rules_are_lists}
 use Rattle.player_core.proofs.laws.rules_are_lists.Goals as goal
 
 pub returns : goal.returns

@@ -12,7 +12,7 @@ use Rattle.seek_script.proofs.script.read_seeks.Goals as goal
 gives : (c : goal.After-drop-records) → Gives {X = Vec Seek Global} {Y = List Seek} (λ v. v.items) c.seeks_in.result (seeks_of c.args.bytes.now c.args.segments)
 gives c =
     subst (Gives {X = Vec Seek Global} {Y = List Seek} (λ v. v.items) c.seeks_in.result)
-    (ap (seeks_in c.args.segments) c.in-Ok.ensures.records ∙ seeks_within c.args.bytes.now c.args.segments) c.seeks_in.ensures
+    (ap (seeks_in c.args.segments) c.in-Ok.ensures ∙ seeks_within c.args.bytes.now c.args.segments) c.seeks_in.ensures
 
 limits : (bytes : List ℕ) (segments : ℕ) (r : Result (Vec Seek Global) InputFault) → Gives (λ v. v.items) r (seeks_of bytes segments) → IfOk r (λ v. SeeksFit v.items segments)
 limits bytes segments (Ok v) h = within bytes segments v.items h

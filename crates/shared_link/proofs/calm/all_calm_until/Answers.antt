@@ -4,7 +4,7 @@ use Rattle.player_core.specs.declared.body.Body.{Body}
 use Rattle.player_core.specs.Parts.{is_ended}
 use Rattle.player_core.specs.Seen.{mode_of}
 use Rattle.shared_link.specs.Calm.{StaysCalm}
-use Rattle.shared_link.specs.Table.{GoesOn}
+use Rattle.shared_link.specs.Table.{BodyGoesOn}
 use Rattle.shared_link.proofs.Stays.{calm_next, stays_less}
 use Rattle.shared_link.proofs.calm.all_calm_until.Goals as goal
 use Rattle.shared_link.proofs.calm.all_calm_until.Goals.{then-not-is_ended, else-not-is_ended}
@@ -17,13 +17,13 @@ loop-body-preserved c =
     let o = c.args.course.now in
     let bodies = c.args.bodies.now in
     let body = c.body-item.result in
-    let times = λ (i : ℕ) (d : Body) (low : i < length bodies) (on : GoesOn (get_or bodies i d)). (c.requires.rest i d low on).0 in
+    let times = λ (i : ℕ) (d : Body) (low : i < length bodies) (on : BodyGoesOn (get_or bodies i d)). (c.requires.rest i d low on).0 in
     let inside = c.loop-body-test.true in
     let mode = c.is_ended.ensures in
     elim c.if-not-is_ended.branch [
       | then-not-is_ended w ↦
-          let goes : GoesOn body = sym mode ∙ w.if-not-is_ended.true in
-          let at : body.t ≡ c.args.t = ap (λ (b : Body). b.t) c.body-item.is ∙ times c.loop-body.body-index body inside (subst GoesOn c.body-item.is goes) in
+          let goes : BodyGoesOn body = sym mode ∙ w.if-not-is_ended.true in
+          let at : body.t ≡ c.args.t = ap (λ (b : Body). b.t) c.body-item.is ∙ times c.loop-body.body-index body inside (subst BodyGoesOn c.body-item.is goes) in
           let calm : StaysCalm o c.args.takers w.calm_until.result body = w.calm_until.ensures in
           let past = calm.later in
           let least = w.min-until.ensures in

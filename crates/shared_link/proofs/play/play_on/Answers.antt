@@ -5,10 +5,10 @@ use Rattle.lab_model.specs.declared.trace.Period.{Period}
 use Rattle.network_clock.specs.Network.{parted, period_at}
 use Rattle.network_clock.specs.Shared.{Shared}
 use Rattle.player_core.specs.declared.body.Body.{Body}
-use Rattle.shared_link.specs.Calm.{AllGlide, CanCome, CanRest, StaysCalm, takers_at}
+use Rattle.shared_link.specs.Calm.{AllGlide, CanCome, CanRestTogether, StaysCalm, takers_at}
 use Rattle.shared_link.specs.Joint.{all_end_at, instants, players_after, takers_in}
 use Rattle.shared_link.specs.Laws.{share_at}
-use Rattle.shared_link.specs.Table.{AllCanPass, AreFirst, AllPass, GoesOn, HasEnded, Stand, joint_on}
+use Rattle.shared_link.specs.Table.{AllCanPass, AreFirstBodies, AllPass, BodyGoesOn, HasEnded, Stand, joint_on_course}
 use Rattle.shared_link.proofs.Rounds.{round_meets, round_met, written}
 use Rattle.shared_link.proofs.Top.{Sit, all_can_pass, ended_sessions, going_all, top_early, top_first, top_passed}
 use Rattle.shared_link.proofs.Turns.{all_can_come, all_can_rest, going_on, top_glided}
@@ -17,7 +17,7 @@ use Rattle.shared_link.proofs.play.play_on.Goals as goal
 pub loop-turn-init : goal.loop-turn-init
 loop-turn-init g c = record {
   top = top_first c.args.course.now (map g.T.Rule.kind c.args.rules.items) c.requires.joint c.requires.plain g.T.Rule.kind g.T.Rule.stands_for c.in_ok-bodies.bodies.items c.args.rules.items refl
-      (subst (λ k. AreFirst k c.in_ok-bodies.bodies.items) (c.len.ensures ∙ c.args.rules.ok.0) c.in_ok-bodies.ensures) c.requires.told;
+      (subst (λ k. AreFirstBodies k c.in_ok-bodies.bodies.items) (c.len.ensures ∙ c.args.rules.ok.0) c.in_ok-bodies.ensures) c.requires.told;
   later = omega arith;
 }
 
@@ -43,7 +43,7 @@ returns-then-have_all_ended g c =
     let plain = c.requires.plain in
     let n = c.loop-turn.t in
     let top = c.loop-turn.invariant.top in
-    let j = joint_on o kinds in
+    let j = joint_on_course o kinds in
     let d0 = c.deref_mut.result.now in
     let r0 = c.deref_mut-in-loop-turn.result.now in
     let v0 = c.loop-turn.bodies.items in
@@ -83,7 +83,7 @@ all_calm_until-until-requires-clause-rest g c =
     let plain = c.requires.plain in
     let n = c.loop-turn.t in
     let top = c.loop-turn.invariant.top in
-    let j = joint_on o kinds in
+    let j = joint_on_course o kinds in
     let d0 = c.deref_mut.result.now in
     let r0 = c.deref_mut-in-loop-turn.result.now in
     let v0 = c.loop-turn.bodies.items in
@@ -97,9 +97,9 @@ all_calm_until-until-requires-clause-rest g c =
     let back1 = written size v0 b1 was long1 in
     let early : n < 1000000000000000 = top_early o kinds is plain n top.going in
     let period : c.period_at-period.result ≡ period_at o.scene.now.periods n = c.period_at-period.ensures.value ∙ ap (λ ps. period_at ps n) (c.clock.ensures.value ∙ ap (λ (s : Shared). s.periods) c.requires.link) in
-    let rest : All (λ b. GoesOn b → (b.t ≡ n) × CanRest o (period_at o.scene.now.periods n) b) b1 = λ i b low. all_can_rest o kinds is plain kind stands n 0 0 b1 h1 met i b low in
-    subst (All (λ b. GoesOn b → (b.t ≡ n) × CanRest o c.period_at-period.result b)) (sym (c.deref-in-loop-turn-2.ensures.value ∙ back1))
-    (subst (λ p. All (λ b. GoesOn b → (b.t ≡ n) × CanRest o p b) b1) (sym period) rest)
+    let rest : All (λ b. BodyGoesOn b → (b.t ≡ n) × CanRestTogether o (period_at o.scene.now.periods n) b) b1 = λ i b low. all_can_rest o kinds is plain kind stands n 0 0 b1 h1 met i b low in
+    subst (All (λ b. BodyGoesOn b → (b.t ≡ n) × CanRestTogether o c.period_at-period.result b)) (sym (c.deref-in-loop-turn-2.ensures.value ∙ back1))
+    (subst (λ p. All (λ b. BodyGoesOn b → (b.t ≡ n) × CanRestTogether o p b) b1) (sym period) rest)
 
 pub pass_all-requires : goal.pass_all-requires
 pass_all-requires g c =
@@ -111,7 +111,7 @@ pass_all-requires g c =
     let plain = c.requires.plain in
     let n = c.loop-turn.t in
     let top = c.loop-turn.invariant.top in
-    let j = joint_on o kinds in
+    let j = joint_on_course o kinds in
     let d0 = c.deref_mut.result.now in
     let r0 = c.deref_mut-in-loop-turn.result.now in
     let v0 = c.loop-turn.bodies.items in
@@ -136,7 +136,7 @@ glide_all-requires-clause-comes g c =
     let plain = c.requires.plain in
     let n = c.loop-turn.t in
     let top = c.loop-turn.invariant.top in
-    let j = joint_on o kinds in
+    let j = joint_on_course o kinds in
     let d0 = c.deref_mut.result.now in
     let r0 = c.deref_mut-in-loop-turn.result.now in
     let v0 = c.loop-turn.bodies.items in
@@ -156,7 +156,7 @@ glide_all-requires-clause-comes g c =
     let same : takers ≡ takers_at j n = c.count_takers-takers.ensures.takers (instants j (players_after j n)) stand
     ∙ ap₂ (λ (p : Period) (m : ℕ). takers_in p (instants j (players_after j n)) m) period (ap length listed ∙ met.count) in
     let until = c.all_calm_until-until.result in
-    let calm : All (λ b. GoesOn b → StaysCalm o takers until b) b1 = subst (All (λ b. GoesOn b → StaysCalm o takers until b)) (c.deref-in-loop-turn-2.ensures.value ∙ back1) c.all_calm_until-until.ensures.calm in
+    let calm : All (λ b. BodyGoesOn b → StaysCalm o takers until b) b1 = subst (All (λ b. BodyGoesOn b → StaysCalm o takers until b)) (c.deref-in-loop-turn-2.ensures.value ∙ back1) c.all_calm_until-until.ensures.calm in
     let b2 = c.pass_all.new.bodies in
     let share : c.share_of.result ≡ share_at j n = c.share_of.ensures ∙ ap₂ parted same period in
     let d2 : c.deref_mut-in-loop-turn-2.result.now ≡ b1 = c.deref_mut-in-loop-turn-2.ensures.value ∙ back1 in
@@ -167,7 +167,7 @@ glide_all-requires-clause-comes g c =
     let back2 = written size v1 b2 (ap length back1 ∙ long1) long2 in
     let later = c.all_calm_until-until.ensures.later in
     let most = c.all_calm_until-until.ensures.limit in
-    subst (All (λ b. GoesOn b → CanCome until b)) (sym (c.deref_mut-in-loop-turn-3.ensures.value ∙ back2))
+    subst (All (λ b. BodyGoesOn b → CanCome until b)) (sym (c.deref_mut-in-loop-turn-3.ensures.value ∙ back2))
     (all_can_come o kinds is plain kind stands n takers until b1 h1 met same calm later early most b2 passed mid)
 
 pub loop-turn-preserved : goal.loop-turn-preserved
@@ -180,7 +180,7 @@ loop-turn-preserved g c =
     let plain = c.requires.plain in
     let n = c.loop-turn.t in
     let top = c.loop-turn.invariant.top in
-    let j = joint_on o kinds in
+    let j = joint_on_course o kinds in
     let d0 = c.deref_mut.result.now in
     let r0 = c.deref_mut-in-loop-turn.result.now in
     let v0 = c.loop-turn.bodies.items in
@@ -200,7 +200,7 @@ loop-turn-preserved g c =
     let same : takers ≡ takers_at j n = c.count_takers-takers.ensures.takers (instants j (players_after j n)) stand
     ∙ ap₂ (λ (p : Period) (m : ℕ). takers_in p (instants j (players_after j n)) m) period (ap length listed ∙ met.count) in
     let until = c.all_calm_until-until.result in
-    let calm : All (λ b. GoesOn b → StaysCalm o takers until b) b1 = subst (All (λ b. GoesOn b → StaysCalm o takers until b)) (c.deref-in-loop-turn-2.ensures.value ∙ back1) c.all_calm_until-until.ensures.calm in
+    let calm : All (λ b. BodyGoesOn b → StaysCalm o takers until b) b1 = subst (All (λ b. BodyGoesOn b → StaysCalm o takers until b)) (c.deref-in-loop-turn-2.ensures.value ∙ back1) c.all_calm_until-until.ensures.calm in
     let b2 = c.pass_all.new.bodies in
     let share : c.share_of.result ≡ share_at j n = c.share_of.ensures ∙ ap₂ parted same period in
     let d2 : c.deref_mut-in-loop-turn-2.result.now ≡ b1 = c.deref_mut-in-loop-turn-2.ensures.value ∙ back1 in

@@ -1,5 +1,5 @@
-use Rattle.trace_reader.proofs.Walked.{Reads}
+use Rattle.trace_reader.proofs.Walked.{HasReadPeriods}
 use Rattle.trace_reader.proofs.csv_trace.text_periods.Given as goal
 
 abbrev pub invariant-loop-row : goal.invariant-loop-row
-invariant-loop-row l = Reads l.fn.bytes l.periods.items l.row l.walk
+invariant-loop-row l = HasReadPeriods l.fn.bytes l.periods.items l.row l.walk

@@ -1,7 +1,7 @@
 use Rattle.std.proofs.Common.{◌≡◌, ◌∙◌, ◌+◌, ◌-◌, ◌*◌, ◌<◌, ℕ, length, length-set, refl, ap, subst, arith}
 use Rattle.std.specs.Prelude.{ℤ, ◌≤ℤ◌}
 use Rattle.std.proofs.lemmas.Int.{ints}
-use Rattle.mpc_rule.specs.Relaxations.{IsMost, promise_of}
+use Rattle.mpc_rule.specs.Relaxations.{IsMostToCome, promise_of}
 use Rattle.mpc_rule.proofs.Places.{filled_more}
 use Rattle.mpc_rule.proofs.Prospects.{most_last, most_more, price_most}
 use Rattle.mpc_rule.proofs.forecast.Forecast.relaxation.Goals as goal
@@ -34,9 +34,9 @@ loop-n-preserved c =
     let m = c.greatest_promise.result in
     let sum = most_more o p n (f.length - (n + 1)) m c.loop-n.sum _ c.requires.price (omega arith) (omega arith)
     (λ r low. subst (λ (k : ℕ). promise_of o p (o.context.now.next + k) r ≤ℤ m) place (c.greatest_promise.ensures.most r low)) c.greatest_promise.ensures.limits
-    (subst (λ (k : ℕ). IsMost o p n k c.loop-n.sum) before (subst (IsMost o p n (f.length - n)) c.loop-n.sum-is c.loop-n.invariant.sum)) (omega (arith, ints, load, media)) in
+    (subst (λ (k : ℕ). IsMostToCome o p n k c.loop-n.sum) before (subst (IsMostToCome o p n (f.length - n)) c.loop-n.sum-is c.loop-n.invariant.sum)) (omega (arith, ints, load, media)) in
     record {
       places = length-set c.loop-n.most n _ ∙ c.loop-n.invariant.places;
       sum = sum;
-      most = filled_more (λ (k : ℕ) (z : ℤ). IsMost o p (k + 1) (f.length - (k + 1)) z) c.loop-n.most n _ room c.loop-n.invariant.most sum;
+      most = filled_more (λ (k : ℕ) (z : ℤ). IsMostToCome o p (k + 1) (f.length - (k + 1)) z) c.loop-n.most n _ room c.loop-n.invariant.most sum;
     }

@@ -1,6 +1,6 @@
 use Rattle.std.proofs.Common.{◌+◌, ◌<◌, ◌∙◌, ℕ, List, length, length-set, arith}
 use Rattle.mpc_rule.specs.declared.outlook.Foretold.{Foretold}
-use Rattle.mpc_rule.specs.Search.{IsRow}
+use Rattle.mpc_rule.specs.Search.{IsForetoldRow}
 use Rattle.mpc_rule.proofs.Places.{filled_more}
 use Rattle.mpc_rule.proofs.outlook.Outlook.table.Goals as goal
 
@@ -10,5 +10,5 @@ loop-k-preserved c =
     let room : c.loop-k.k < length c.loop-k.rows = omega arith in
     record {
       places = length-set c.loop-k.rows c.loop-k.k c.row.result ∙ c.loop-k.invariant.places;
-      filled = filled_more (λ (k : ℕ) (row : List Foretold). IsRow o (o.context.now.next + k) row) c.loop-k.rows c.loop-k.k c.row.result room c.loop-k.invariant.filled c.row.ensures;
+      filled = filled_more (λ (k : ℕ) (row : List Foretold). IsForetoldRow o (o.context.now.next + k) row) c.loop-k.rows c.loop-k.k c.row.result room c.loop-k.invariant.filled c.row.ensures;
     }

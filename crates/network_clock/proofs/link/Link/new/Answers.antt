@@ -1,17 +1,11 @@
-use Rattle.std.proofs.Common.{◌≡◌, ◌+◌, ◌-◌, ◌∙◌, ap₂, length, subst, sym, arith}
+use Rattle.std.proofs.Common.{◌≡◌, ◌+◌, ◌-◌, ◌∙◌, ap, ap₂, length, subst, sym, arith}
 use Rattle.network_clock.specs.Flow.{parted_trace}
 use Rattle.network_clock.specs.Shared.{AreLanes, shared}
-use Rattle.network_clock.proofs.Lanes.{lane_paced, lanes_more, lanes_none}
+use Rattle.network_clock.proofs.Lanes.{lanes_more, lanes_none}
 use Rattle.network_clock.proofs.link.Link.new.Goals as goal
 
 pub loop-takers-init : goal.loop-takers-init
 loop-takers-init c = record { some = omega arith; lanes = rw c.new-lanes.ensures.items (lanes_none c.args.trace.now) }
-
-pub new-requires-in-loop-takers : goal.new-requires-in-loop-takers
-new-requires-in-loop-takers c =
-    let players = c.requires.players.1 in
-    let inside = c.loop-takers-test.true in
-    rw (c.in_ok-lane.ensures, c.periods.ensures.value) (lane_paced c.loop-takers.takers c.args.trace.now (omega (arith, players, inside)) c.new.ensures.trace)
 
 pub loop-takers-preserved : goal.loop-takers-preserved
 loop-takers-preserved c =
@@ -19,7 +13,7 @@ loop-takers-preserved c =
     let some = c.loop-takers.invariant.some in
     let n = c.loop-takers.takers - 2 in
     let takers : c.loop-takers.takers ≡ n + 2 = omega (arith, some) in
-    let lane = c.in_ok-new.ensures ∙ c.in_ok-lane.ensures ∙ ap₂ parted_trace takers c.periods.ensures.value in
+    let lane = c.in_ok-new.ensures ∙ c.in_ok-lane.ensures.periods ∙ ap (λ k. parted_trace k ps) takers in
     let next : n + 1 ≡ c.loop-takers.takers + 1 - 2 = omega (arith, some) in
     record {
       some = omega (arith, some);

@@ -2,7 +2,7 @@ use Rattle.std.proofs.Common.{[], ◌+◌}
 use Rattle.std.proofs.lemmas.Result.{IfOk-weaker}
 use Rattle.player_core.specs.Course.{case_on}
 use Rattle.player_core.proofs.Chain.{goes_on_same, goes_on_told, now_left, ruled_ready, ruled_request, sound_given}
-use Rattle.player_core.proofs.Follow.{judge_ready, range_ready, request_ready, room_ready, wasted_ready}
+use Rattle.player_core.proofs.Follow.{judge_ready, request_ready, room_ready, wasted_ready}
 use Rattle.player_core.proofs.body.Body.go_on.Goals as goal
 
 pub abandon-requires-clause-judge : goal.abandon-requires-clause-judge
@@ -12,7 +12,7 @@ pub seek-requires : goal.seek-requires
 seek-requires g c =
     let sound = sound_given _ c.requires.case c.args.self.now c.requires.sound c.abandon.new.self (c.in_ok-abandon.ensures.abandons (g.T.Rule.kind c.args.rule.now)) in
     record {
-      running = range_ready _ _ c.abandon.new.self sound;
+      judge = judge_ready _ c.requires.case _ c.abandon.new.self sound;
       loaded = sound.loaded;
       room = room_ready _ c.requires.case _ c.abandon.new.self sound;
       wasted = wasted_ready _ c.requires.case _ c.abandon.new.self sound;

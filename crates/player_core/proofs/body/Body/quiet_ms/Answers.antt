@@ -1,7 +1,7 @@
 use Rattle.std.proofs.Common.{◌≡◌, ℕ, ◌+◌, ◌≤◌, ◌<◌, None, Some, IfSome, option_map, sym, ap, subst, arith}
 use Rattle.network_clock.specs.Network.{done_on}
 use Rattle.player_core.specs.Course.{case_on}
-use Rattle.player_core.specs.Sound.{Runs, asked_size}
+use Rattle.player_core.specs.Sound.{DownloadRuns, asked_size}
 use Rattle.player_core.specs.Quiet.{IsKeptAt}
 use Rattle.player_core.specs.Seen.{IsTimed, download_of, seen}
 use Rattle.player_core.proofs.Stretch.{untouched_less}
@@ -18,7 +18,7 @@ returns-in-Some-clause-quiet c = λ knows kind history is running.
     let d = download_of c.in-Some.d in
     let some : 1 ≤ ms = returns-in-Some-clause-some c in
     let runs : Some d ≡ q.download = sym (ap (option_map download_of) c.in-Some.is) in
-    let run : Runs k q.t d = subst (λ o. IfSome o (Runs k q.t)) (sym runs) running in
+    let run : DownloadRuns k q.t d = subst (λ o. IfSome o (DownloadRuns k q.t)) (sym runs) running in
     let done = (subst (IsTimed k.film k.network) c.in-Some.is knows).1 in
     let arrives : q.t + ms ≤ done_on k.network d.asked (asked_size k d) = omega (arith, done, c.quiet_ms.ensures.arrives, c.min.ensures) in
     record {
