@@ -22,7 +22,7 @@ use Rattle.labels.specs.Parts.{CertificateParts}
 use Rattle.certificate_check.specs.declared.verdict.Verdict.{Verdict}
 use Rattle.certificate_check.specs.declared.verdict.Verdict.TheVariants.{Yes, No}
 use Rattle.certificate_text.specs.Form.{GapParts}
-use Rattle.certificate_text.specs.Reading.{certificate_of, gap_of, head_at}
+use Rattle.certificate_text.specs.Reading.{certificate_of, gap_of, read_head}
 use Rattle.certificate_text.specs.Walk.{Walk, accepted, begun, begun_gap, certificate_by, first_walk, gap_accepted, rest_of}
 use Rattle.certificate_text.proofs.LayerByLayer.{bad_gap, bad_head}
 use Rattle.certificate_text.proofs.WalkLaws.{begun_rest, gap_inner}
@@ -47,7 +47,7 @@ ok_same o x y e h = cc
 own_walk : (bytes : Text) (w : Walk) → begun bytes ≡ Ok w → w.bound ≡ w.head.score
 unfolding begun
 own_walk bytes w b =
-    let x = then_ok (head_at 0 bytes) (λ head. Ok (first_walk head.0.score head)) w b in
+    let x = then_ok (read_head 0 bytes) (λ head. Ok (first_walk head.0.score head)) w b in
     let same : first_walk x.0.0.score x.0 ≡ w = ok_same _ _ w refl x.2 in
     subst (λ (v : Walk). v.bound ≡ v.head.score) same refl
 

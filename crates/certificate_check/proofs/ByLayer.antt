@@ -20,7 +20,7 @@ use Rattle.certificate_check.specs.declared.verdict.Verdict.TheVariants.{Yes}
 use Rattle.labels.specs.Form.{AreChains, IsChain, IsHead, label_count, names_per}
 use Rattle.certificate_text.specs.Form.{GapParts}
 use Rattle.certificate_text.specs.Reading.{Place}
-use Rattle.certificate_text.specs.Walk.{IsBegun, Walk, begun, begun_gap, certificate_by, layer_of, layer_parts, prepended, rest_of}
+use Rattle.certificate_text.specs.Walk.{IsBegun, Walk, begun, begun_gap, certificate_by, chains_behind, layer_of, layer_parts, rest_of}
 use Rattle.certificate_text.proofs.CertificateLaws.{chains_take}
 use Rattle.certificate_text.proofs.Loops.{ok_is}
 use Rattle.certificate_text.proofs.HeadLaws.{head_takes}
@@ -75,7 +75,7 @@ pub record StandsAt (g : Task) (first w : Walk) (i : ℕ) (here : List Chain) (f
   pub head : w.head ≡ first.head
   pub segment : w.segment ≡ i + 1
   pub room : (p : Place) → w.at ≡ Ok p → p.left ≤ 1000000
-  pub rest : rest_of first ≡ prepended (before ++ map chain_parts here) (rest_of w)
+  pub rest : rest_of first ≡ chains_behind (before ++ map chain_parts here) (rest_of w)
   pub long : length here ≡ first.head.rungs
   pub form : IsLayer (names_per first.head.segments first.head.rungs i) here
   -- whatever chains come later
@@ -187,7 +187,7 @@ stands_on g first w v i here next f h begun inside s read ranges claims =
       head = r.head ∙ s.head;
       segment = r.segment;
       room = r.room;
-      rest = s.rest ∙ ap (prepended (s.before ++ map chain_parts here)) (rest_more w v (map chain_parts next) low read) ∙ prepended_twice (s.before ++ map chain_parts here) (map chain_parts next) (rest_of v);
+      rest = s.rest ∙ ap (chains_behind (s.before ++ map chain_parts here)) (rest_more w v (map chain_parts next) low read) ∙ prepended_twice (s.before ++ map chain_parts here) (map chain_parts next) (rest_of v);
       long = next_long;
       form = subst (λ (x : CertificateParts). IsLayer (names_per x.segments x.rungs (i + 1)) next) s.head r.form;
       stands = λ more.
@@ -199,7 +199,7 @@ stands_on g first w v i here next f h begun inside s read ranges claims =
           (subst (λ (cs : List ChainParts). HasFound g (with_chains first.head cs) i f) same (s.stands (map chain_parts next ++ more))) ranges claims;
     }
   where
-    prepended_twice : (front more : List ChainParts) (read : Result (List ChainParts) Refusal) → prepended front (prepended more read) ≡ prepended (front ++ more) read
+    prepended_twice : (front more : List ChainParts) (read : Result (List ChainParts) Refusal) → chains_behind front (chains_behind more read) ≡ chains_behind (front ++ more) read
     prepended_twice front more (Ok cs) = ap (λ (x : List ChainParts). Ok x) (sym (append_assoc front more cs))
     prepended_twice front more (Err e) = refl
 
@@ -267,7 +267,7 @@ whole_read : (g : Task) (first w v : Walk) (i : ℕ) (here : List Chain) (f : Fo
     → layer_of w ≡ Ok (layer_parts layer, v) → (s : List ChainParts) × (certificate_by first ≡ Ok (with_chains first.head s)) × HasFound g (with_chains first.head s) i f × IsLayerOf (with_chains first.head s) i here
 whole_read g first w v i here f layer last s h = (
   s.before ++ (map chain_parts here ++ []),
-  ap (whole_of first.head) (s.rest ∙ ap (prepended (s.before ++ map chain_parts here)) (at_end g first w v i here f layer last s h))
+  ap (whole_of first.head) (s.rest ∙ ap (chains_behind (s.before ++ map chain_parts here)) (at_end g first w v i here f layer last s h))
       ∙ ap (λ (cs : List ChainParts). Ok (with_chains first.head cs)) (append_assoc s.before (map chain_parts here) []),
   s.stands [],
   layer_there first.head s.before [] i here s.past s.long,
@@ -345,11 +345,11 @@ own_verdict g bytes first is =
 -- ---- faults
 
 -- a fault of the lines is the answer
-pub fault_said : (g : Task) (bound : ℤ) (first w : Walk) (front : List ChainParts) (e : InputFault) → w.segment ≤ w.head.segments → rest_of first ≡ prepended front (rest_of w) → Fails e (layer_of w)
+pub fault_said : (g : Task) (bound : ℤ) (first w : Walk) (front : List ChainParts) (e : InputFault) → w.segment ≤ w.head.segments → rest_of first ≡ chains_behind front (rest_of w) → Fails e (layer_of w)
     → Fails e (verdict_on g bound (certificate_by first))
 fault_said g bound first w front e low rest h =
     fails_on e (layer_of w) (verdict_on g bound (certificate_by first)) h (λ y refused.
-    ap (verdict_on g bound) (ap (whole_of first.head) (rest ∙ ap (prepended front) (rest_stopped w y low refused))))
+    ap (verdict_on g bound) (ap (whole_of first.head) (rest ∙ ap (chains_behind front) (rest_stopped w y low refused))))
 
 -- and so is one before the first layer
 pub fault_first : (g : Task) (bound : ℤ) (first : Walk) (e : InputFault) → IsBegun first → Fails e (layer_of first) → Fails e (verdict_on g bound (certificate_by first))
@@ -357,6 +357,6 @@ fault_first g bound first e starts h =
     let known = head_read first starts in
     fault_said g bound first first [] e (omega (arith, known.segment)) (nothing_before (rest_of first)) h
   where
-    nothing_before : (read : Result (List ChainParts) Refusal) → read ≡ prepended [] read
+    nothing_before : (read : Result (List ChainParts) Refusal) → read ≡ chains_behind [] read
     nothing_before (Ok cs) = refl
     nothing_before (Err e) = refl

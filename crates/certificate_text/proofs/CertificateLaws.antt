@@ -14,9 +14,9 @@ use Rattle.lab_io.specs.Piece.{fields_line}
 use Rattle.labels.specs.Parts.{ChainParts}
 use Rattle.certificate_text.specs.Fields.{value_if}
 use Rattle.labels.specs.Form.{HasDigits, place_digits, AreChains, IsChain, IsSpelled, label_count, names_per}
-use Rattle.certificate_text.specs.Line.{Holds, Values, values_at}
+use Rattle.certificate_text.specs.Line.{Holds, Values, read_line}
 use Rattle.certificate_text.specs.Grammar.{label_line, layer_line}
-use Rattle.certificate_text.specs.Reading.{Place, chain_at, chains_at, joined, label_at, labels_at, layer_at}
+use Rattle.certificate_text.specs.Reading.{Place, joined, read_chain, read_chains, read_label, read_label_count, read_labels}
 use Rattle.certificate_text.specs.Spelling.{chain_lines, chains_lines, label_fields, label_lines, layer_fields, lines_text}
 use Rattle.certificate_text.proofs.Loops.{given, ok_is}
 use Rattle.certificate_text.proofs.FieldLaws.{value_if_ok}
@@ -49,10 +49,10 @@ record TakesLabel (per : ℕ) (bytes : Text) (x : ChainParts × Text) : Type 0 w
   count_is : length own ≡ per
   digits_are : All (HasDigits place_digits) own
 
-label_takes : (row per : ℕ) (bytes : Text) (x : ChainParts × Text) → label_at row per bytes ≡ Ok x → TakesLabel per bytes x
-unfolding label_at
+label_takes : (row per : ℕ) (bytes : Text) (x : ChainParts × Text) → read_label row per bytes ≡ Ok x → TakesLabel per bytes x
+unfolding read_label
 label_takes row per bytes x h =
-    let l = then_ok (values_at row (label_line per) bytes) (λ label. Ok (one_label (label_of per label.0) label.0.1.1.1, label.1)) x h in
+    let l = then_ok (read_line row (label_line per) bytes) (λ label. Ok (one_label (label_of per label.0) label.0.1.1.1, label.1)) x h in
     let t = line_takes row (label_line per) bytes l.0 (can_label per) (omega arith) l.1 in
     subst (λ (y : ChainParts × Text). TakesLabel per bytes y) (ok_is (one_label (label_of per l.0.0) l.0.0.1.1.1, l.0.1) x l.2) (record {
       label = label_of per l.0.0;
@@ -64,10 +64,10 @@ label_takes row per bytes x h =
       digits_are = t.holds.1.1.1.1;
     })
 
-label_again : (row per : ℕ) (l : Label) (names : List ℕ) (rest : Text) → length names ≡ per → IsSpelled l → All (HasDigits place_digits) names → label_at row per (fields_line (label_fields l names) ++ rest) ≡ Ok (one_label l names, rest)
-unfolding label_at
+label_again : (row per : ℕ) (l : Label) (names : List ℕ) (rest : Text) → length names ≡ per → IsSpelled l → All (HasDigits place_digits) names → read_label row per (fields_line (label_fields l names) ++ rest) ≡ Ok (one_label l names, rest)
+unfolding read_label
 label_again row per l names rest e s digits =
-    let read : values_at row (label_line per) (fields_line (label_fields l names) ++ rest) ≡ Ok ((l.t, (l.p, (l.v, names))), rest) =
+    let read : read_line row (label_line per) (fields_line (label_fields l names) ++ rest) ≡ Ok ((l.t, (l.p, (l.v, names))), rest) =
     line_again row (label_line per) (l.t, (l.p, (l.v, names))) rest (can_label per) (omega arith) (s.t, (s.p, (s.v, (e, digits)))) in
     rw read refl
 
@@ -83,15 +83,15 @@ record TakesLabels (per count : ℕ) (bytes : Text) (x : ChainParts × Text) : T
   count_is : length x.0.labels ≡ count
   chain : IsChain per x.0
 
-labels_take : (row per count : ℕ) (bytes : Text) (x : ChainParts × Text) → labels_at row per count bytes ≡ Ok x → TakesLabels per count bytes x
-unfolding labels_at
+labels_take : (row per count : ℕ) (bytes : Text) (x : ChainParts × Text) → read_labels row per count bytes ≡ Ok x → TakesLabels per count bytes x
+unfolding read_labels
 labels_take row per zero bytes x h =
     let none : ChainParts = record { labels = []; names = [] } in
     subst (λ (y : ChainParts × Text). TakesLabels per 0 bytes y) (ok_is (none, bytes) x h)
     (record { text = refl; count_is = refl; chain = record { labels = All-nil IsSpelled; whole = omega arith; names = All-nil (HasDigits place_digits) } })
 labels_take row per (suc more) bytes x h =
-    let one = then_ok (label_at row per bytes) (λ one. labels_at (row + 1) per more one.1 >>= λ others. Ok (joined one.0 others.0, others.1)) x h in
-    let others = then_ok (labels_at (row + 1) per more one.0.1) (λ others. Ok (joined one.0.0 others.0, others.1)) x one.2 in
+    let one = then_ok (read_label row per bytes) (λ one. read_labels (row + 1) per more one.1 >>= λ others. Ok (joined one.0 others.0, others.1)) x h in
+    let others = then_ok (read_labels (row + 1) per more one.0.1) (λ others. Ok (joined one.0.0 others.0, others.1)) x one.2 in
     let t = label_takes row per bytes one.0 one.1 in
     let ts = labels_take (row + 1) per more one.0.1 others.0 others.1 in
     let whole : (joined (one_label t.label t.own) others.0.0, others.0.1) ≡ x = ap (λ (c : ChainParts). (joined c others.0.0, others.0.1)) (sym t.alone) ∙ ok_is (joined one.0.0 others.0.0, others.0.1) x others.2 in
@@ -115,8 +115,8 @@ no_names [] h = refl
 no_names (n ∷ ns) h = absurd (omega (arith, h))
 
 labels_again : (row per : ℕ) (ls : List Label) (ns : List ℕ) (rest : Text) → All IsSpelled ls → length ns ≡ length ls * per → All (HasDigits place_digits) ns
-    → labels_at row per (length ls) (lines_text (label_lines per ls ns) ++ rest) ≡ Ok (record { labels = ls; names = ns }, rest)
-unfolding labels_at
+    → read_labels row per (length ls) (lines_text (label_lines per ls ns) ++ rest) ≡ Ok (record { labels = ls; names = ns }, rest)
+unfolding read_labels
 labels_again row per [] ns rest spelled whole digits =
     let none = no_names ns (omega (arith, whole)) in
     ap (λ (names : List ℕ). given (chain [] names, rest)) (sym none)
@@ -141,17 +141,17 @@ labels_again row per (l ∷ ls) ns rest spelled whole digits =
 can_layer : (segment rung : ℕ) → IsSpellable (layer_line segment rung)
 can_layer segment rung = (refl, ((lit≤ tt, lit≤ tt), tt))
 
-layer_takes : (row segment rung left : ℕ) (bytes : Text) (x : ℕ × Text) → layer_at row segment rung left bytes ≡ Ok x → (bytes ≡ fields_line (layer_fields segment rung x.0) ++ x.1) × (x.0 ≤ left)
-unfolding layer_at
+layer_takes : (row segment rung left : ℕ) (bytes : Text) (x : ℕ × Text) → read_label_count row segment rung left bytes ≡ Ok x → (bytes ≡ fields_line (layer_fields segment rung x.0) ++ x.1) × (x.0 ≤ left)
+unfolding read_label_count
 layer_takes row segment rung left bytes x h =
-    let n = then_ok (values_at row (layer_line segment rung) bytes) (λ count. value_if row (nat_le count.0.0 left) (count.0.0, count.1)) x h in
+    let n = then_ok (read_line row (layer_line segment rung) bytes) (λ count. value_if row (nat_le count.0.0 left) (count.0.0, count.1)) x h in
     let p = value_if_ok row (nat_le n.0.0.0 left) (n.0.0.0, n.0.1) x n.2 in
     let t = line_takes row (layer_line segment rung) bytes n.0 (can_layer segment rung) (lit≤ tt) n.1 in
     subst (λ (y : ℕ × Text). (bytes ≡ fields_line (layer_fields segment rung y.0) ++ y.1) × (y.0 ≤ left)) p.1 (t.text, grind (arith, nat_tests, p.0))
 
 layer_again : (row segment rung left count : ℕ) (rest : Text) → Holds (layer_line segment rung) (count, tt) → count ≤ left
-    → layer_at row segment rung left (fields_line (layer_fields segment rung count) ++ rest) ≡ Ok (count, rest)
-unfolding layer_at
+    → read_label_count row segment rung left (fields_line (layer_fields segment rung count) ++ rest) ≡ Ok (count, rest)
+unfolding read_label_count
 layer_again row segment rung left count rest holds le =
     let test : nat_le count left ≡ true = grind (arith, nat_tests) in
     rw (line_again row (layer_line segment rung) (count, tt) rest (can_layer segment rung) (lit≤ tt) holds, test) refl
@@ -162,11 +162,11 @@ record TakesChain (per segment rung : ℕ) (p : Place) (x : ChainParts × Place)
   chain : IsChain per x.0
   left : x.1.left + length x.0.labels ≡ p.left
 
-chain_takes : (per segment rung : ℕ) (p : Place) (x : ChainParts × Place) → chain_at per segment rung p ≡ Ok x → TakesChain per segment rung p x
-unfolding chain_at
+chain_takes : (per segment rung : ℕ) (p : Place) (x : ChainParts × Place) → read_chain per segment rung p ≡ Ok x → TakesChain per segment rung p x
+unfolding read_chain
 chain_takes per segment rung p x h =
-    let n = then_ok (layer_at p.row segment rung p.left p.rest) (λ count. labels_at (p.row + 1) per count.0 count.1 >>= λ chain. Ok (chain.0, place (p.row + 1 + count.0) (p.left - count.0) chain.1)) x h in
-    let c = then_ok (labels_at (p.row + 1) per n.0.0 n.0.1) (λ chain. Ok (chain.0, place (p.row + 1 + n.0.0) (p.left - n.0.0) chain.1)) x n.2 in
+    let n = then_ok (read_label_count p.row segment rung p.left p.rest) (λ count. read_labels (p.row + 1) per count.0 count.1 >>= λ chain. Ok (chain.0, place (p.row + 1 + count.0) (p.left - count.0) chain.1)) x h in
+    let c = then_ok (read_labels (p.row + 1) per n.0.0 n.0.1) (λ chain. Ok (chain.0, place (p.row + 1 + n.0.0) (p.left - n.0.0) chain.1)) x n.2 in
     let tn = layer_takes p.row segment rung p.left p.rest n.0 n.1 in
     let tc = labels_take (p.row + 1) per n.0.0 n.0.1 c.0 c.1 in
     subst (λ (y : ChainParts × Place). TakesChain per segment rung p y) (ok_is (c.0.0, place (p.row + 1 + n.0.0) (p.left - n.0.0) c.0.1) x c.2) (record {
@@ -178,13 +178,13 @@ chain_takes per segment rung p x h =
     })
 
 chain_again : (per segment rung : ℕ) (c : ChainParts) (p : Place) (rest : Text) → p.rest ≡ lines_text (chain_lines per segment rung c) ++ rest → IsChain per c → HasDigits place_digits segment → HasDigits place_digits rung
-    → length c.labels ≤ p.left → p.left ≤ 1000000 → chain_at per segment rung p ≡ Ok (c, place (p.row + 1 + length c.labels) (p.left - length c.labels) rest)
-unfolding chain_at
+    → length c.labels ≤ p.left → p.left ≤ 1000000 → read_chain per segment rung p ≡ Ok (c, place (p.row + 1 + length c.labels) (p.left - length c.labels) rest)
+unfolding read_chain
 chain_again per segment rung c p rest e form a b le most =
     let text : p.rest ≡ fields_line (layer_fields segment rung (length c.labels)) ++ (lines_text (label_lines per c.labels c.names) ++ rest) =
     e ∙ append_assoc (fields_line (layer_fields segment rung (length c.labels))) (lines_text (label_lines per c.labels c.names)) rest in
-    let first : layer_at p.row segment rung p.left p.rest ≡ Ok (length c.labels, lines_text (label_lines per c.labels c.names) ++ rest) =
-    ap (layer_at p.row segment rung p.left) text ∙ layer_again p.row segment rung p.left (length c.labels) (lines_text (label_lines per c.labels c.names) ++ rest) (a, (b, (omega arith, tt))) le in
+    let first : read_label_count p.row segment rung p.left p.rest ≡ Ok (length c.labels, lines_text (label_lines per c.labels c.names) ++ rest) =
+    ap (read_label_count p.row segment rung p.left) text ∙ layer_again p.row segment rung p.left (length c.labels) (lines_text (label_lines per c.labels c.names) ++ rest) (a, (b, (omega arith, tt))) le in
     rw (first, labels_again (p.row + 1) per c.labels c.names rest form.labels form.whole form.names) refl
 
 -- ---- chains
@@ -197,14 +197,14 @@ pub record TakesChains (segments rungs number count : ℕ) (p : Place) (x : List
   pub left : x.1.left + label_count x.0 ≡ p.left
 
 -- chains that were read are of the form and spelled so
-pub chains_take : (segments rungs number count : ℕ) (p : Place) (x : List ChainParts × Place) → chains_at segments rungs number count p ≡ Ok x → TakesChains segments rungs number count p x
-unfolding chains_at
+pub chains_take : (segments rungs number count : ℕ) (p : Place) (x : List ChainParts × Place) → read_chains segments rungs number count p ≡ Ok x → TakesChains segments rungs number count p x
+unfolding read_chains
 chains_take segments rungs number zero p x h =
     subst (λ (y : List ChainParts × Place). TakesChains segments rungs number 0 p y) (ok_is ([], p) x h) (record { text = refl; count_is = refl; chains = tt; left = omega arith })
 chains_take segments rungs number (suc more) p x h =
     let own = chain_lines (names_per segments rungs (number / rungs)) (number / rungs) (number % rungs) in
-    let one = then_ok (chain_at (names_per segments rungs (number / rungs)) (number / rungs) (number % rungs) p) (λ chain. chains_at segments rungs (number + 1) more chain.1 >>= λ others. Ok (chain.0 ∷ others.0, others.1)) x h in
-    let others = then_ok (chains_at segments rungs (number + 1) more one.0.1) (λ others. Ok (one.0.0 ∷ others.0, others.1)) x one.2 in
+    let one = then_ok (read_chain (names_per segments rungs (number / rungs)) (number / rungs) (number % rungs) p) (λ chain. read_chains segments rungs (number + 1) more chain.1 >>= λ others. Ok (chain.0 ∷ others.0, others.1)) x h in
+    let others = then_ok (read_chains segments rungs (number + 1) more one.0.1) (λ others. Ok (one.0.0 ∷ others.0, others.1)) x one.2 in
     let t = chain_takes (names_per segments rungs (number / rungs)) (number / rungs) (number % rungs) p one.0 one.1 in
     let ts = chains_take segments rungs (number + 1) more one.0.1 others.0 others.1 in
     subst (λ (y : List ChainParts × Place). TakesChains segments rungs number (suc more) p y) (ok_is (one.0.0 ∷ others.0.0, others.0.1) x others.2) (record {
@@ -218,8 +218,8 @@ chains_take segments rungs number (suc more) p x h =
 
 -- chains of the form are read from their spelling
 pub chains_again : (segments rungs number : ℕ) (cs : List ChainParts) (p : Place) (rest : Text) → 1 ≤ rungs → rungs ≤ 16 → number + length cs ≤ 32000 → p.rest ≡ lines_text (chains_lines segments rungs number cs) ++ rest
-    → AreChains segments rungs number cs → label_count cs ≤ p.left → p.left ≤ 1000000 → (q : Place) × (chains_at segments rungs number (length cs) p ≡ Ok (cs, q)) × (q.rest ≡ rest)
-unfolding chains_at
+    → AreChains segments rungs number cs → label_count cs ≤ p.left → p.left ≤ 1000000 → (q : Place) × (read_chains segments rungs number (length cs) p ≡ Ok (cs, q)) × (q.rest ≡ rest)
+unfolding read_chains
 chains_again segments rungs number [] p rest one few far e form fits most = (p, refl, e)
 chains_again segments rungs number (c ∷ cs) p rest one few far e form fits most =
     let own = chain_lines (names_per segments rungs (number / rungs)) (number / rungs) (number % rungs) c in

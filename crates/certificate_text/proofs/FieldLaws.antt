@@ -20,7 +20,7 @@ use Rattle.lab_io.specs.Number.{numeral}
 use Rattle.lab_io.specs.Piece.{later_fields}
 use Rattle.lab_io.proofs.Numbers.{decimal-spelling, digit_at, numeral-decimal, numeral-takes}
 use Rattle.lab_model.specs.Film.{IsWithin}
-use Rattle.certificate_text.specs.Fields.{field_at, known_at, negative, number_at, numbers_at, parted, value_if, signed_at, signed_of, some_at, stop_before, unsigned_of, within_at, word_at}
+use Rattle.certificate_text.specs.Fields.{negative_of, read_field, read_known, read_number, read_numbers, read_signed, read_within, read_word, signed_of, some_at, split_field, stop_before, unsigned_of, value_if}
 use Rattle.labels.specs.Form.{HasDigits, HasSignedDigits, place_digits}
 use Rattle.certificate_text.proofs.Loops.{given, ok_is}
 
@@ -56,10 +56,10 @@ same_byte : (n : ℕ) → (n == n) ≡ true
 same_byte n = grind (arith, nat_tests)
 
 -- what stands before and behind the byte that ends a field
-pub field_takes : (row stop : ℕ) (bytes : Text) (x : Text × Text) → field_at row stop bytes ≡ Ok x → bytes ≡ x.0 ++ stop ∷ x.1
+pub field_takes : (row stop : ℕ) (bytes : Text) (x : Text × Text) → read_field row stop bytes ≡ Ok x → bytes ≡ x.0 ++ stop ∷ x.1
 field_takes row stop bytes x h = go (position (λ b. b == stop) bytes) refl h
   where
-    go : (o : Option ℕ) → position (λ b. b == stop) bytes ≡ o → parted row bytes o ≡ Ok x → bytes ≡ x.0 ++ stop ∷ x.1
+    go : (o : Option ℕ) → position (λ b. b == stop) bytes ≡ o → split_field row bytes o ≡ Ok x → bytes ≡ x.0 ++ stop ∷ x.1
     go None e p = absurd cc
     go (Some i) e p =
         let at = position-Some (λ b. b == stop) bytes i 0 e in
@@ -68,7 +68,7 @@ field_takes row stop bytes x h = go (position (λ b. b == stop) bytes) refl h
         subst (λ (y : Text × Text). bytes ≡ y.0 ++ stop ∷ y.1) (ok_is (take i bytes, drop (i + 1) bytes) x p) (sym (take-append-drop i bytes) ∙ ap (λ (t : Text). take i bytes ++ t) cut)
 
 -- a field is read from its text
-pub field_again : (row stop : ℕ) (text rest : Text) → is_free stop text ≡ true → field_at row stop (text ++ stop ∷ rest) ≡ Ok (text, rest)
+pub field_again : (row stop : ℕ) (text rest : Text) → is_free stop text ≡ true → read_field row stop (text ++ stop ∷ rest) ≡ Ok (text, rest)
 field_again row stop text rest free =
     let long : length text < length (text ++ stop ∷ rest) = rw (length-append text (stop ∷ rest)) (omega arith) in
     let p : position_or_len (λ b. b == stop) (text ++ stop ∷ rest) ≡ length text =
@@ -91,18 +91,18 @@ pub bytes_eq-same : (x y : Text) → bytes_eq x y ≡ true → x ≡ y
 bytes_eq-same x y h = (bytes_eq-Decides x y).0 h
 
 -- a word that was read stands there
-pub word_takes : (row : ℕ) (word : Text) (stop : ℕ) (bytes rest : Text) → word_at row word stop bytes ≡ Ok rest → bytes ≡ word ++ stop ∷ rest
-unfolding word_at
+pub word_takes : (row : ℕ) (word : Text) (stop : ℕ) (bytes rest : Text) → read_word row word stop bytes ≡ Ok rest → bytes ≡ word ++ stop ∷ rest
+unfolding read_word
 word_takes row word stop bytes rest h =
-    let f = then_ok (field_at row stop bytes) (λ field. value_if row (bytes_eq field.0 word) field.1) rest h in
+    let f = then_ok (read_field row stop bytes) (λ field. value_if row (bytes_eq field.0 word) field.1) rest h in
     let p = value_if_ok row (bytes_eq f.0.0 word) f.0.1 rest f.2 in
     let t = field_takes row stop bytes f.0 f.1 in
     let e : f.0.0 ≡ word = bytes_eq-same f.0.0 word p.0 in
     t ∙ rw (e, p.1) refl
 
 -- a word is read from its text
-pub word_again : (row : ℕ) (word : Text) (stop : ℕ) (rest : Text) → is_free stop word ≡ true → word_at row word stop (word ++ stop ∷ rest) ≡ Ok rest
-unfolding word_at
+pub word_again : (row : ℕ) (word : Text) (stop : ℕ) (rest : Text) → is_free stop word ≡ true → read_word row word stop (word ++ stop ∷ rest) ≡ Ok rest
+unfolding read_word
 word_again row word stop rest free = rw (field_again row stop word rest free, same_bytes word) refl
 
 -- ---- a number
@@ -131,49 +131,49 @@ decimal_free : (stop n : ℕ) → IsStop stop → n < 10 ^ 64 → is_free stop (
 decimal_free stop n low lt = digits_free stop (decimal n) (omega arith) (decimal-spelling n lt).digits
 
 -- a number that was read is short and spelled so
-pub number_takes : (row digits stop : ℕ) (bytes : Text) (x : ℕ × Text) → digits ≤ 64 → number_at row digits stop bytes ≡ Ok x → (bytes ≡ decimal x.0 ++ stop ∷ x.1) × HasDigits digits x.0
-unfolding number_at
+pub number_takes : (row digits stop : ℕ) (bytes : Text) (x : ℕ × Text) → digits ≤ 64 → read_number row digits stop bytes ≡ Ok x → (bytes ≡ decimal x.0 ++ stop ∷ x.1) × HasDigits digits x.0
+unfolding read_number
 number_takes row digits stop bytes x short h =
-    let f = then_ok (field_at row stop bytes) (λ field. some_at row (numeral digits field.0) >>= λ n. Ok (n, field.1)) x h in
+    let f = then_ok (read_field row stop bytes) (λ field. some_at row (numeral digits field.0) >>= λ n. Ok (n, field.1)) x h in
     let n = then_ok (some_at row (numeral digits f.0.0)) (λ n. Ok (n, f.0.1)) x f.2 in
     let t = field_takes row stop bytes f.0 f.1 in
     let s = numeral-takes digits f.0.0 n.0 short (some_ok row (numeral digits f.0.0) n.0 n.1) in
     subst (λ (y : ℕ × Text). (bytes ≡ decimal y.0 ++ stop ∷ y.1) × HasDigits digits y.0) (ok_is (n.0, f.0.1) x n.2) (t ∙ ap (λ (w : Text). w ++ stop ∷ f.0.1) s.0, s.1)
 
 -- a short number is read from its spelling
-pub number_again : (row digits stop n : ℕ) (rest : Text) → 1 ≤ digits → digits ≤ 64 → IsStop stop → HasDigits digits n → number_at row digits stop (decimal n ++ stop ∷ rest) ≡ Ok (n, rest)
-unfolding number_at
+pub number_again : (row digits stop n : ℕ) (rest : Text) → 1 ≤ digits → digits ≤ 64 → IsStop stop → HasDigits digits n → read_number row digits stop (decimal n ++ stop ∷ rest) ≡ Ok (n, rest)
+unfolding read_number
 number_again row digits stop n rest one short low lt =
     rw (field_again row stop (decimal n) rest (decimal_free stop n low (wide digits n short lt)), numeral-decimal digits n one short lt) refl
 
 -- a known number that was read is short and spelled so
-pub known_takes : (row known stop : ℕ) (bytes rest : Text) → known_at row known stop bytes ≡ Ok rest → (bytes ≡ decimal known ++ stop ∷ rest) × HasDigits place_digits known
-unfolding known_at
+pub known_takes : (row known stop : ℕ) (bytes rest : Text) → read_known row known stop bytes ≡ Ok rest → (bytes ≡ decimal known ++ stop ∷ rest) × HasDigits place_digits known
+unfolding read_known
 known_takes row known stop bytes rest h =
-    let n = then_ok (number_at row place_digits stop bytes) (λ n. value_if row (n.0 == known) n.1) rest h in
+    let n = then_ok (read_number row place_digits stop bytes) (λ n. value_if row (n.0 == known) n.1) rest h in
     let p = value_if_ok row (n.0.0 == known) n.0.1 rest n.2 in
     let t = number_takes row place_digits stop bytes n.0 (lit≤ tt) n.1 in
     let e : n.0.0 ≡ known = eqb-true n.0.0 known p.0 in
     (t.0 ∙ rw (e, p.1) refl, subst (HasDigits place_digits) e t.1)
 
 -- a known number is read from its spelling
-pub known_again : (row known stop : ℕ) (rest : Text) → IsStop stop → HasDigits place_digits known → known_at row known stop (decimal known ++ stop ∷ rest) ≡ Ok rest
-unfolding known_at
+pub known_again : (row known stop : ℕ) (rest : Text) → IsStop stop → HasDigits place_digits known → read_known row known stop (decimal known ++ stop ∷ rest) ≡ Ok rest
+unfolding read_known
 known_again row known stop rest low lt = rw (number_again row place_digits stop known rest (lit≤ tt) (lit≤ tt) low lt, same_byte known) refl
 
 -- a number that was read is within its limits and spelled so
-pub within_takes : (row low high stop : ℕ) (bytes : Text) (x : ℕ × Text) → within_at row low high stop bytes ≡ Ok x → (bytes ≡ decimal x.0 ++ stop ∷ x.1) × IsWithin low high x.0
-unfolding within_at
+pub within_takes : (row low high stop : ℕ) (bytes : Text) (x : ℕ × Text) → read_within row low high stop bytes ≡ Ok x → (bytes ≡ decimal x.0 ++ stop ∷ x.1) × IsWithin low high x.0
+unfolding read_within
 within_takes row low high stop bytes x h =
-    let n = then_ok (number_at row place_digits stop bytes) (λ n. value_if row (nat_le low n.0 && nat_le n.0 high) n) x h in
+    let n = then_ok (read_number row place_digits stop bytes) (λ n. value_if row (nat_le low n.0 && nat_le n.0 high) n) x h in
     let p = value_if_ok row (nat_le low n.0.0 && nat_le n.0.0 high) n.0 x n.2 in
     let both = and_parts (nat_le low n.0.0) (nat_le n.0.0 high) p.0 in
     let t = number_takes row place_digits stop bytes n.0 (lit≤ tt) n.1 in
     subst (λ (y : ℕ × Text). (bytes ≡ decimal y.0 ++ stop ∷ y.1) × IsWithin low high y.0) p.1 (t.0, (grind (arith, nat_tests, both.0), grind (arith, nat_tests, both.1)))
 
 -- a number within its limits is read from its spelling
-pub within_again : (row low high stop n : ℕ) (rest : Text) → IsStop stop → HasDigits place_digits high → IsWithin low high n → within_at row low high stop (decimal n ++ stop ∷ rest) ≡ Ok (n, rest)
-unfolding within_at
+pub within_again : (row low high stop n : ℕ) (rest : Text) → IsStop stop → HasDigits place_digits high → IsWithin low high n → read_within row low high stop (decimal n ++ stop ∷ rest) ≡ Ok (n, rest)
+unfolding read_within
 within_again row low high stop n rest end short within =
     let least : nat_le low n ≡ true = grind (arith, nat_tests, within.0) in
     let most : nat_le n high ≡ true = grind (arith, nat_tests, within.1) in
@@ -181,7 +181,7 @@ within_again row low high stop n rest end short within =
 
 -- ---- a number that may have a `-`
 
-negative_takes : (row digits : ℕ) (text : Text) (z : ℤ) → digits ≤ 64 → negative row digits text ≡ Ok z → (45 ∷ text ≡ signed_decimal z) × HasSignedDigits digits z
+negative_takes : (row digits : ℕ) (text : Text) (z : ℤ) → digits ≤ 64 → negative_of row digits text ≡ Ok z → (45 ∷ text ≡ signed_decimal z) × HasSignedDigits digits z
 negative_takes row digits text z short h =
     let n = then_ok (some_at row (numeral digits text)) (λ n. value_if row (nat_le 1 n) (pos 0 -ℤ pos n)) z h in
     let p = value_if_ok row (nat_le 1 n.0) (pos 0 -ℤ pos n.0) z n.2 in
@@ -205,7 +205,7 @@ unfolding signed_of
 signed_of_takes row digits [] z short h = absurd cc
 signed_of_takes row digits (c ∷ cs) z short h = go (c == 45) refl h
   where
-    go : (b : Bool) → (c == 45) ≡ b → cond b (negative row digits cs) (unsigned_of row digits (c ∷ cs)) ≡ Ok z → (c ∷ cs ≡ signed_decimal z) × HasSignedDigits digits z
+    go : (b : Bool) → (c == 45) ≡ b → cond b (negative_of row digits cs) (unsigned_of row digits (c ∷ cs)) ≡ Ok z → (c ∷ cs ≡ signed_decimal z) × HasSignedDigits digits z
     go true e h =
         let t = negative_takes row digits cs z short h in
         (ap (λ (x : ℕ). x ∷ cs) (eqb-true c 45 e) ∙ t.0, t.1)
@@ -236,18 +236,18 @@ signed_free stop digits (negsuc m) short low fits =
     rw (not_stop 45 stop low, decimal_free stop (suc m) low (wide digits (suc m) short (omega (arith, ints, fits.0)))) refl
 
 -- a number with a sign that was read is short and spelled so
-pub signed_takes : (row digits stop : ℕ) (bytes : Text) (x : ℤ × Text) → digits ≤ 64 → signed_at row digits stop bytes ≡ Ok x → (bytes ≡ signed_decimal x.0 ++ stop ∷ x.1) × HasSignedDigits digits x.0
-unfolding signed_at
+pub signed_takes : (row digits stop : ℕ) (bytes : Text) (x : ℤ × Text) → digits ≤ 64 → read_signed row digits stop bytes ≡ Ok x → (bytes ≡ signed_decimal x.0 ++ stop ∷ x.1) × HasSignedDigits digits x.0
+unfolding read_signed
 signed_takes row digits stop bytes x short h =
-    let f = then_ok (field_at row stop bytes) (λ field. signed_of row digits field.0 >>= λ z. Ok (z, field.1)) x h in
+    let f = then_ok (read_field row stop bytes) (λ field. signed_of row digits field.0 >>= λ z. Ok (z, field.1)) x h in
     let z = then_ok (signed_of row digits f.0.0) (λ z. Ok (z, f.0.1)) x f.2 in
     let t = field_takes row stop bytes f.0 f.1 in
     let s = signed_of_takes row digits f.0.0 z.0 short z.1 in
     subst (λ (y : ℤ × Text). (bytes ≡ signed_decimal y.0 ++ stop ∷ y.1) × HasSignedDigits digits y.0) (ok_is (z.0, f.0.1) x z.2) (t ∙ ap (λ (w : Text). w ++ stop ∷ f.0.1) s.0, s.1)
 
 -- a short number with a sign is read from its spelling
-pub signed_again : (row digits stop : ℕ) (z : ℤ) (rest : Text) → 1 ≤ digits → digits ≤ 64 → IsStop stop → HasSignedDigits digits z → signed_at row digits stop (signed_decimal z ++ stop ∷ rest) ≡ Ok (z, rest)
-unfolding signed_at
+pub signed_again : (row digits stop : ℕ) (z : ℤ) (rest : Text) → 1 ≤ digits → digits ≤ 64 → IsStop stop → HasSignedDigits digits z → read_signed row digits stop (signed_decimal z ++ stop ∷ rest) ≡ Ok (z, rest)
+unfolding read_signed
 signed_again row digits stop z rest one short low fits =
     rw (field_again row stop (signed_decimal z) rest (signed_free stop digits z short low fits), signed_of_again row digits z one short fits) refl
 
@@ -275,13 +275,13 @@ pub record TakesNumbers (digits count : ℕ) (bytes : Text) (x : List ℕ × Tex
   pub digits_are : All (HasDigits digits) x.0
 
 -- numbers that were read are short and spelled so
-pub numbers_take : (row digits count : ℕ) (bytes : Text) (x : List ℕ × Text) → digits ≤ 64 → numbers_at row digits count bytes ≡ Ok x → TakesNumbers digits count bytes x
-unfolding numbers_at
+pub numbers_take : (row digits count : ℕ) (bytes : Text) (x : List ℕ × Text) → digits ≤ 64 → read_numbers row digits count bytes ≡ Ok x → TakesNumbers digits count bytes x
+unfolding read_numbers
 numbers_take row digits zero bytes x short h =
     subst (TakesNumbers digits 0 bytes) (ok_is ([], bytes) x h) (record { text = refl; count_is = refl; digits_are = All-nil (HasDigits digits) })
 numbers_take row digits (suc more) bytes x short h =
-    let n = then_ok (number_at row digits (stop_before more) bytes) (λ n. numbers_at row digits more n.1 >>= λ ns. Ok (n.0 ∷ ns.0, ns.1)) x h in
-    let ns = then_ok (numbers_at row digits more n.0.1) (λ ns. Ok (n.0.0 ∷ ns.0, ns.1)) x n.2 in
+    let n = then_ok (read_number row digits (stop_before more) bytes) (λ n. read_numbers row digits more n.1 >>= λ ns. Ok (n.0 ∷ ns.0, ns.1)) x h in
+    let ns = then_ok (read_numbers row digits more n.0.1) (λ ns. Ok (n.0.0 ∷ ns.0, ns.1)) x n.2 in
     let first = number_takes row digits (stop_before more) bytes n.0 short n.1 in
     let rest = numbers_take row digits more n.0.1 ns.0 short ns.1 in
     subst (TakesNumbers digits (suc more) bytes) (ok_is (n.0.0 ∷ ns.0.0, ns.0.1) x ns.2) (record {
@@ -292,8 +292,8 @@ numbers_take row digits (suc more) bytes x short h =
     })
 
 -- short numbers are read from their spelling
-pub numbers_again : (row digits : ℕ) (ns : List ℕ) (rest : Text) → 1 ≤ digits → digits ≤ 64 → All (HasDigits digits) ns → numbers_at row digits (length ns) (numbers_text ns ++ rest) ≡ Ok (ns, rest)
-unfolding numbers_at
+pub numbers_again : (row digits : ℕ) (ns : List ℕ) (rest : Text) → 1 ≤ digits → digits ≤ 64 → All (HasDigits digits) ns → read_numbers row digits (length ns) (numbers_text ns ++ rest) ≡ Ok (ns, rest)
+unfolding read_numbers
 numbers_again row digits [] rest one short all = refl
 numbers_again row digits (n ∷ ns) rest one short all =
     let first = number_again row digits (stop_before (length ns)) n (numbers_text ns ++ rest) one short (stop_low (length ns)) (All-head (HasDigits digits) n ns all) in

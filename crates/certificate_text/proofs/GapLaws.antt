@@ -10,10 +10,10 @@ use Rattle.lab_io.specs.Piece.{fields_line}
 use Rattle.labels.specs.Form.{HasSignedDigits, score_digits}
 use Rattle.labels.specs.Parts.{CertificateParts}
 use Rattle.certificate_text.specs.declared.certificate.GapCertificate.{GapCertificate}
-use Rattle.certificate_text.specs.Line.{fields_of, values_at}
-use Rattle.certificate_text.specs.Grammar.{bound_line, gap_line}
+use Rattle.certificate_text.specs.Line.{fields_of, read_line}
+use Rattle.certificate_text.specs.Grammar.{gap_bound_line, gap_line}
 use Rattle.certificate_text.specs.Form.{GapParts, IsGapCertificate, gap_parts}
-use Rattle.certificate_text.specs.Reading.{bound_at, certificate_behind, gap_heading, gap_of}
+use Rattle.certificate_text.specs.Reading.{certificate_behind, gap_heading, gap_of, read_bound}
 use Rattle.certificate_text.specs.Spelling.{gap_lines, gap_spelling, lines_text, spelling}
 use Rattle.certificate_text.proofs.Loops.{ok_is}
 use Rattle.certificate_text.proofs.LineLaws.{IsSpellable, line_again, line_takes}
@@ -23,35 +23,35 @@ can_gap : IsSpellable gap_line
 can_gap = (refl, (refl, tt))
 
 -- the bound has a line
-pub can_bound : IsSpellable bound_line
+pub can_bound : IsSpellable gap_bound_line
 can_bound = (refl, ((lit≤ tt, lit≤ tt), tt))
 
 -- the two lines and what stands behind them
-gap_text : (bound : ℤ) (rest : Text) → lines_text (gap_lines bound) ++ rest ≡ fields_line (fields_of gap_line tt) ++ (fields_line (fields_of bound_line (bound, tt)) ++ rest)
+gap_text : (bound : ℤ) (rest : Text) → lines_text (gap_lines bound) ++ rest ≡ fields_line (fields_of gap_line tt) ++ (fields_line (fields_of gap_bound_line (bound, tt)) ++ rest)
 gap_text bound rest =
     let first = fields_line (fields_of gap_line tt) in
-    let second = fields_line (fields_of bound_line (bound, tt)) in
+    let second = fields_line (fields_of gap_bound_line (bound, tt)) in
     append_assoc first (second ++ []) rest ∙ ap (λ (w : Text). first ++ (w ++ rest)) (append-nil second)
 
 -- a bound that was read is of the form, and its lines spell it
-bound_takes : (bytes : Text) (x : ℤ × Text) → bound_at bytes ≡ Ok x → (bytes ≡ lines_text (gap_lines x.0) ++ x.1) × HasSignedDigits score_digits x.0
-unfolding bound_at
+bound_takes : (bytes : Text) (x : ℤ × Text) → read_bound bytes ≡ Ok x → (bytes ≡ lines_text (gap_lines x.0) ++ x.1) × HasSignedDigits score_digits x.0
+unfolding read_bound
 bound_takes bytes x h =
-    let a = then_ok (values_at 1 gap_line bytes) (λ gap. values_at 2 bound_line gap.1 >>= λ bound. Ok (bound.0.0, bound.1)) x h in
-    let b = then_ok (values_at 2 bound_line a.0.1) (λ bound. Ok (bound.0.0, bound.1)) x a.2 in
+    let a = then_ok (read_line 1 gap_line bytes) (λ gap. read_line 2 gap_bound_line gap.1 >>= λ bound. Ok (bound.0.0, bound.1)) x h in
+    let b = then_ok (read_line 2 gap_bound_line a.0.1) (λ bound. Ok (bound.0.0, bound.1)) x a.2 in
     let ta = line_takes 1 gap_line bytes a.0 can_gap (lit≤ tt) a.1 in
-    let tb = line_takes 2 bound_line a.0.1 b.0 can_bound (lit≤ tt) b.1 in
+    let tb = line_takes 2 gap_bound_line a.0.1 b.0 can_bound (lit≤ tt) b.1 in
     subst (λ (y : ℤ × Text). (bytes ≡ lines_text (gap_lines y.0) ++ y.1) × HasSignedDigits score_digits y.0) (ok_is (b.0.0.0, b.0.1) x b.2)
     (ta.text ∙ ap (λ (w : Text). fields_line (fields_of gap_line tt) ++ w) tb.text ∙ sym (gap_text b.0.0.0 b.0.1), tb.holds.0)
 
 -- a bound of the form is read from its lines
-bound_again : (bound : ℤ) (rest : Text) → HasSignedDigits score_digits bound → bound_at (lines_text (gap_lines bound) ++ rest) ≡ Ok (bound, rest)
-unfolding bound_at
+bound_again : (bound : ℤ) (rest : Text) → HasSignedDigits score_digits bound → read_bound (lines_text (gap_lines bound) ++ rest) ≡ Ok (bound, rest)
+unfolding read_bound
 bound_again bound rest short =
-    ap bound_at (gap_text bound rest)
+    ap read_bound (gap_text bound rest)
     ∙ rw (
-      line_again 1 gap_line tt (fields_line (fields_of bound_line (bound, tt)) ++ rest) can_gap (lit≤ tt) (one_digit, tt),
-      line_again 2 bound_line (bound, tt) rest can_bound (lit≤ tt) (short, tt),
+      line_again 1 gap_line tt (fields_line (fields_of gap_bound_line (bound, tt)) ++ rest) can_gap (lit≤ tt) (one_digit, tt),
+      line_again 2 gap_bound_line (bound, tt) rest can_bound (lit≤ tt) (short, tt),
     ) refl
   where
     one_digit : 1 < 10 ^ 7
@@ -65,7 +65,7 @@ made bound inner = record { bound = bound; inner = inner }
 pub gap_takes : (bytes : Text) (c : GapParts) → gap_of bytes ≡ Ok c → IsGapCertificate c × (bytes ≡ gap_spelling c)
 unfolding gap_of
 gap_takes bytes c h =
-    let a = then_ok (bound_at bytes) (λ bound. certificate_behind gap_heading bound.1 >>= λ inner. Ok (made bound.0 inner)) c h in
+    let a = then_ok (read_bound bytes) (λ bound. certificate_behind gap_heading bound.1 >>= λ inner. Ok (made bound.0 inner)) c h in
     let b = then_ok (certificate_behind gap_heading a.0.1) (λ inner. Ok (made a.0.0 inner)) c a.2 in
     let ta = bound_takes bytes a.0 a.1 in
     let tb = behind_takes gap_heading a.0.1 b.0 b.1 in

@@ -11,10 +11,10 @@ use Rattle.lab_io.specs.Piece.{fields_line}
 use Rattle.labels.specs.Parts.{CertificateParts}
 use Rattle.certificate_text.specs.declared.certificate.Certificate.{Certificate}
 use Rattle.labels.specs.Form.{place_digits, most_labels, rung_digits, IsCertificate, IsHead}
-use Rattle.certificate_text.specs.Line.{Holds, fields_of, values_at}
+use Rattle.certificate_text.specs.Line.{Holds, fields_of, read_line}
 use Rattle.certificate_text.specs.Grammar.{end_line, list_line, plan_line, rungs_line, score_line, segments_line, start_line, table_line, version_line}
 use Rattle.certificate_text.specs.Form.{certificate_parts}
-use Rattle.certificate_text.specs.Reading.{Counts, Place, certificate_behind, certificate_of, chains_at, counts_at, end_at, head_at, last_at, nothing_at, score_row, table_at, version_at}
+use Rattle.certificate_text.specs.Reading.{Counts, Place, certificate_behind, certificate_of, read_chains, read_counts, read_end, read_head, read_last, read_nothing, read_table, read_version, score_row}
 use Rattle.certificate_text.specs.Walk.{without_chains}
 use Rattle.certificate_text.specs.Spelling.{chains_lines, head_lines, lines_text, spelling, table_lines, version_fields, version_number}
 use Rattle.certificate_text.proofs.Loops.{ok_is}
@@ -67,32 +67,32 @@ one_or_two (suc zero) h = refl
 one_or_two (suc (suc zero)) h = refl
 one_or_two (suc (suc (suc n))) h = absurd (omega (arith, h.1))
 
-version_takes : (row : ℕ) (bytes : Text) (x : Bool × Text) → version_at row bytes ≡ Ok x → bytes ≡ fields_line (version_fields x.0) ++ x.1
-unfolding version_at
+version_takes : (row : ℕ) (bytes : Text) (x : Bool × Text) → read_version row bytes ≡ Ok x → bytes ≡ fields_line (version_fields x.0) ++ x.1
+unfolding read_version
 version_takes row bytes x h =
-    let v = then_ok (values_at row version_line bytes) (λ version. Ok (version.0.0 == 2, version.1)) x h in
+    let v = then_ok (read_line row version_line bytes) (λ version. Ok (version.0.0 == 2, version.1)) x h in
     let t = line_takes row version_line bytes v.0 can_version (lit≤ tt) v.1 in
     let number : v.0.0.0 ≡ version_number (v.0.0.0 == 2) = one_or_two v.0.0.0 t.holds.0 in
     subst (λ (y : Bool × Text). bytes ≡ fields_line (version_fields y.0) ++ y.1) (ok_is (v.0.0.0 == 2, v.0.1) x v.2)
     (t.text ∙ ap (λ (n : ℕ). fields_line (fields_of version_line (n, tt)) ++ v.0.1) number)
 
-version_again : (row : ℕ) (t : Bool) (rest : Text) → version_at row (fields_line (version_fields t) ++ rest) ≡ Ok (t, rest)
-unfolding version_at
+version_again : (row : ℕ) (t : Bool) (rest : Text) → read_version row (fields_line (version_fields t) ++ rest) ≡ Ok (t, rest)
+unfolding read_version
 version_again row true rest = rw (line_again row version_line (2, tt) rest can_version (lit≤ tt) ((lit≤ tt, lit≤ tt), tt)) refl
 version_again row false rest = rw (line_again row version_line (1, tt) rest can_version (lit≤ tt) ((lit≤ tt, lit≤ tt), tt)) refl
 
 -- ---- the line of version 2
 
-table_takes : (row : ℕ) (t : Bool) (bytes : Text) (x : Unit {0} × Text) → table_at row t bytes ≡ Ok x → bytes ≡ lines_text (table_lines t) ++ x.1
-unfolding table_at
+table_takes : (row : ℕ) (t : Bool) (bytes : Text) (x : Unit {0} × Text) → read_table row t bytes ≡ Ok x → bytes ≡ lines_text (table_lines t) ++ x.1
+unfolding read_table
 table_takes row true bytes x h =
     (line_takes row table_line bytes x can_table (lit≤ tt) h).text ∙ ap (λ (w : Text). w ++ x.1) (sym (append-nil (fields_line (fields_of table_line tt))))
 table_takes row false bytes x h = ap (λ (y : Unit {0} × Text). y.1) (ok_is (tt, bytes) x h)
 
-table_again : (row : ℕ) (t : Bool) (rest : Text) → table_at row t (lines_text (table_lines t) ++ rest) ≡ Ok (tt, rest)
-unfolding table_at
+table_again : (row : ℕ) (t : Bool) (rest : Text) → read_table row t (lines_text (table_lines t) ++ rest) ≡ Ok (tt, rest)
+unfolding read_table
 table_again row true rest =
-    ap (λ (w : Text). values_at row table_line (w ++ rest)) (append-nil (fields_line (fields_of table_line tt))) ∙ line_again row table_line tt rest can_table (lit≤ tt) tt
+    ap (λ (w : Text). read_line row table_line (w ++ rest)) (append-nil (fields_line (fields_of table_line tt))) ∙ line_again row table_line tt rest can_table (lit≤ tt) tt
 table_again row false rest = refl
 
 -- ---- version and counts
@@ -117,13 +117,13 @@ record TakesCounts (bytes : Text) (x : Counts × Text) : Type 0 where
   segments : Holds segments_line (x.0.segments, tt)
   rungs : Holds rungs_line (x.0.rungs, tt)
 
-counts_take : (heading : ℕ) (bytes : Text) (x : Counts × Text) → counts_at heading bytes ≡ Ok x → TakesCounts bytes x
-unfolding counts_at
+counts_take : (heading : ℕ) (bytes : Text) (x : Counts × Text) → read_counts heading bytes ≡ Ok x → TakesCounts bytes x
+unfolding read_counts
 counts_take heading bytes x h =
-    let v = then_ok (version_at (heading + 1) bytes) (λ table. values_at (heading + 2) segments_line table.1 >>= λ segments. values_at (heading + 3) rungs_line segments.1 >>= λ rungs. table_at (heading + 4) table.0 rungs.1 >>= λ rest. Ok (counts table.0 segments.0.0 rungs.0.0, rest.1)) x h in
-    let n = then_ok (values_at (heading + 2) segments_line v.0.1) (λ segments. values_at (heading + 3) rungs_line segments.1 >>= λ rungs. table_at (heading + 4) v.0.0 rungs.1 >>= λ rest. Ok (counts v.0.0 segments.0.0 rungs.0.0, rest.1)) x v.2 in
-    let r = then_ok (values_at (heading + 3) rungs_line n.0.1) (λ rungs. table_at (heading + 4) v.0.0 rungs.1 >>= λ rest. Ok (counts v.0.0 n.0.0.0 rungs.0.0, rest.1)) x n.2 in
-    let t = then_ok (table_at (heading + 4) v.0.0 r.0.1) (λ rest. Ok (counts v.0.0 n.0.0.0 r.0.0.0, rest.1)) x r.2 in
+    let v = then_ok (read_version (heading + 1) bytes) (λ table. read_line (heading + 2) segments_line table.1 >>= λ segments. read_line (heading + 3) rungs_line segments.1 >>= λ rungs. read_table (heading + 4) table.0 rungs.1 >>= λ rest. Ok (counts table.0 segments.0.0 rungs.0.0, rest.1)) x h in
+    let n = then_ok (read_line (heading + 2) segments_line v.0.1) (λ segments. read_line (heading + 3) rungs_line segments.1 >>= λ rungs. read_table (heading + 4) v.0.0 rungs.1 >>= λ rest. Ok (counts v.0.0 segments.0.0 rungs.0.0, rest.1)) x v.2 in
+    let r = then_ok (read_line (heading + 3) rungs_line n.0.1) (λ rungs. read_table (heading + 4) v.0.0 rungs.1 >>= λ rest. Ok (counts v.0.0 n.0.0.0 rungs.0.0, rest.1)) x n.2 in
+    let t = then_ok (read_table (heading + 4) v.0.0 r.0.1) (λ rest. Ok (counts v.0.0 n.0.0.0 r.0.0.0, rest.1)) x r.2 in
     let tv = version_takes (heading + 1) bytes v.0 v.1 in
     let tn = line_takes (heading + 2) segments_line v.0.1 n.0 can_segments (lit≤ tt) n.1 in
     let tr = line_takes (heading + 3) rungs_line n.0.1 r.0 can_rungs (lit≤ tt) r.1 in
@@ -137,10 +137,10 @@ counts_take heading bytes x h =
       rungs = tr.holds;
     })
 
-counts_again : (heading : ℕ) (t : Bool) (n r : ℕ) (rest : Text) → Holds segments_line (n, tt) → Holds rungs_line (r, tt) → counts_at heading (counts_text t n r ++ rest) ≡ Ok (counts t n r, rest)
-unfolding counts_at
+counts_again : (heading : ℕ) (t : Bool) (n r : ℕ) (rest : Text) → Holds segments_line (n, tt) → Holds rungs_line (r, tt) → read_counts heading (counts_text t n r ++ rest) ≡ Ok (counts t n r, rest)
+unfolding read_counts
 counts_again heading t n r rest a b =
-    ap (counts_at heading) (counts_line t n r rest)
+    ap (read_counts heading) (counts_line t n r rest)
     ∙ rw (
       version_again (heading + 1) t (fields_line (fields_of segments_line (n, tt)) ++ (fields_line (fields_of rungs_line (r, tt)) ++ (lines_text (table_lines t) ++ rest))),
       line_again (heading + 2) segments_line (n, tt) (fields_line (fields_of rungs_line (r, tt)) ++ (lines_text (table_lines t) ++ rest)) can_segments (lit≤ tt) a,
@@ -175,13 +175,13 @@ pub record TakesHead (bytes : Text) (x : CertificateParts × Place) : Type 0 whe
   pub none : x.0.chains ≡ []
 
 -- a head that was read is of the form and spelled so
-pub head_takes : (heading : ℕ) (bytes : Text) (x : CertificateParts × Place) → head_at heading bytes ≡ Ok x → TakesHead bytes x
-unfolding head_at
+pub head_takes : (heading : ℕ) (bytes : Text) (x : CertificateParts × Place) → read_head heading bytes ≡ Ok x → TakesHead bytes x
+unfolding read_head
 head_takes heading bytes x h =
-    let k = then_ok (counts_at heading bytes) (λ counts. values_at (score_row heading counts.0.table) score_line counts.1 >>= λ score. values_at (score_row heading counts.0.table + 1) (plan_line counts.0.segments) score.1 >>= λ plan. values_at (score_row heading counts.0.table + 2) (start_line counts.0.rungs) plan.1 >>= λ starts. Ok (made_head counts.0 score.0.0 plan.0 starts.0, first_place heading counts.0.table starts.1)) x h in
-    let z = then_ok (values_at (score_row heading k.0.0.table) score_line k.0.1) (λ score. values_at (score_row heading k.0.0.table + 1) (plan_line k.0.0.segments) score.1 >>= λ plan. values_at (score_row heading k.0.0.table + 2) (start_line k.0.0.rungs) plan.1 >>= λ starts. Ok (made_head k.0.0 score.0.0 plan.0 starts.0, first_place heading k.0.0.table starts.1)) x k.2 in
-    let p = then_ok (values_at (score_row heading k.0.0.table + 1) (plan_line k.0.0.segments) z.0.1) (λ plan. values_at (score_row heading k.0.0.table + 2) (start_line k.0.0.rungs) plan.1 >>= λ starts. Ok (made_head k.0.0 z.0.0.0 plan.0 starts.0, first_place heading k.0.0.table starts.1)) x z.2 in
-    let s = then_ok (values_at (score_row heading k.0.0.table + 2) (start_line k.0.0.rungs) p.0.1) (λ starts. Ok (made_head k.0.0 z.0.0.0 p.0.0 starts.0, first_place heading k.0.0.table starts.1)) x p.2 in
+    let k = then_ok (read_counts heading bytes) (λ counts. read_line (score_row heading counts.0.table) score_line counts.1 >>= λ score. read_line (score_row heading counts.0.table + 1) (plan_line counts.0.segments) score.1 >>= λ plan. read_line (score_row heading counts.0.table + 2) (start_line counts.0.rungs) plan.1 >>= λ starts. Ok (made_head counts.0 score.0.0 plan.0 starts.0, first_place heading counts.0.table starts.1)) x h in
+    let z = then_ok (read_line (score_row heading k.0.0.table) score_line k.0.1) (λ score. read_line (score_row heading k.0.0.table + 1) (plan_line k.0.0.segments) score.1 >>= λ plan. read_line (score_row heading k.0.0.table + 2) (start_line k.0.0.rungs) plan.1 >>= λ starts. Ok (made_head k.0.0 score.0.0 plan.0 starts.0, first_place heading k.0.0.table starts.1)) x k.2 in
+    let p = then_ok (read_line (score_row heading k.0.0.table + 1) (plan_line k.0.0.segments) z.0.1) (λ plan. read_line (score_row heading k.0.0.table + 2) (start_line k.0.0.rungs) plan.1 >>= λ starts. Ok (made_head k.0.0 z.0.0.0 plan.0 starts.0, first_place heading k.0.0.table starts.1)) x z.2 in
+    let s = then_ok (read_line (score_row heading k.0.0.table + 2) (start_line k.0.0.rungs) p.0.1) (λ starts. Ok (made_head k.0.0 z.0.0.0 p.0.0 starts.0, first_place heading k.0.0.table starts.1)) x p.2 in
     let tk = counts_take heading bytes k.0 k.1 in
     let tz = line_takes (score_row heading k.0.0.table) score_line k.0.1 z.0 can_score (lit≤ tt) z.1 in
     let tp = line_takes (score_row heading k.0.0.table + 1) (plan_line k.0.0.segments) z.0.1 p.0 (can_plan k.0.0.segments tk.segments.0.0) (omega arith) p.1 in
@@ -199,12 +199,12 @@ head_takes heading bytes x h =
     })
 
 -- a head of the form is read from its spelling
-pub head_again : (heading : ℕ) (c : CertificateParts) (rest : Text) → IsHead c → head_at heading (lines_text (head_lines c) ++ rest) ≡ Ok (without_chains c, first_place heading c.table rest)
-unfolding head_at
+pub head_again : (heading : ℕ) (c : CertificateParts) (rest : Text) → IsHead c → read_head heading (lines_text (head_lines c) ++ rest) ≡ Ok (without_chains c, first_place heading c.table rest)
+unfolding read_head
 head_again heading c rest form =
     let plan = fields_line (fields_of (plan_line c.segments) c.plan) in
     let start = fields_line (fields_of (start_line c.rungs) c.starts) in
-    ap (head_at heading) (head_line c rest)
+    ap (read_head heading) (head_line c rest)
     ∙ rw (
       counts_again heading c.table c.segments c.rungs (lists_text c ++ rest) (form.segments, tt) (form.rungs, tt),
       lists_line c rest,
@@ -215,31 +215,31 @@ head_again heading c rest form =
 
 -- ---- the end
 
-nothing_takes : (row : ℕ) (bytes : Text) (u : Unit {0}) → nothing_at row bytes ≡ Ok u → bytes ≡ []
+nothing_takes : (row : ℕ) (bytes : Text) (u : Unit {0}) → read_nothing row bytes ≡ Ok u → bytes ≡ []
 nothing_takes row [] u h = refl
 nothing_takes row (b ∷ bytes) u h = absurd cc
 
 -- the last line that was read is all that was left
-pub last_takes : (row : ℕ) (bytes : Text) (u : Unit {0}) → last_at row bytes ≡ Ok u → bytes ≡ fields_line (fields_of end_line tt)
-unfolding last_at
+pub last_takes : (row : ℕ) (bytes : Text) (u : Unit {0}) → read_last row bytes ≡ Ok u → bytes ≡ fields_line (fields_of end_line tt)
+unfolding read_last
 last_takes row bytes u h =
-    let w = then_ok (values_at row end_line bytes) (λ rest. nothing_at (row + 1) rest.1) u h in
+    let w = then_ok (read_line row end_line bytes) (λ rest. read_nothing (row + 1) rest.1) u h in
     (line_takes row end_line bytes w.0 can_end (lit≤ tt) w.1).text
     ∙ ap (λ (t : Text). fields_line (fields_of end_line tt) ++ t) (nothing_takes (row + 1) w.0.1 u w.2) ∙ append-nil (fields_line (fields_of end_line tt))
 
 -- the last line is read where it is all that is left
-pub last_again : (row : ℕ) → last_at row (fields_line (fields_of end_line tt)) ≡ Ok tt
-unfolding last_at
+pub last_again : (row : ℕ) → read_last row (fields_line (fields_of end_line tt)) ≡ Ok tt
+unfolding read_last
 last_again row =
     let text = fields_line (fields_of end_line tt) in
-    let last : values_at row end_line text ≡ Ok (tt, []) = ap (values_at row end_line) (sym (append-nil text)) ∙ line_again row end_line tt [] can_end (lit≤ tt) tt in
+    let last : read_line row end_line text ≡ Ok (tt, []) = ap (read_line row end_line) (sym (append-nil text)) ∙ line_again row end_line tt [] can_end (lit≤ tt) tt in
     rw last refl
 
-end_takes : (p : Place) (u : Unit {0}) → end_at p ≡ Ok u → p.rest ≡ fields_line (fields_of end_line tt)
+end_takes : (p : Place) (u : Unit {0}) → read_end p ≡ Ok u → p.rest ≡ fields_line (fields_of end_line tt)
 end_takes p u h = last_takes p.row p.rest u h
 
-end_again : (p : Place) → p.rest ≡ fields_line (fields_of end_line tt) → end_at p ≡ Ok tt
-end_again p e = ap (last_at p.row) e ∙ last_again p.row
+end_again : (p : Place) → p.rest ≡ fields_line (fields_of end_line tt) → read_end p ≡ Ok tt
+end_again p e = ap (read_last p.row) e ∙ last_again p.row
 
 -- ---- the whole
 
@@ -247,9 +247,9 @@ end_again p e = ap (last_at p.row) e ∙ last_again p.row
 pub behind_takes : (heading : ℕ) (bytes : Text) (c : CertificateParts) → certificate_behind heading bytes ≡ Ok c → IsCertificate c × (bytes ≡ spelling c)
 unfolding certificate_behind
 behind_takes heading bytes c h =
-    let a = then_ok (head_at heading bytes) (λ head. chains_at head.0.segments head.0.rungs 0 (head.0.segments * head.0.rungs) head.1 >>= λ chains. end_at chains.1 >>= λ done. Ok (record head.0 { chains = chains.0 })) c h in
-    let b = then_ok (chains_at a.0.0.segments a.0.0.rungs 0 (a.0.0.segments * a.0.0.rungs) a.0.1) (λ chains. end_at chains.1 >>= λ done. Ok (record a.0.0 { chains = chains.0 })) c a.2 in
-    let d = then_ok (end_at b.0.1) (λ done. Ok (record a.0.0 { chains = b.0.0 })) c b.2 in
+    let a = then_ok (read_head heading bytes) (λ head. read_chains head.0.segments head.0.rungs 0 (head.0.segments * head.0.rungs) head.1 >>= λ chains. read_end chains.1 >>= λ done. Ok (record head.0 { chains = chains.0 })) c h in
+    let b = then_ok (read_chains a.0.0.segments a.0.0.rungs 0 (a.0.0.segments * a.0.0.rungs) a.0.1) (λ chains. read_end chains.1 >>= λ done. Ok (record a.0.0 { chains = chains.0 })) c a.2 in
+    let d = then_ok (read_end b.0.1) (λ done. Ok (record a.0.0 { chains = b.0.0 })) c b.2 in
     let ta = head_takes heading bytes a.0 a.1 in
     let tb = chains_take a.0.0.segments a.0.0.rungs 0 (a.0.0.segments * a.0.0.rungs) a.0.1 b.0 b.1 in
     let td = end_takes b.0.1 d.0 d.1 in
@@ -276,7 +276,7 @@ behind_again heading c form =
     let few = at_most c.segments c.rungs form.head.segments.1 form.head.rungs.1 in
     let far : length c.chains ≤ 32000 = omega (arith, form.count, few) in
     let q = chains_again c.segments c.rungs 0 c.chains (first_place heading c.table later) (fields_line (fields_of end_line tt)) form.head.rungs.0 form.head.rungs.1 (omega (arith, far)) refl form.chains form.labels (omega arith) in
-    let chains : chains_at c.segments c.rungs 0 (c.segments * c.rungs) (first_place heading c.table later) ≡ Ok (c.chains, q.0) = subst (λ (k : ℕ). chains_at c.segments c.rungs 0 k (first_place heading c.table later) ≡ Ok (c.chains, q.0)) form.count q.1 in
+    let chains : read_chains c.segments c.rungs 0 (c.segments * c.rungs) (first_place heading c.table later) ≡ Ok (c.chains, q.0) = subst (λ (k : ℕ). read_chains c.segments c.rungs 0 k (first_place heading c.table later) ≡ Ok (c.chains, q.0)) form.count q.1 in
     ap (certificate_behind heading) (spelling_parts c) ∙ rw (head_again heading c later form.head, chains, end_again q.0 q.2) refl
   where
     at_most : (n r : ℕ) → n ≤ 2000 → r ≤ 16 → n * r ≤ 32000

@@ -14,8 +14,8 @@ use Rattle.labels.specs.Parts.{CertificateParts, ChainParts, chain_parts}
 use Rattle.certificate_text.specs.declared.certificate.Layer.{Layer}
 use Rattle.certificate_text.specs.Fields.{Read}
 use Rattle.certificate_text.specs.Form.{GapParts}
-use Rattle.certificate_text.specs.Reading.{Walks, bound_at, certificate_behind, certificate_of, chains_at, end_at, gap_heading, gap_of, head_at}
-use Rattle.certificate_text.specs.Walk.{BeginsBadly, BeginsGap, BeginsLayers, GivesLayer, IsBegun, MeetsBadLine, Steps, Walk, WillGive, WillRefuse, begun, begun_gap, certificate_by, first_walk, layer_in, layer_of, prepended, rest_of, without_chains}
+use Rattle.certificate_text.specs.Reading.{Walks, certificate_behind, certificate_of, gap_heading, gap_of, read_bound, read_chains, read_end, read_head}
+use Rattle.certificate_text.specs.Walk.{BeginsBadly, BeginsGap, BeginsLayers, GivesLayer, IsBegun, MeetsBadLine, Steps, Walk, WillGive, WillRefuse, begun, begun_gap, certificate_by, chains_behind, first_walk, layer_in, layer_of, rest_of, without_chains}
 use Rattle.certificate_text.proofs.CertificateLaws.{chains_take}
 use Rattle.certificate_text.proofs.HeadLaws.{head_takes}
 use Rattle.certificate_text.proofs.Loops.{ok_is}
@@ -59,12 +59,12 @@ begun_refuses w e bad = go (rest_of w) bad
     go (Err d) h = cc
 
 -- a head that is refused refuses the whole
-behind_bad : (heading : ℕ) (bytes : Text) (bound : CertificateParts → ℤ) (d : Refusal) → (head_at heading bytes >>= λ x. Ok (first_walk (bound x.0) x)) ≡ Err d → certificate_behind heading bytes ≡ Err d
+behind_bad : (heading : ℕ) (bytes : Text) (bound : CertificateParts → ℤ) (d : Refusal) → (read_head heading bytes >>= λ x. Ok (first_walk (bound x.0) x)) ≡ Err d → certificate_behind heading bytes ≡ Err d
 unfolding certificate_behind
-behind_bad heading bytes bound d h = go (head_at heading bytes) h
+behind_bad heading bytes bound d h = go (read_head heading bytes) h
   where
     go : (head : Walks CertificateParts) → (head >>= λ x. Ok (first_walk (bound x.0) x)) ≡ Err d
-        → (head >>= λ x. chains_at x.0.segments x.0.rungs 0 (x.0.segments * x.0.rungs) x.1 >>= λ chains. end_at chains.1 >>= λ done. Ok (record x.0 { chains = chains.0 })) ≡ Err d
+        → (head >>= λ x. read_chains x.0.segments x.0.rungs 0 (x.0.segments * x.0.rungs) x.1 >>= λ chains. read_end chains.1 >>= λ done. Ok (record x.0 { chains = chains.0 })) ≡ Err d
     go (Ok x) h = absurd cc
     go (Err e) h = cc
 
@@ -76,9 +76,9 @@ bad_head bytes d h = behind_bad 0 bytes (λ c. c.score) d h
 -- the same of a gap certificate
 pub bad_gap : (bytes : Text) (d : Refusal) → begun_gap bytes ≡ Err d → gap_of bytes ≡ Err d
 unfolding begun_gap gap_of
-bad_gap bytes d h = go (bound_at bytes) h
+bad_gap bytes d h = go (read_bound bytes) h
   where
-    go : (bound : Read ℤ) → (bound >>= λ b. head_at gap_heading b.1 >>= λ head. Ok (first_walk b.0 head)) ≡ Err d → (bound >>= λ b. with_bound b.0 (certificate_behind gap_heading b.1)) ≡ Err d
+    go : (bound : Read ℤ) → (bound >>= λ b. read_head gap_heading b.1 >>= λ head. Ok (first_walk b.0 head)) ≡ Err d → (bound >>= λ b. with_bound b.0 (certificate_behind gap_heading b.1)) ≡ Err d
     go (Ok b) h = ap (with_bound b.0) (behind_bad gap_heading b.1 (λ c. b.0) d h)
     go (Err e) h = cc
 
@@ -130,14 +130,14 @@ gap_begins_badly bytes (Err Memory) e h bad = tt
 -- ---- a layer
 
 -- what is still read behind chains
-prepended_ok : (front all : List ChainParts) (read : Result (List ChainParts) Refusal) → prepended front read ≡ Ok all → (cs : List ChainParts) × (read ≡ Ok cs) × (front ++ cs ≡ all)
+prepended_ok : (front all : List ChainParts) (read : Result (List ChainParts) Refusal) → chains_behind front read ≡ Ok all → (cs : List ChainParts) × (read ≡ Ok cs) × (front ++ cs ≡ all)
 prepended_ok front all (Ok cs) h = (cs, refl, held_is (front ++ cs) all h)
   where
     held_is : (x y : List ChainParts) → held x ≡ held y → x ≡ y
     held_is x y e = cc
 prepended_ok front all (Err e) h = absurd cc
 
-prepended_err : (front : List ChainParts) (e : Refusal) (read : Result (List ChainParts) Refusal) → prepended front read ≡ Err e → read ≡ Err e
+prepended_err : (front : List ChainParts) (e : Refusal) (read : Result (List ChainParts) Refusal) → chains_behind front read ≡ Err e → read ≡ Err e
 prepended_err front e (Ok cs) h = absurd cc
 prepended_err front e (Err d) h = cc
 

@@ -15,8 +15,8 @@ use Rattle.labels.specs.Parts.{CertificateParts, ChainParts}
 use Rattle.certificate_text.specs.Form.{GapParts, IsGapCertificate}
 use Rattle.labels.specs.Form.{HasDigits, HasSignedDigits, AreChains, IsCertificate, IsHead, IsSpelled, label_count, names_per}
 use Rattle.certificate_text.specs.Line.{fields_of}
-use Rattle.certificate_text.specs.Grammar.{bound_line, end_line, gap_line, plan_line, rungs_line, score_line, segments_line, start_line}
-use Rattle.certificate_text.specs.Spelling.{chain_lines, chains_lines, head_lines, label_fields, gap_lines, gap_spelling, label_lines, layer_fields, lines_text, spelling, table_lines, version_fields, version_number}
+use Rattle.certificate_text.specs.Grammar.{end_line, gap_bound_line, gap_line, plan_line, rungs_line, score_line, segments_line, start_line}
+use Rattle.certificate_text.specs.Spelling.{chain_lines, chains_lines, gap_lines, gap_spelling, head_lines, label_fields, label_lines, layer_fields, lines_text, spelling, table_lines, version_fields, version_number}
 use Rattle.certificate_text.proofs.Texts.{spelling_parts}
 
 -- the most bytes of a certificate's text that a program has to take
@@ -219,7 +219,7 @@ pub spelling_fits : (c : CertificateParts) → IsCertificate c → length (spell
 spelling_fits c form = let l = spelling_short c form in omega (arith, l)
 
 -- the line of a bound
-pub bound_short : (z : ℤ) → HasSignedDigits 24 z → length (fields_line (fields_of bound_line (z, tt))) ≤ 32
+pub bound_short : (z : ℤ) → HasSignedDigits 24 z → length (fields_line (fields_of gap_bound_line (z, tt))) ≤ 32
 bound_short z h =
     let d = signed_short 24 z (omega arith) (omega arith) h in
     let a = first_field (codes "bound") (signed_decimal z ∷ []) in
@@ -229,7 +229,7 @@ bound_short z h =
 -- and so is that of a gap certificate
 pub gap_fits : (c : GapParts) → IsGapCertificate c → length (gap_spelling c) ≤ most_bytes
 gap_fits c form =
-    let bound = fields_of bound_line (c.bound, tt) in
+    let bound = fields_of gap_bound_line (c.bound, tt) in
     let l = spelling_short c.inner form.inner in
     let b = bound_short c.bound form.bound in
     let whole = length-append (lines_text (gap_lines c.bound)) (spelling c.inner) in

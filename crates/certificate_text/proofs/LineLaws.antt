@@ -6,9 +6,9 @@ use Rattle.lab_model.proofs.Steps.{then_ok}
 use Rattle.lab_model.specs.Steps.{◌>>=◌}
 use Rattle.lab_io.specs.Sink.{Text}
 use Rattle.lab_io.specs.Piece.{fields_line, later_fields}
-use Rattle.certificate_text.specs.Fields.{known_at, number_at, numbers_at, signed_at, stop_before, within_at, word_at}
+use Rattle.certificate_text.specs.Fields.{read_known, read_number, read_numbers, read_signed, read_within, read_word, stop_before}
 use Rattle.labels.specs.Form.{HasDigits, place_digits}
-use Rattle.certificate_text.specs.Line.{Holds, Line, Values, ends, field_count, fields_of, known, number, numbers, signed, stop_of, values_at, within, word}
+use Rattle.certificate_text.specs.Line.{Holds, Line, Values, ends, field_count, fields_of, known, number, numbers, read_line, signed, stop_of, within, word}
 use Rattle.certificate_text.proofs.Loops.{ok_is}
 use Rattle.certificate_text.proofs.FieldLaws.{is_free, known_again, known_takes, number_again, number_takes, numbers_again, numbers_take, numbers_text, signed_again, signed_takes, stop_low, within_again, within_takes, word_again, word_takes}
 
@@ -73,21 +73,21 @@ pub record Takes (line : Line) (bytes : Text) (x : Values line × Text) : Type 0
   pub holds : Holds line x.0
   pub text : bytes ≡ fields_text (fields_of line x.0) ++ x.1
 
-fields_take : (row : ℕ) (line : Line) (bytes : Text) (x : Values line × Text) → IsSpellable line → values_at row line bytes ≡ Ok x → Takes line bytes x
-unfolding values_at
+fields_take : (row : ℕ) (line : Line) (bytes : Text) (x : Values line × Text) → IsSpellable line → read_line row line bytes ≡ Ok x → Takes line bytes x
+unfolding read_line
 fields_take row ends bytes x can h = subst (Takes ends bytes) (ok_is (tt, bytes) x h) (record { holds = tt; text = refl })
 fields_take row (numbers count digits) bytes x can h =
     let t = numbers_take row digits count bytes x can.1 h in
     record { holds = (t.count_is, t.digits_are); text = t.text ∙ ap (λ (w : Text). w ++ x.1) (numbers_fields x.0) }
 fields_take row (word text more) bytes x can h =
-    let w = then_ok (word_at row text (stop_of more) bytes) (λ rest. values_at row more rest) x h in
+    let w = then_ok (read_word row text (stop_of more) bytes) (λ rest. read_line row more rest) x h in
     let later = fields_take row more w.0 x can.1 w.2 in
     record {
       holds = later.holds;
       text = field_behind text (fields_of more x.0) (field_count more) bytes w.0 x.1 (held_count more x.0 later.holds) (word_takes row text (stop_of more) bytes w.0 w.1) later.text;
     }
 fields_take row (known n more) bytes x can h =
-    let w = then_ok (known_at row n (stop_of more) bytes) (λ rest. values_at row more rest) x h in
+    let w = then_ok (read_known row n (stop_of more) bytes) (λ rest. read_line row more rest) x h in
     let own = known_takes row n (stop_of more) bytes w.0 w.1 in
     let later = fields_take row more w.0 x can w.2 in
     record {
@@ -95,8 +95,8 @@ fields_take row (known n more) bytes x can h =
       text = field_behind (decimal n) (fields_of more x.0) (field_count more) bytes w.0 x.1 (held_count more x.0 later.holds) own.0 later.text;
     }
 fields_take row (number digits more) bytes x can h =
-    let n = then_ok (number_at row digits (stop_of more) bytes) (λ n. values_at row more n.1 >>= λ values. Ok ((n.0, values.0), values.1)) x h in
-    let v = then_ok (values_at row more n.0.1) (λ values. Ok ((n.0.0, values.0), values.1)) x n.2 in
+    let n = then_ok (read_number row digits (stop_of more) bytes) (λ n. read_line row more n.1 >>= λ values. Ok ((n.0, values.0), values.1)) x h in
+    let v = then_ok (read_line row more n.0.1) (λ values. Ok ((n.0.0, values.0), values.1)) x n.2 in
     let own = number_takes row digits (stop_of more) bytes n.0 can.0.1 n.1 in
     let later = fields_take row more n.0.1 v.0 can.1 v.1 in
     subst (Takes (number digits more) bytes) (ok_is ((n.0.0, v.0.0), v.0.1) x v.2) (record {
@@ -104,8 +104,8 @@ fields_take row (number digits more) bytes x can h =
       text = field_behind (decimal n.0.0) (fields_of more v.0.0) (field_count more) bytes n.0.1 v.0.1 (held_count more v.0.0 later.holds) own.0 later.text;
     })
 fields_take row (within low high more) bytes x can h =
-    let n = then_ok (within_at row low high (stop_of more) bytes) (λ n. values_at row more n.1 >>= λ values. Ok ((n.0, values.0), values.1)) x h in
-    let v = then_ok (values_at row more n.0.1) (λ values. Ok ((n.0.0, values.0), values.1)) x n.2 in
+    let n = then_ok (read_within row low high (stop_of more) bytes) (λ n. read_line row more n.1 >>= λ values. Ok ((n.0, values.0), values.1)) x h in
+    let v = then_ok (read_line row more n.0.1) (λ values. Ok ((n.0.0, values.0), values.1)) x n.2 in
     let own = within_takes row low high (stop_of more) bytes n.0 n.1 in
     let later = fields_take row more n.0.1 v.0 can.1 v.1 in
     subst (Takes (within low high more) bytes) (ok_is ((n.0.0, v.0.0), v.0.1) x v.2) (record {
@@ -113,8 +113,8 @@ fields_take row (within low high more) bytes x can h =
       text = field_behind (decimal n.0.0) (fields_of more v.0.0) (field_count more) bytes n.0.1 v.0.1 (held_count more v.0.0 later.holds) own.0 later.text;
     })
 fields_take row (signed digits more) bytes x can h =
-    let z = then_ok (signed_at row digits (stop_of more) bytes) (λ z. values_at row more z.1 >>= λ values. Ok ((z.0, values.0), values.1)) x h in
-    let v = then_ok (values_at row more z.0.1) (λ values. Ok ((z.0.0, values.0), values.1)) x z.2 in
+    let z = then_ok (read_signed row digits (stop_of more) bytes) (λ z. read_line row more z.1 >>= λ values. Ok ((z.0, values.0), values.1)) x h in
+    let v = then_ok (read_line row more z.0.1) (λ values. Ok ((z.0.0, values.0), values.1)) x z.2 in
     let own = signed_takes row digits (stop_of more) bytes z.0 can.0.1 z.1 in
     let later = fields_take row more z.0.1 v.0 can.1 v.1 in
     subst (Takes (signed digits more) bytes) (ok_is ((z.0.0, v.0.0), v.0.1) x v.2) (record {
@@ -128,7 +128,7 @@ pub record TakesLine (line : Line) (bytes : Text) (x : Values line × Text) : Ty
   pub text : bytes ≡ fields_line (fields_of line x.0) ++ x.1
 
 -- values that were read from a line are held and spelled so
-pub line_takes : (row : ℕ) (line : Line) (bytes : Text) (x : Values line × Text) → IsSpellable line → 1 ≤ field_count line → values_at row line bytes ≡ Ok x → TakesLine line bytes x
+pub line_takes : (row : ℕ) (line : Line) (bytes : Text) (x : Values line × Text) → IsSpellable line → 1 ≤ field_count line → read_line row line bytes ≡ Ok x → TakesLine line bytes x
 line_takes row line bytes x can some h =
     let t = fields_take row line bytes x can h in
     let count = held_count line x.0 t.holds in
@@ -136,36 +136,36 @@ line_takes row line bytes x can some h =
 
 -- ---- what is read again
 
-fields_again : (row : ℕ) (line : Line) (values : Values line) (rest : Text) → IsSpellable line → Holds line values → values_at row line (fields_text (fields_of line values) ++ rest) ≡ Ok (values, rest)
-unfolding values_at
+fields_again : (row : ℕ) (line : Line) (values : Values line) (rest : Text) → IsSpellable line → Holds line values → read_line row line (fields_text (fields_of line values) ++ rest) ≡ Ok (values, rest)
+unfolding read_line
 fields_again row ends values rest can held = refl
 fields_again row (numbers count digits) ns rest can held =
-    ap (λ (t : Text). numbers_at row digits count (t ++ rest)) (sym (numbers_fields ns))
-    ∙ ap (λ (k : ℕ). numbers_at row digits k (numbers_text ns ++ rest)) (sym held.0)
+    ap (λ (t : Text). read_numbers row digits count (t ++ rest)) (sym (numbers_fields ns))
+    ∙ ap (λ (k : ℕ). read_numbers row digits k (numbers_text ns ++ rest)) (sym held.0)
     ∙ numbers_again row digits ns rest can.0 can.1 held.1
 fields_again row (word text more) values rest can held =
     let fs = fields_of more values in
-    ap (values_at row (word text more)) (field_more text fs (field_count more) rest (held_count more values held))
+    ap (read_line row (word text more)) (field_more text fs (field_count more) rest (held_count more values held))
     ∙ rw (word_again row text (stop_of more) (fields_text fs ++ rest) can.0) (fields_again row more values rest can.1 held)
 fields_again row (known n more) values rest can held =
     let fs = fields_of more values in
-    ap (values_at row (known n more)) (field_more (decimal n) fs (field_count more) rest (held_count more values held.1))
+    ap (read_line row (known n more)) (field_more (decimal n) fs (field_count more) rest (held_count more values held.1))
     ∙ rw (known_again row n (stop_of more) (fields_text fs ++ rest) (stop_low (field_count more)) held.0) (fields_again row more values rest can held.1)
 fields_again row (number digits more) values rest can held =
     let fs = fields_of more values.1 in
-    ap (values_at row (number digits more)) (field_more (decimal values.0) fs (field_count more) rest (held_count more values.1 held.1))
+    ap (read_line row (number digits more)) (field_more (decimal values.0) fs (field_count more) rest (held_count more values.1 held.1))
     ∙ rw (number_again row digits (stop_of more) values.0 (fields_text fs ++ rest) can.0.0 can.0.1 (stop_low (field_count more)) held.0, fields_again row more values.1 rest can.1 held.1) refl
 fields_again row (within low high more) values rest can held =
     let fs = fields_of more values.1 in
-    ap (values_at row (within low high more)) (field_more (decimal values.0) fs (field_count more) rest (held_count more values.1 held.1))
+    ap (read_line row (within low high more)) (field_more (decimal values.0) fs (field_count more) rest (held_count more values.1 held.1))
     ∙ rw (within_again row low high (stop_of more) values.0 (fields_text fs ++ rest) (stop_low (field_count more)) can.0 held.0, fields_again row more values.1 rest can.1 held.1) refl
 fields_again row (signed digits more) values rest can held =
     let fs = fields_of more values.1 in
-    ap (values_at row (signed digits more)) (field_more (signed_decimal values.0) fs (field_count more) rest (held_count more values.1 held.1))
+    ap (read_line row (signed digits more)) (field_more (signed_decimal values.0) fs (field_count more) rest (held_count more values.1 held.1))
     ∙ rw (signed_again row digits (stop_of more) values.0 (fields_text fs ++ rest) can.0.0 can.0.1 (stop_low (field_count more)) held.0, fields_again row more values.1 rest can.1 held.1) refl
 
 -- values that a line holds are read from their spelling
-pub line_again : (row : ℕ) (line : Line) (values : Values line) (rest : Text) → IsSpellable line → 1 ≤ field_count line → Holds line values → values_at row line (fields_line (fields_of line values) ++ rest) ≡ Ok (values, rest)
+pub line_again : (row : ℕ) (line : Line) (values : Values line) (rest : Text) → IsSpellable line → 1 ≤ field_count line → Holds line values → read_line row line (fields_line (fields_of line values) ++ rest) ≡ Ok (values, rest)
 line_again row line values rest can some held =
     let count = held_count line values held in
-    ap (λ (t : Text). values_at row line (t ++ rest)) (line_fields (fields_of line values) (omega (arith, some, count))) ∙ fields_again row line values rest can held
+    ap (λ (t : Text). read_line row line (t ++ rest)) (line_fields (fields_of line values) (omega (arith, some, count))) ∙ fields_again row line values rest can held

@@ -5,8 +5,8 @@ use Rattle.lab_model.specs.declared.fault.Refusal.{Refusal}
 use Rattle.lab_io.specs.Sink.{Text}
 use Rattle.labels.specs.Parts.{ChainParts}
 use Rattle.labels.specs.Form.{names_per}
-use Rattle.certificate_text.specs.Fields.{Read, number_at, numbers_at, prepended, stop_before}
-use Rattle.certificate_text.specs.Reading.{Place, Walks, behind, chain_at, chains_at, joined, label_at, labels_at}
+use Rattle.certificate_text.specs.Fields.{Read, numbers_behind, read_number, read_numbers, stop_before}
+use Rattle.certificate_text.specs.Reading.{Place, Walks, behind, joined, read_chain, read_chains, read_label, read_labels}
 
 -- an answer that holds a value
 abbrev pub given : {X : Type 0} → X → Result X Refusal
@@ -18,33 +18,33 @@ ok_is x y e = cc
 
 -- ---- numbers
 
-numbers_regrouped : (before : List ℕ) (n : ℕ) (read : Read (List ℕ)) → prepended before (read >>= λ ns. Ok (n ∷ ns.0, ns.1)) ≡ prepended (before ++ n ∷ []) read
+numbers_regrouped : (before : List ℕ) (n : ℕ) (read : Read (List ℕ)) → numbers_behind before (read >>= λ ns. Ok (n ∷ ns.0, ns.1)) ≡ numbers_behind (before ++ n ∷ []) read
 numbers_regrouped before n (Ok x) = ap (λ (ns : List ℕ). Ok (ns, x.1)) (sym (append_assoc before (n ∷ []) x.0))
 numbers_regrouped before n (Err e) = refl
 
 -- one more number
-pub numbers_more : (before : List ℕ) (row digits count i n : ℕ) (rest behind : Text) → i < count → number_at row digits (stop_before (count - i - 1)) rest ≡ Ok (n, behind)
-    → prepended (before ++ n ∷ []) (numbers_at row digits (count - (i + 1)) behind) ≡ prepended before (numbers_at row digits (count - i) rest)
-unfolding numbers_at
+pub numbers_more : (before : List ℕ) (row digits count i n : ℕ) (rest behind : Text) → i < count → read_number row digits (stop_before (count - i - 1)) rest ≡ Ok (n, behind)
+    → numbers_behind (before ++ n ∷ []) (read_numbers row digits (count - (i + 1)) behind) ≡ numbers_behind before (read_numbers row digits (count - i) rest)
+unfolding read_numbers
 numbers_more before row digits count i n rest behind lt h =
     let k : count - i ≡ suc (count - (i + 1)) = omega arith in
     let j : count - i - 1 ≡ count - (i + 1) = omega arith in
-    let hh : number_at row digits (stop_before (count - (i + 1))) rest ≡ Ok (n, behind) = rw j at h in
-    rw (k, hh) (sym (numbers_regrouped before n (numbers_at row digits (count - (i + 1)) behind)))
+    let hh : read_number row digits (stop_before (count - (i + 1))) rest ≡ Ok (n, behind) = rw j at h in
+    rw (k, hh) (sym (numbers_regrouped before n (read_numbers row digits (count - (i + 1)) behind)))
 
 -- one that is refused
-pub numbers_stopped : (before : List ℕ) (row digits count i : ℕ) (rest : Text) (y : Refusal) → i < count → number_at row digits (stop_before (count - i - 1)) rest ≡ Err y
-    → prepended before (numbers_at row digits (count - i) rest) ≡ Err y
-unfolding numbers_at
+pub numbers_stopped : (before : List ℕ) (row digits count i : ℕ) (rest : Text) (y : Refusal) → i < count → read_number row digits (stop_before (count - i - 1)) rest ≡ Err y
+    → numbers_behind before (read_numbers row digits (count - i) rest) ≡ Err y
+unfolding read_numbers
 numbers_stopped before row digits count i rest y lt h =
     let k : count - i ≡ suc (count - (i + 1)) = omega arith in
     let j : count - i - 1 ≡ count - (i + 1) = omega arith in
-    let hh : number_at row digits (stop_before (count - (i + 1))) rest ≡ Err y = rw j at h in
+    let hh : read_number row digits (stop_before (count - (i + 1))) rest ≡ Err y = rw j at h in
     rw (k, hh) refl
 
 -- all of them
-pub numbers_ended : (before : List ℕ) (row digits count i : ℕ) (rest : Text) → count ≤ i → prepended before (numbers_at row digits (count - i) rest) ≡ Ok (before, rest)
-unfolding numbers_at
+pub numbers_ended : (before : List ℕ) (row digits count i : ℕ) (rest : Text) → count ≤ i → numbers_behind before (read_numbers row digits (count - i) rest) ≡ Ok (before, rest)
+unfolding read_numbers
 numbers_ended before row digits count i rest le =
     let k : count - i ≡ 0 = omega arith in
     rw k (ap (λ (ns : List ℕ). Ok (ns, rest)) (append-nil before))
@@ -73,25 +73,25 @@ labels_refused c (Ok x) y others h = absurd cc
 labels_refused c (Err z) y others h = cc
 
 -- one more label
-pub labels_more : (c d : ChainParts) (row per count i : ℕ) (rest after : Text) → i < count → behind c (label_at (row + i) per rest) ≡ Ok (d, after)
-    → behind d (labels_at (row + (i + 1)) per (count - (i + 1)) after) ≡ behind c (labels_at (row + i) per (count - i) rest)
-unfolding labels_at
+pub labels_more : (c d : ChainParts) (row per count i : ℕ) (rest after : Text) → i < count → behind c (read_label (row + i) per rest) ≡ Ok (d, after)
+    → behind d (read_labels (row + (i + 1)) per (count - (i + 1)) after) ≡ behind c (read_labels (row + i) per (count - i) rest)
+unfolding read_labels
 labels_more c d row per count i rest after lt h =
     let k : count - i ≡ suc (count - (i + 1)) = omega arith in
     let j : row + (i + 1) ≡ row + i + 1 = omega arith in
-    rw (k, j) (labels_next c d (label_at (row + i) per rest) after (λ bytes. labels_at (row + i + 1) per (count - (i + 1)) bytes) h)
+    rw (k, j) (labels_next c d (read_label (row + i) per rest) after (λ bytes. read_labels (row + i + 1) per (count - (i + 1)) bytes) h)
 
 -- one that is refused
-pub labels_stopped : (c : ChainParts) (row per count i : ℕ) (rest : Text) (y : Refusal) → i < count → behind c (label_at (row + i) per rest) ≡ Err y
-    → behind c (labels_at (row + i) per (count - i) rest) ≡ Err y
-unfolding labels_at
+pub labels_stopped : (c : ChainParts) (row per count i : ℕ) (rest : Text) (y : Refusal) → i < count → behind c (read_label (row + i) per rest) ≡ Err y
+    → behind c (read_labels (row + i) per (count - i) rest) ≡ Err y
+unfolding read_labels
 labels_stopped c row per count i rest y lt h =
     let k : count - i ≡ suc (count - (i + 1)) = omega arith in
-    rw k (labels_refused c (label_at (row + i) per rest) y (λ bytes. labels_at (row + i + 1) per (count - (i + 1)) bytes) h)
+    rw k (labels_refused c (read_label (row + i) per rest) y (λ bytes. read_labels (row + i + 1) per (count - (i + 1)) bytes) h)
 
 -- all of them
-pub labels_ended : (c : ChainParts) (row per count i : ℕ) (rest : Text) → count ≤ i → behind c (labels_at (row + i) per (count - i) rest) ≡ Ok (c, rest)
-unfolding labels_at
+pub labels_ended : (c : ChainParts) (row per count i : ℕ) (rest : Text) → count ≤ i → behind c (read_labels (row + i) per (count - i) rest) ≡ Ok (c, rest)
+unfolding read_labels
 labels_ended c row per count i rest le =
     let k : count - i ≡ 0 = omega arith in
     rw (k, append-nil c.labels, append-nil c.names) refl
@@ -108,26 +108,26 @@ chains_regrouped front c (Err e) = refl
 
 -- one more chain
 pub chains_more : (front : List ChainParts) (segments rungs number count i : ℕ) (at after : Place) (c : ChainParts) → i < count
-    → chain_at (names_per segments rungs ((number + i) / rungs)) ((number + i) / rungs) ((number + i) % rungs) at ≡ Ok (c, after)
-    → with_front (front ++ c ∷ []) (chains_at segments rungs (number + (i + 1)) (count - (i + 1)) after) ≡ with_front front (chains_at segments rungs (number + i) (count - i) at)
-unfolding chains_at
+    → read_chain (names_per segments rungs ((number + i) / rungs)) ((number + i) / rungs) ((number + i) % rungs) at ≡ Ok (c, after)
+    → with_front (front ++ c ∷ []) (read_chains segments rungs (number + (i + 1)) (count - (i + 1)) after) ≡ with_front front (read_chains segments rungs (number + i) (count - i) at)
+unfolding read_chains
 chains_more front segments rungs number count i at after c lt h =
     let k : count - i ≡ suc (count - (i + 1)) = omega arith in
     let j : number + (i + 1) ≡ number + i + 1 = omega arith in
-    rw (k, j, h) (sym (chains_regrouped front c (chains_at segments rungs (number + i + 1) (count - (i + 1)) after)))
+    rw (k, j, h) (sym (chains_regrouped front c (read_chains segments rungs (number + i + 1) (count - (i + 1)) after)))
 
 -- one that is refused
 pub chains_stopped : (front : List ChainParts) (segments rungs number count i : ℕ) (at : Place) (y : Refusal) → i < count
-    → chain_at (names_per segments rungs ((number + i) / rungs)) ((number + i) / rungs) ((number + i) % rungs) at ≡ Err y
-    → with_front front (chains_at segments rungs (number + i) (count - i) at) ≡ Err y
-unfolding chains_at
+    → read_chain (names_per segments rungs ((number + i) / rungs)) ((number + i) / rungs) ((number + i) % rungs) at ≡ Err y
+    → with_front front (read_chains segments rungs (number + i) (count - i) at) ≡ Err y
+unfolding read_chains
 chains_stopped front segments rungs number count i at y lt h =
     let k : count - i ≡ suc (count - (i + 1)) = omega arith in
     rw (k, h) refl
 
 -- all of them
-pub chains_ended : (front : List ChainParts) (segments rungs number count i : ℕ) (at : Place) → count ≤ i → with_front front (chains_at segments rungs (number + i) (count - i) at) ≡ Ok (front, at)
-unfolding chains_at
+pub chains_ended : (front : List ChainParts) (segments rungs number count i : ℕ) (at : Place) → count ≤ i → with_front front (read_chains segments rungs (number + i) (count - i) at) ≡ Ok (front, at)
+unfolding read_chains
 chains_ended front segments rungs number count i at le =
     let k : count - i ≡ 0 = omega arith in
     rw k (ap (λ (cs : List ChainParts). Ok (cs, at)) (append-nil front))

@@ -1,5 +1,5 @@
 -- The text of a certificate, part by part, and how the writer's loops go through it.
-use Rattle.std.proofs.Common.{◌≡◌, ◌∙◌, ◌+◌, ◌-◌, ◌*◌, ◌/◌, ◌%◌, ◌<◌, ◌≤◌, ℕ, List, [], ◌∷◌, ◌++◌, Bool, drop, get_or, length, map, take, refl, sym, ap, subst, suc, add-one, append_assoc, append-nil, drop-cons, arith}
+use Rattle.std.proofs.Common.{◌≡◌, ◌∙◌, ◌+◌, ◌/◌, ◌%◌, ◌<◌, ◌≤◌, ℕ, List, [], ◌∷◌, ◌++◌, Bool, drop, get_or, length, map, take, refl, sym, ap, suc, add-one, append_assoc, append-nil, drop-cons}
 use Rattle.std.specs.Fmt.{decimal}
 use Rattle.std.proofs.lemmas.List.{drop_all}
 use Rattle.std.proofs.lemmas.List.Concat.{flat_map-append}
@@ -8,7 +8,7 @@ use Rattle.lab_io.specs.Sink.{Text}
 use Rattle.lab_io.specs.Piece.{fields_line, later_fields}
 use Rattle.labels.specs.declared.plans.Chain.{Chain}
 use Rattle.labels.specs.Parts.{CertificateParts, ChainParts, chain_parts}
-use Rattle.labels.specs.Form.{AreChains, IsChain, names_per}
+use Rattle.labels.specs.Form.{names_per}
 use Rattle.certificate_text.specs.Line.{fields_of}
 use Rattle.certificate_text.specs.Grammar.{end_line, plan_line, rungs_line, score_line, segments_line, start_line}
 use Rattle.certificate_text.specs.Spelling.{chain_lines, chains_lines, head_lines, label_fields, label_lines, lines_text, spelling, table_lines, version_fields}
@@ -87,18 +87,3 @@ chains_from segments rungs per cs i c lt is e =
 -- behind the last chain is nothing
 pub chains_end : (segments rungs : ℕ) (cs : List Chain) (i : ℕ) → length cs ≤ i → lines_text (chains_lines segments rungs i (map chain_parts (drop i cs))) ≡ []
 chains_end segments rungs cs i h = rw (drop_all i cs h) refl
-
--- the form of the chain at a place, and of those behind it
-pub chains_form : (segments rungs : ℕ) (cs : List Chain) (i : ℕ) (c : Chain) → i < length cs → c ≡ get_or cs i c → AreChains segments rungs i (map chain_parts (drop i cs))
-    → IsChain (names_per segments rungs (i / rungs)) (chain_parts c) × AreChains segments rungs (i + 1) (map chain_parts (drop (i + 1) cs))
-chains_form segments rungs cs i c lt is form =
-    subst (λ (rest : List ChainParts). AreChains segments rungs i rest) (ap (map chain_parts) (chains_cut cs i c lt is)) form
-
--- ---- labels
-
--- how many names are left for the labels that are left
-pub names_left : (labels i per names : ℕ) → i < labels → names ≡ (labels - i) * per → (per ≤ names) × (names ≡ (labels - (i + 1)) * per + per)
-names_left labels i per names lt e =
-    let k : labels - i ≡ (labels - (i + 1)) + 1 = omega arith in
-    let m : names ≡ (labels - (i + 1)) * per + per = e ∙ ap (λ (n : ℕ). n * per) k ∙ omega arith in
-    (omega (arith, m), m)

@@ -12,8 +12,8 @@ use Rattle.labels.specs.Parts.{CertificateParts, ChainParts, chain_parts}
 use Rattle.certificate_text.specs.declared.certificate.Layer.{Layer}
 use Rattle.labels.specs.Form.{IsCertificate, names_per}
 use Rattle.certificate_text.specs.Form.{GapParts}
-use Rattle.certificate_text.specs.Reading.{Place, Walks, bound_at, certificate_behind, certificate_of, chain_at, chains_at, end_at, gap_heading, gap_of, head_at}
-use Rattle.certificate_text.specs.Walk.{IsBegun, Walk, accepted, begun, begun_gap, certificate_by, chains_to_end, ended, first_walk, gap_accepted, layer_of, layer_parts, prepended, rest_of, silent, went}
+use Rattle.certificate_text.specs.Reading.{Place, Walks, certificate_behind, certificate_of, gap_heading, gap_of, read_bound, read_chain, read_chains, read_end, read_head}
+use Rattle.certificate_text.specs.Walk.{IsBegun, Walk, accepted, begun, begun_gap, certificate_by, chains_behind, chains_to_end, end_step, first_walk, gap_accepted, layer_of, layer_parts, layer_step, rest_of, silent}
 use Rattle.certificate_text.proofs.HeadLaws.{behind_takes}
 use Rattle.certificate_text.proofs.Loops.{ok_is, with_front}
 
@@ -44,17 +44,17 @@ split_one (Err e) whole first second h = refl
 
 -- the first chains, and then more of them
 chains_split : (segments rungs number a b : ℕ) (p : Place)
-    → chains_at segments rungs number (a + b) p ≡ (chains_at segments rungs number a p >>= λ x. with_front x.0 (chains_at segments rungs (number + a) b x.1))
-unfolding chains_at
+    → read_chains segments rungs number (a + b) p ≡ (read_chains segments rungs number a p >>= λ x. with_front x.0 (read_chains segments rungs (number + a) b x.1))
+unfolding read_chains
 chains_split segments rungs number zero b p =
     let none : 0 + b ≡ b = omega arith in
     let here : number + 0 ≡ number = omega arith in
-    rw (none, here) (sym (front_none (chains_at segments rungs number b p)))
+    rw (none, here) (sym (front_none (read_chains segments rungs number b p)))
 chains_split segments rungs number (suc a) b p =
     let more : suc a + b ≡ suc (a + b) = omega arith in
     let there : number + suc a ≡ number + 1 + a = omega arith in
-    rw (more, there) (split_one (chain_at (names_per segments rungs (number / rungs)) (number / rungs) (number % rungs) p)
-    (chains_at segments rungs (number + 1) (a + b)) (chains_at segments rungs (number + 1) a) (chains_at segments rungs (number + 1 + a) b)
+    rw (more, there) (split_one (read_chain (names_per segments rungs (number / rungs)) (number / rungs) (number % rungs) p)
+    (read_chains segments rungs (number + 1) (a + b)) (read_chains segments rungs (number + 1) a) (read_chains segments rungs (number + 1 + a) b)
     (λ q. chains_split segments rungs (number + 1) a b q))
 
 -- ---- what is left of a walk
@@ -64,24 +64,24 @@ abbrev pub whole_of : CertificateParts → Result (List ChainParts) Refusal → 
 whole_of head read = read >>= λ cs. Ok (record head { chains = cs })
 
 begun_at : (bound : ℤ) (head : CertificateParts) (first : Place)
-    → (chains_at head.segments head.rungs 0 (head.segments * head.rungs) first >>= λ x. end_at x.1 >>= λ done. Ok (record head { chains = x.0 }))
+    → (read_chains head.segments head.rungs 0 (head.segments * head.rungs) first >>= λ x. read_end x.1 >>= λ done. Ok (record head { chains = x.0 }))
     ≡ whole_of head (rest_of (first_walk bound (head, first)))
 unfolding rest_of
 begun_at bound head first =
     let zero_th : 0 * head.rungs ≡ 0 = omega arith in
     let all : head.segments - 0 ≡ head.segments = omega arith in
-    rw (zero_th, all) (both (chains_at head.segments head.rungs 0 (head.segments * head.rungs) first))
+    rw (zero_th, all) (both (read_chains head.segments head.rungs 0 (head.segments * head.rungs) first))
   where
     last : (cs : List ChainParts) (end : Result (Unit {0}) Refusal) → (end >>= λ done. Ok (record head { chains = cs })) ≡ whole_of head (end >>= λ done. Ok cs)
     last cs (Ok done) = refl
     last cs (Err e) = refl
 
-    both : (later : Walks (List ChainParts)) → (later >>= λ x. end_at x.1 >>= λ done. Ok (record head { chains = x.0 })) ≡ whole_of head (later >>= λ x. end_at x.1 >>= λ done. Ok x.0)
-    both (Ok x) = last x.0 (end_at x.1)
+    both : (later : Walks (List ChainParts)) → (later >>= λ x. read_end x.1 >>= λ done. Ok (record head { chains = x.0 })) ≡ whole_of head (later >>= λ x. read_end x.1 >>= λ done. Ok x.0)
+    both (Ok x) = last x.0 (read_end x.1)
     both (Err e) = refl
 
 -- what a walk that has just begun behind a heading leaves are all chains
-pub behind_rest : (heading : ℕ) (bytes : Text) (bound : ℤ) (x : CertificateParts × Place) → head_at heading bytes ≡ Ok x → certificate_behind heading bytes ≡ certificate_by (first_walk bound x)
+pub behind_rest : (heading : ℕ) (bytes : Text) (bound : ℤ) (x : CertificateParts × Place) → read_head heading bytes ≡ Ok x → certificate_behind heading bytes ≡ certificate_by (first_walk bound x)
 unfolding certificate_behind
 behind_rest heading bytes bound x h = rw h (begun_at bound x.0 x.1)
 
@@ -89,7 +89,7 @@ behind_rest heading bytes bound x h = rw h (begun_at bound x.0 x.1)
 pub begun_rest : (bytes : Text) (w : Walk) → begun bytes ≡ Ok w → certificate_of bytes ≡ certificate_by w
 unfolding begun
 begun_rest bytes w h =
-    let x = then_ok (head_at 0 bytes) (λ x. Ok (first_walk x.0.score x)) w h in
+    let x = then_ok (read_head 0 bytes) (λ x. Ok (first_walk x.0.score x)) w h in
     behind_rest 0 bytes x.0.0.score x.0 x.1 ∙ ap certificate_by (ok_is (first_walk x.0.0.score x.0) w x.2)
 
 -- and whether they are a spelling is whether it comes to its end
@@ -114,7 +114,7 @@ walk_form w c b h = (behind_takes b.heading b.bytes c (walk_rest w b ∙ h)).0
 pub begins : (bytes : Text) (w : Walk) → begun bytes ≡ Ok w → IsBegun w
 unfolding begun
 begins bytes w h =
-    let x = then_ok (head_at 0 bytes) (λ x. Ok (first_walk x.0.score x)) w h in
+    let x = then_ok (read_head 0 bytes) (λ x. Ok (first_walk x.0.score x)) w h in
     subst IsBegun (ok_is (first_walk x.0.0.score x.0) w x.2) (record { heading = 0; bytes = bytes; at = x.0.1; head = x.1; segment = refl; standing = refl })
 
 -- ---- gap certificates
@@ -123,15 +123,15 @@ begins bytes w h =
 record BeginsGapAt (bytes : Text) (w : Walk) : Type 0 where
   bound : ℤ × Text
   head : CertificateParts × Place
-  spelled : bound_at bytes ≡ Ok bound
-  read : head_at gap_heading bound.1 ≡ Ok head
+  spelled : read_bound bytes ≡ Ok bound
+  read : read_head gap_heading bound.1 ≡ Ok head
   is : first_walk bound.0 head ≡ w
 
 gap_at : (bytes : Text) (w : Walk) → begun_gap bytes ≡ Ok w → BeginsGapAt bytes w
 unfolding begun_gap
 gap_at bytes w h =
-    let b = then_ok (bound_at bytes) (λ bound. head_at gap_heading bound.1 >>= λ head. Ok (first_walk bound.0 head)) w h in
-    let x = then_ok (head_at gap_heading b.0.1) (λ head. Ok (first_walk b.0.0 head)) w b.2 in
+    let b = then_ok (read_bound bytes) (λ bound. read_head gap_heading bound.1 >>= λ head. Ok (first_walk bound.0 head)) w h in
+    let x = then_ok (read_head gap_heading b.0.1) (λ head. Ok (first_walk b.0.0 head)) w b.2 in
     record { bound = b.0; head = x.0; spelled = b.1; read = x.1; is = ok_is (first_walk b.0.0 x.0) w x.2 }
 
 -- a walk over a gap certificate that has just begun stands behind its head
@@ -181,12 +181,12 @@ pub record Reads (w : Walk) (parts : List ChainParts) (v : Walk) : Type 0 where
   pub standing : w.at ≡ Ok at
   pub other : w.segment ≡ w.head.segments → ⊥
   pub next : Place
-  pub read : chains_at w.head.segments w.head.rungs (w.segment * w.head.rungs) w.head.rungs at ≡ Ok (parts, next)
+  pub read : read_chains w.head.segments w.head.rungs (w.segment * w.head.rungs) w.head.rungs at ≡ Ok (parts, next)
   pub after : v ≡ record w { segment = w.segment + 1; at = Ok next }
 
 -- a layer or the end, by whether all layers were read
 abbrev stepped : Walk → Place → Bool → Result (Option (List ChainParts) × Walk) Refusal
-stepped w p last = cond last (ended w p) (went w p)
+stepped w p last = cond last (end_step w p) (layer_step w p)
 
 none_some : {X : Type 0} (x : X) → None ≡ Some x → ⊥
 none_some x h = absurd cc
@@ -206,10 +206,10 @@ layer_reads w v parts h =
   where
     go : (p : Place) → w.at ≡ Ok p → (last : Bool) → (w.segment == w.head.segments) ≡ last → stepped w p last ≡ Ok (Some parts, v) → Reads w parts v
     go p standing true e h =
-        let end = then_ok (end_at p) (λ done. Ok (None, w)) (Some parts, v) h in
+        let end = then_ok (read_end p) (λ done. Ok (None, w)) (Some parts, v) h in
         absurd (none_some parts (ap (λ (x : Option (List ChainParts) × Walk). x.0) (ok_is (None, w) (Some parts, v) end.2)))
     go p standing false e h =
-        let cs = then_ok (chains_at w.head.segments w.head.rungs (w.segment * w.head.rungs) w.head.rungs p) (λ chains. Ok (Some chains.0, record w { segment = w.segment + 1; at = Ok chains.1 })) (Some parts, v) h in
+        let cs = then_ok (read_chains w.head.segments w.head.rungs (w.segment * w.head.rungs) w.head.rungs p) (λ chains. Ok (Some chains.0, record w { segment = w.segment + 1; at = Ok chains.1 })) (Some parts, v) h in
         let both = ok_is (Some cs.0.0, record w { segment = w.segment + 1; at = Ok cs.0.1 }) (Some parts, v) cs.2 in
         let own : cs.0.0 ≡ parts = some_is cs.0.0 parts (ap (λ (x : Option (List ChainParts) × Walk). x.0) both) in
         record {
@@ -226,26 +226,26 @@ layer_reads w v parts h =
 
 -- ---- a layer and what is left behind it
 
-front_to_end : (front : List ChainParts) (read : Walks (List ChainParts)) → (with_front front read >>= λ x. end_at x.1 >>= λ done. Ok x.0) ≡ prepended front (read >>= λ x. end_at x.1 >>= λ done. Ok x.0)
-front_to_end front (Ok x) = last (end_at x.1)
+front_to_end : (front : List ChainParts) (read : Walks (List ChainParts)) → (with_front front read >>= λ x. read_end x.1 >>= λ done. Ok x.0) ≡ chains_behind front (read >>= λ x. read_end x.1 >>= λ done. Ok x.0)
+front_to_end front (Ok x) = last (read_end x.1)
   where
-    last : (end : Result (Unit {0}) Refusal) → (end >>= λ done. Ok (front ++ x.0)) ≡ prepended front (end >>= λ done. Ok x.0)
+    last : (end : Result (Unit {0}) Refusal) → (end >>= λ done. Ok (front ++ x.0)) ≡ chains_behind front (end >>= λ done. Ok x.0)
     last (Ok done) = refl
     last (Err e) = refl
 front_to_end front (Err e) = refl
 
 -- what is left where a layer was read
-to_end_split : (segments rungs number a b : ℕ) (p next : Place) (parts : List ChainParts) → chains_at segments rungs number a p ≡ Ok (parts, next)
-    → chains_to_end segments rungs number (a + b) p ≡ prepended parts (chains_to_end segments rungs (number + a) b next)
+to_end_split : (segments rungs number a b : ℕ) (p next : Place) (parts : List ChainParts) → read_chains segments rungs number a p ≡ Ok (parts, next)
+    → chains_to_end segments rungs number (a + b) p ≡ chains_behind parts (chains_to_end segments rungs (number + a) b next)
 to_end_split segments rungs number a b p next parts h =
-    let end : Walks (List ChainParts) → Result (List ChainParts) Refusal = λ read. read >>= λ x. end_at x.1 >>= λ done. Ok x.0 in
-    ap end (chains_split segments rungs number a b p ∙ ap (λ first. first >>= λ x. with_front x.0 (chains_at segments rungs (number + a) b x.1)) h) ∙ front_to_end parts (chains_at segments rungs (number + a) b next)
+    let end : Walks (List ChainParts) → Result (List ChainParts) Refusal = λ read. read >>= λ x. read_end x.1 >>= λ done. Ok x.0 in
+    ap end (chains_split segments rungs number a b p ∙ ap (λ first. first >>= λ x. with_front x.0 (read_chains segments rungs (number + a) b x.1)) h) ∙ front_to_end parts (read_chains segments rungs (number + a) b next)
 
 -- and where one was refused
-to_end_stopped : (segments rungs number a b : ℕ) (p : Place) (e : Refusal) → chains_at segments rungs number a p ≡ Err e → chains_to_end segments rungs number (a + b) p ≡ Err e
+to_end_stopped : (segments rungs number a b : ℕ) (p : Place) (e : Refusal) → read_chains segments rungs number a p ≡ Err e → chains_to_end segments rungs number (a + b) p ≡ Err e
 to_end_stopped segments rungs number a b p e h =
-    let end : Walks (List ChainParts) → Result (List ChainParts) Refusal = λ read. read >>= λ x. end_at x.1 >>= λ done. Ok x.0 in
-    ap end (chains_split segments rungs number a b p ∙ ap (λ first. first >>= λ x. with_front x.0 (chains_at segments rungs (number + a) b x.1)) h)
+    let end : Walks (List ChainParts) → Result (List ChainParts) Refusal = λ read. read >>= λ x. read_end x.1 >>= λ done. Ok x.0 in
+    ap end (chains_split segments rungs number a b p ∙ ap (λ first. first >>= λ x. with_front x.0 (read_chains segments rungs (number + a) b x.1)) h)
 
 -- the chains of the layer that comes and of those behind it
 left_count : (segments segment rungs : ℕ) → segment ≤ segments → (segment ≡ segments → ⊥) → (segments - segment) * rungs ≡ rungs + (segments - (segment + 1)) * rungs
@@ -264,7 +264,7 @@ unfolding rest_of
 rest_at w p h = rw h refl
 
 -- a layer that comes is the first of what is left
-pub rest_more : (w v : Walk) (parts : List ChainParts) → w.segment ≤ w.head.segments → layer_of w ≡ Ok (Some parts, v) → rest_of w ≡ prepended parts (rest_of v)
+pub rest_more : (w v : Walk) (parts : List ChainParts) → w.segment ≤ w.head.segments → layer_of w ≡ Ok (Some parts, v) → rest_of w ≡ chains_behind parts (rest_of v)
 unfolding rest_of
 rest_more w v parts low h =
     let r = layer_reads w v parts h in
@@ -272,11 +272,11 @@ rest_more w v parts low h =
     rest_at w r.at r.standing
     ∙ ap (λ n. chains_to_end w.head.segments w.head.rungs (w.segment * w.head.rungs) n r.at) (left_count w.head.segments w.segment w.head.rungs low r.other)
     ∙ to_end_split w.head.segments w.head.rungs (w.segment * w.head.rungs) w.head.rungs ((w.head.segments - (w.segment + 1)) * w.head.rungs) r.at r.next parts r.read
-    ∙ ap (λ n. prepended parts (chains_to_end w.head.segments w.head.rungs n ((w.head.segments - (w.segment + 1)) * w.head.rungs) r.next)) next
-    ∙ ap (λ (x : Walk). prepended parts (rest_of x)) (sym r.after)
+    ∙ ap (λ n. chains_behind parts (chains_to_end w.head.segments w.head.rungs n ((w.head.segments - (w.segment + 1)) * w.head.rungs) r.next)) next
+    ∙ ap (λ (x : Walk). chains_behind parts (rest_of x)) (sym r.after)
 
-rest_last : (w : Walk) (p : Place) → w.at ≡ Ok p → w.segment ≡ w.head.segments → rest_of w ≡ (end_at p >>= λ done. Ok [])
-unfolding chains_at
+rest_last : (w : Walk) (p : Place) → w.at ≡ Ok p → w.segment ≡ w.head.segments → rest_of w ≡ (read_end p >>= λ done. Ok [])
+unfolding read_chains
 rest_last w p standing e =
     rest_at w p standing ∙ ap (λ n. chains_to_end w.head.segments w.head.rungs (w.segment * w.head.rungs) n p) (none_left w.head.segments w.segment w.head.rungs e)
 
@@ -289,14 +289,14 @@ layer_ends w v h =
   where
     go : (p : Place) → w.at ≡ Ok p → (last : Bool) → (w.segment == w.head.segments) ≡ last → stepped w p last ≡ Ok (None, v) → (w.segment ≡ w.head.segments) × (rest_of w ≡ Ok []) × (v ≡ w)
     go p standing true e h =
-        let end = then_ok (end_at p) (λ done. Ok (None, w)) (None, v) h in
+        let end = then_ok (read_end p) (λ done. Ok (None, w)) (None, v) h in
         let same = same_count w.segment w.head.segments e in (
           same,
           rest_last w p standing same ∙ ap (λ (read : Result (Unit {0}) Refusal). read >>= λ done. Ok []) end.1,
           sym (ap (λ (x : Option (List ChainParts) × Walk). x.1) (ok_is (None, w) (None, v) end.2)),
         )
     go p standing false e h =
-        let cs = then_ok (chains_at w.head.segments w.head.rungs (w.segment * w.head.rungs) w.head.rungs p) (λ chains. Ok (Some chains.0, record w { segment = w.segment + 1; at = Ok chains.1 })) (None, v) h in
+        let cs = then_ok (read_chains w.head.segments w.head.rungs (w.segment * w.head.rungs) w.head.rungs p) (λ chains. Ok (Some chains.0, record w { segment = w.segment + 1; at = Ok chains.1 })) (None, v) h in
         absurd (none_some cs.0.0 (sym (ap (λ (x : Option (List ChainParts) × Walk). x.0) (ok_is (Some cs.0.0, record w { segment = w.segment + 1; at = Ok cs.0.1 }) (None, v) cs.2))))
 
 -- an answer that is refused
@@ -314,12 +314,12 @@ rest_stopped w e low h = go w.at refl h
 
     step : (p : Place) → w.at ≡ Ok p → (last : Bool) → (w.segment == w.head.segments) ≡ last → stepped w p last ≡ Err e → rest_of w ≡ Err e
     step p standing true is h =
-        rest_last w p standing (same_count w.segment w.head.segments is) ∙ ap (λ (read : Result (Unit {0}) Refusal). read >>= λ done. Ok []) (bind_err (end_at p) (None, w) (λ done. (None, w)) e h)
+        rest_last w p standing (same_count w.segment w.head.segments is) ∙ ap (λ (read : Result (Unit {0}) Refusal). read >>= λ done. Ok []) (bind_err (read_end p) (None, w) (λ done. (None, w)) e h)
     step p standing false is h =
         rest_at w p standing
         ∙ ap (λ n. chains_to_end w.head.segments w.head.rungs (w.segment * w.head.rungs) n p) (left_count w.head.segments w.segment w.head.rungs low (other_count w.segment w.head.segments is))
         ∙ to_end_stopped w.head.segments w.head.rungs (w.segment * w.head.rungs) w.head.rungs ((w.head.segments - (w.segment + 1)) * w.head.rungs) p e
-        (bind_err (chains_at w.head.segments w.head.rungs (w.segment * w.head.rungs) w.head.rungs p) (None, w) (λ chains. (Some chains.0, record w { segment = w.segment + 1; at = Ok chains.1 })) e h)
+        (bind_err (read_chains w.head.segments w.head.rungs (w.segment * w.head.rungs) w.head.rungs p) (None, w) (λ chains. (Some chains.0, record w { segment = w.segment + 1; at = Ok chains.1 })) e h)
 
     go : (at : Result Place Refusal) → w.at ≡ at → (at >>= λ p. stepped w p (w.segment == w.head.segments)) ≡ Err e → rest_of w ≡ Err e
     go (Ok p) standing h = step p standing (w.segment == w.head.segments) refl h
@@ -355,7 +355,7 @@ goes_on w v parts low h =
     let head : v.head.segments ≡ w.head.segments = ap (λ (x : Walk). x.head.segments) r.after in
     record { inside = omega (arith, low, other, segment, head); fewer = omega (arith, low, other, segment, head); rest = sym (ap silent rest ∙ quiet (rest_of v)) }
   where
-    quiet : (read : Result (List ChainParts) Refusal) → silent (prepended parts read) ≡ silent read
+    quiet : (read : Result (List ChainParts) Refusal) → silent (chains_behind parts read) ≡ silent read
     quiet (Ok cs) = refl
     quiet (Err e) = refl
 

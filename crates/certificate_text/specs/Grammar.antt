@@ -62,5 +62,5 @@ abbrev pub gap_line : Line
 gap_line = word (codes "abrlab") (word (codes "gap") (known 1 ends))
 
 -- the second: the bound
-abbrev pub bound_line : Line
-bound_line = amount_line (codes "bound")
+abbrev pub gap_bound_line : Line
+gap_bound_line = amount_line (codes "bound")

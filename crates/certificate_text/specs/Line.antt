@@ -6,7 +6,7 @@ use Rattle.std.specs.Fmt.{decimal, signed_decimal}
 use Rattle.lab_model.specs.Steps.{◌>>=◌}
 use Rattle.lab_model.specs.Film.{IsWithin}
 use Rattle.lab_io.specs.Sink.{Text}
-use Rattle.certificate_text.specs.Fields.{Read, known_at, number_at, numbers_at, signed_at, stop_before, within_at, word_at}
+use Rattle.certificate_text.specs.Fields.{Read, read_known, read_number, read_numbers, read_signed, read_within, read_word, stop_before}
 use Rattle.labels.specs.Form.{HasDigits, HasSignedDigits, place_digits}
 
 -- a form: no field more; so many numbers of at most so many digits, and no field more; or a field and then more of them, which is this word,
@@ -66,24 +66,24 @@ abbrev pub stop_of : Line → ℕ
 stop_of more = stop_before (field_count more)
 
 -- the values that the bytes spell, and what stands behind their line
-unfoldable pub values_at : ℕ → (line : Line) → Text → Read (Values line)
-values_at row ends bytes = Ok (tt, bytes)
-values_at row (numbers count digits) bytes = numbers_at row digits count bytes
-values_at row (word text more) bytes = do
-  rest ← word_at row text (stop_of more) bytes
-  values_at row more rest
-values_at row (known n more) bytes = do
-  rest ← known_at row n (stop_of more) bytes
-  values_at row more rest
-values_at row (number digits more) bytes = do
-  n ← number_at row digits (stop_of more) bytes
-  values ← values_at row more n.1
+unfoldable pub read_line : ℕ → (line : Line) → Text → Read (Values line)
+read_line row ends bytes = Ok (tt, bytes)
+read_line row (numbers count digits) bytes = read_numbers row digits count bytes
+read_line row (word text more) bytes = do
+  rest ← read_word row text (stop_of more) bytes
+  read_line row more rest
+read_line row (known n more) bytes = do
+  rest ← read_known row n (stop_of more) bytes
+  read_line row more rest
+read_line row (number digits more) bytes = do
+  n ← read_number row digits (stop_of more) bytes
+  values ← read_line row more n.1
   Ok ((n.0, values.0), values.1)
-values_at row (within low high more) bytes = do
-  n ← within_at row low high (stop_of more) bytes
-  values ← values_at row more n.1
+read_line row (within low high more) bytes = do
+  n ← read_within row low high (stop_of more) bytes
+  values ← read_line row more n.1
   Ok ((n.0, values.0), values.1)
-values_at row (signed digits more) bytes = do
-  z ← signed_at row digits (stop_of more) bytes
-  values ← values_at row more z.1
+read_line row (signed digits more) bytes = do
+  z ← read_signed row digits (stop_of more) bytes
+  values ← read_line row more z.1
   Ok ((z.0, values.0), values.1)

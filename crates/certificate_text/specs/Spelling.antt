@@ -6,7 +6,7 @@ use Rattle.lab_io.specs.Sink.{Text}
 use Rattle.lab_io.specs.Piece.{fields_line}
 use Rattle.labels.specs.Parts.{CertificateParts, ChainParts}
 use Rattle.certificate_text.specs.Line.{fields_of}
-use Rattle.certificate_text.specs.Grammar.{bound_line, end_line, gap_line, label_line, layer_line, plan_line, rungs_line, score_line, segments_line, start_line, table_line, version_line}
+use Rattle.certificate_text.specs.Grammar.{end_line, gap_bound_line, gap_line, label_line, layer_line, plan_line, rungs_line, score_line, segments_line, start_line, table_line, version_line}
 use Rattle.labels.specs.Form.{names_per}
 use Rattle.certificate_text.specs.Form.{GapParts}
 
@@ -66,7 +66,7 @@ spelling c = lines_text (cert_lines c)
 
 -- the two lines that stand before the others in a gap certificate
 abbrev pub gap_lines : ℤ → List (List Text)
-gap_lines bound = fields_of gap_line tt ∷ fields_of bound_line (bound, tt) ∷ []
+gap_lines bound = fields_of gap_line tt ∷ fields_of gap_bound_line (bound, tt) ∷ []
 
 -- the text of a gap certificate: these lines, and the spelling of the certificate behind them
 abbrev pub gap_spelling : GapParts → Text

@@ -8,9 +8,9 @@ use Rattle.lab_model.specs.Reading.{Fails}
 use Rattle.lab_io.specs.Sink.{Text}
 use Rattle.labels.specs.Parts.{CertificateParts, ChainParts, chain_parts}
 use Rattle.certificate_text.specs.declared.certificate.Layer.{Layer}
-use Rattle.certificate_text.specs.declared.chains.Spot.{Spot}
+use Rattle.certificate_text.specs.declared.places.Spot.{Spot}
 use Rattle.certificate_text.specs.Form.{GapParts}
-use Rattle.certificate_text.specs.Reading.{Place, bound_at, certificate_of, chains_at, end_at, gap_heading, gap_of, head_at, place_of}
+use Rattle.certificate_text.specs.Reading.{Place, certificate_of, gap_heading, gap_of, place_of, read_bound, read_chains, read_end, read_head}
 
 -- what was read before the chains, the bound, the segment whose layer comes next, and the place where it begins, or the refusal that was met
 pub record Walk : Type 0 where
@@ -20,9 +20,9 @@ pub record Walk : Type 0 where
   pub at : Result Place Refusal
 
 -- where a reader stands, unless it was refused before
-abbrev pub standing : Option Refusal → Spot → Result Place Refusal
-standing None spot = Ok (place_of spot)
-standing (Some refusal) spot = Err refusal
+abbrev pub place_or_refusal : Option Refusal → Spot → Result Place Refusal
+place_or_refusal None spot = Ok (place_of spot)
+place_or_refusal (Some refusal) spot = Err refusal
 
 -- the walk that begins behind a head
 abbrev pub first_walk : ℤ → CertificateParts × Place → Walk
@@ -31,14 +31,14 @@ first_walk bound head = record { head = head.0; bound = bound; segment = 0; at =
 -- the walk that begins at the first line of a certificate: its own score is the bound
 unfoldable pub begun : Text → Result Walk Refusal
 begun bytes = do
-  head ← head_at 0 bytes
+  head ← read_head 0 bytes
   Ok (first_walk head.0.score head)
 
 -- the walk that begins at the first line of a gap certificate
 unfoldable pub begun_gap : Text → Result Walk Refusal
 begun_gap bytes = do
-  bound ← bound_at bytes
-  head ← head_at gap_heading bound.1
+  bound ← read_bound bytes
+  head ← read_head gap_heading bound.1
   Ok (first_walk bound.0 head)
 
 -- a walk that has just begun: it stands behind its head, which was read of some bytes behind a heading
@@ -46,7 +46,7 @@ pub record IsBegun (w : Walk) : Type 0 where
   pub heading : ℕ
   pub bytes : Text
   pub at : Place
-  pub head : head_at heading bytes ≡ Ok (w.head, at)
+  pub head : read_head heading bytes ≡ Ok (w.head, at)
   pub segment : w.segment ≡ 0
   pub standing : w.at ≡ Ok at
 
@@ -63,22 +63,22 @@ gap_accepted bytes = do
   Ok tt
 
 -- the end of the walk: nothing more comes
-abbrev pub ended : Walk → Place → Result (Option (List ChainParts) × Walk) Refusal
-ended w p = do
-  done ← end_at p
+abbrev pub end_step : Walk → Place → Result (Option (List ChainParts) × Walk) Refusal
+end_step w p = do
+  done ← read_end p
   Ok (None, w)
 
 -- the next layer, and the walk behind it
-abbrev pub went : Walk → Place → Result (Option (List ChainParts) × Walk) Refusal
-went w p = do
-  chains ← chains_at w.head.segments w.head.rungs (w.segment * w.head.rungs) w.head.rungs p
+abbrev pub layer_step : Walk → Place → Result (Option (List ChainParts) × Walk) Refusal
+layer_step w p = do
+  chains ← read_chains w.head.segments w.head.rungs (w.segment * w.head.rungs) w.head.rungs p
   Ok (Some chains.0, record w { segment = w.segment + 1; at = Ok chains.1 })
 
 -- the next layer or the end, or the refusal
 unfoldable pub layer_of : Walk → Result (Option (List ChainParts) × Walk) Refusal
 layer_of w = do
   p ← w.at
-  if w.segment == w.head.segments then ended w p else went w p
+  if w.segment == w.head.segments then end_step w p else layer_step w p
 
 -- the chains of a layer, where there is one
 abbrev pub layer_parts : Option Layer → Option (List ChainParts)
@@ -98,16 +98,16 @@ Steps old (Err fault) new = Fails fault (layer_of old) × (new ≡ after_fault o
 -- ---- what is left of a walk, by the reading of certificates
 
 -- chains, and then those that are still read
-abbrev pub prepended : List ChainParts → Result (List ChainParts) Refusal → Result (List ChainParts) Refusal
-prepended front read = do
+abbrev pub chains_behind : List ChainParts → Result (List ChainParts) Refusal → Result (List ChainParts) Refusal
+chains_behind front read = do
   chains ← read
   Ok (front ++ chains)
 
 -- so many chains from a place on, and then the last line
 abbrev pub chains_to_end : ℕ → ℕ → ℕ → ℕ → Place → Result (List ChainParts) Refusal
 chains_to_end segments rungs number count p = do
-  chains ← chains_at segments rungs number count p
-  done ← end_at chains.1
+  chains ← read_chains segments rungs number count p
+  done ← read_end chains.1
   Ok chains.0
 
 -- the chains that are left of a walk, or the bad line before it

@@ -28,13 +28,17 @@ mod chains;
 mod fields;
 mod head;
 mod lines;
+mod places;
 mod writer;
 
 pub use certificate::{Certificate, GapCertificate, Layer};
-pub use chains::last_at;
-pub use fields::{bad_line, known_at, number_at, push, within_at, word_at};
+pub use chains::read_last;
+pub use fields::{
+    NumberRange, line_refusal, push, read_known, read_number, read_within, read_word,
+};
 pub use head::{
-    MOST_RUNGS, MOST_SEGMENTS, RUNG_DIGITS, amount_at, count_at, list_at, small_numbers,
+    MOST_RUNGS, MOST_SEGMENTS, NumberList, RUNG_DIGITS, read_amount, read_count, read_list,
+    small_numbers,
 };
 pub use lines::{Lines, one_gap_spelling, one_spelling, read_certificate, read_gap};
 pub use writer::{put_bound, put_count, put_gap, put_plan, put_score, write_certificate};

@@ -1,7 +1,6 @@
 //! Certificates that are read, whole or layer by layer.
 ghost use Rattle.std.specs.Prelude.{◌≡◌, ◌+◌, ◌*◌, ◌≤◌, ◌<◌, Ok, Err, IfOk};
 ghost use Rattle.lab_io.specs.Sink.{Text};
-ghost use Rattle.lab_model.specs.Film.{IsWithin};
 ghost use Rattle.lab_model.specs.declared.fault.Refusal.{Refusal};
 ghost use Rattle.lab_model.specs.Reading.{Gives};
 ghost use Rattle.labels.specs.Parts.{CertificateParts};
@@ -9,17 +8,21 @@ ghost use Rattle.labels.specs.Form.{IsCertificate};
 ghost use Rattle.certificate_text.specs.Form.{GapParts, IsGapCertificate, certificate_parts, gap_parts};
 ghost use Rattle.certificate_text.specs.Reading.{certificate_behind, certificate_of, gap_of, place_of};
 ghost use Rattle.certificate_text.specs.Spelling.{gap_spelling, spelling};
-ghost use Rattle.certificate_text.specs.Walk.{BeginsBadly, BeginsGap, BeginsLayers, GivesLayer, IsBegun, MeetsBadLine, Steps, Walk, WillGive, WillRefuse, accepted, after_fault, begun, begun_gap, first_walk, gap_accepted, rest_of, silent, standing};
+ghost use Rattle.certificate_text.specs.Walk.{BeginsBadly, BeginsGap, BeginsLayers, GivesLayer, IsBegun, MeetsBadLine, Steps, Walk, WillGive, WillRefuse, accepted, after_fault, begun, begun_gap, first_walk, gap_accepted, place_or_refusal, rest_of, silent};
 
 use crate::certificate::{Certificate, GapCertificate, Layer};
-use crate::chains::{Spot, chains_at, end_at};
-use crate::head::{bound_at, head_at};
+use crate::chains::{read_chains, read_end};
+use crate::head::{read_bound, read_head};
+use crate::places::{Heading, Opening, Spot};
 use lab_model::{InputFault, Refusal};
 use std::alloc::Global;
 use std::marker::Model;
 
-/// How many lines stand before the certificate in a gap certificate.
-const GAP_HEADING: u32 = 2;
+/// What stands before a plain certificate.
+const NO_HEADING: Heading = Heading { lines: 0 };
+
+/// What stands before the certificate in a gap certificate.
+const GAP_HEADING: Heading = Heading { lines: 2 };
 
 /// A certificate or a gap certificate that is read layer by layer.
 #[derive(Drop)]
@@ -39,12 +42,13 @@ impl<'a> Model for Lines<'a> {
       head = certificate_parts l.head;
       bound = l.bound;
       segment = l.segment;
-      at = standing l.refused l.spot;
+      at = place_or_refusal l.refused l.spot;
     } };
 
-    ghost invariant = { λ l. IsWithin 1 2000 l.head.segments × IsWithin 1 16 l.head.rungs
+    ghost invariant = { λ l. (l.spot.counts.segments ≡ l.head.segments)
+        × (l.spot.counts.rungs ≡ l.head.rungs)
         × (l.segment ≤ l.head.segments)
-        × (l.spot.row + l.spot.left ≤ 1000010 + 16 * l.segment) };
+        × (l.spot.number ≡ l.segment * l.head.rungs) };
 }
 
 impl<'a> Lines<'a> {
@@ -75,9 +79,9 @@ impl<'a> Lines<'a> {
     fn behind_head(alloc: Global, bytes: &'a [u8]) -> Result<Lines<'a>, InputFault>
         ensures { Gives (λ lines. lines) result (begun bytes.now) }
     {
-        let (head, spot) = head_at(alloc, 0, bytes)?;
-        let bound = head.score;
-        Ok(Self::first(alloc, head, bound, spot))
+        let head = read_head(alloc, NO_HEADING, bytes)?;
+        let bound = head.certificate.score;
+        Ok(Self::at_first_layer(alloc, head, bound))
     }
 
     /// The same of a gap certificate.
@@ -85,24 +89,22 @@ impl<'a> Lines<'a> {
     fn behind_bound(alloc: Global, bytes: &'a [u8]) -> Result<Lines<'a>, InputFault>
         ensures { Gives (λ lines. lines) result (begun_gap bytes.now) }
     {
-        let (bound, rest) = bound_at(bytes)?;
-        let (head, spot) = head_at(alloc, GAP_HEADING, rest)?;
-        Ok(Self::first(alloc, head, bound, spot))
+        let (bound, rest) = read_bound(bytes)?;
+        let head = read_head(alloc, GAP_HEADING, rest)?;
+        Ok(Self::at_first_layer(alloc, head, bound))
     }
 
     /// The reader behind these lines, which stands at the first layer.
-    fn first(alloc: Global, head: Certificate, bound: i128, spot: Spot<'a>) -> Lines<'a>
-        requires segments { IsWithin 1 2000 head.segments }
-        requires rungs { IsWithin 1 16 head.rungs }
-        requires room { spot.row + spot.left ≤ 1000010 }
-        ensures { result ≡ first_walk bound (certificate_parts head, place_of spot.entry) }
+    fn at_first_layer(alloc: Global, head: Opening<'a>, bound: i128) -> Lines<'a>
+        ensures { result ≡ first_walk bound
+            (certificate_parts head.entry.certificate, place_of head.entry.spot) }
     {
         Lines {
             alloc,
-            head,
+            head: head.certificate,
             bound,
             segment: 0,
-            spot,
+            spot: head.spot,
             refused: None,
         }
     }
@@ -133,15 +135,12 @@ impl<'a> Lines<'a> {
             return Err(InputFault::Refused(refusal));
         }
         if self.segment == self.head.segments {
-            return match end_at(self.spot) {
+            return match read_end(self.spot) {
                 Ok(()) => Ok(None),
                 Err(fault) => Err(self.keep(fault)),
             };
         }
-        let (segments, rungs) = (u32::from(self.head.segments), u32::from(self.head.rungs));
-        let number = u32::from(self.segment) * rungs;
-        let read = chains_at(self.alloc, segments, rungs, number, rungs, self.spot);
-        match read {
+        match read_chains(self.alloc, u32::from(self.head.rungs), self.spot) {
             Ok((chains, spot)) => {
                 self.segment += 1;
                 self.spot = spot;
@@ -246,17 +245,24 @@ pub fn one_gap_spelling()
         → gap_spelling c ≡ gap_spelling d → c ≡ d }
 {}
 
-/// The certificate that the bytes spell behind so many lines of a heading.
+/// The certificate that the bytes spell behind the lines of a heading.
 #[tactic(auto, unfolding(crate::specs::Reading::certificate_behind))]
-fn certificate_behind(alloc: Global, heading: u32, bytes: &[u8]) -> Result<Certificate, InputFault>
-    requires { heading ≤ 2 }
-    ensures { Gives certificate_parts result (certificate_behind heading bytes.now) }
+fn certificate_behind(
+    alloc: Global,
+    heading: Heading,
+    bytes: &[u8],
+) -> Result<Certificate, InputFault>
+    ensures { Gives certificate_parts result (certificate_behind heading.lines bytes.now) }
 {
-    let (head, spot) = head_at(alloc, heading, bytes)?;
-    let (segments, rungs) = (u32::from(head.segments), u32::from(head.rungs));
-    let (chains, spot) = chains_at(alloc, segments, rungs, 0, segments * rungs, spot)?;
-    end_at(spot)?;
-    Ok(Certificate { chains, ..head })
+    let head = read_head(alloc, heading, bytes)?;
+    let certificate = head.certificate;
+    let count = u32::from(certificate.segments) * u32::from(certificate.rungs);
+    let (chains, spot) = read_chains(alloc, count, head.spot)?;
+    read_end(spot)?;
+    Ok(Certificate {
+        chains,
+        ..certificate
+    })
 }
 
 /// The certificate that the bytes spell. It is refused exactly where they are no spelling, with the first bad line.
@@ -270,7 +276,7 @@ pub fn read_certificate(alloc: Global, bytes: &[u8]) -> Result<Certificate, Inpu
     // Which line is the first bad one.
     ensures exact { Gives certificate_parts result (certificate_of bytes.now) }
 {
-    certificate_behind(alloc, 0, bytes)
+    certificate_behind(alloc, NO_HEADING, bytes)
 }
 
 /// The gap certificate that the bytes spell.
@@ -278,7 +284,7 @@ pub fn read_certificate(alloc: Global, bytes: &[u8]) -> Result<Certificate, Inpu
 fn gap_of(alloc: Global, bytes: &[u8]) -> Result<GapCertificate, InputFault>
     ensures { Gives gap_parts result (gap_of bytes.now) }
 {
-    let (bound, rest) = bound_at(bytes)?;
+    let (bound, rest) = read_bound(bytes)?;
     let inner = certificate_behind(alloc, GAP_HEADING, rest)?;
     Ok(GapCertificate { bound, inner })
 }

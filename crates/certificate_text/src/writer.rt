@@ -1,14 +1,14 @@
 //! Certificates that are written.
-ghost use Rattle.std.specs.Prelude.{◌≡◌, ◌∷◌, ◌++◌, ◌*◌, ◌≤◌, [], length, map};
+ghost use Rattle.std.specs.Prelude.{◌≡◌, ◌∷◌, ◌++◌, ◌*◌, [], drop, length, map, take};
 ghost use Rattle.std.specs.Fmt.{decimal};
 ghost use Rattle.lab_io.specs.Piece.{fields_line, later_fields};
 ghost use Rattle.lab_io.specs.Batch.{Gathers};
 ghost use Rattle.lab_io.specs.Sink.{Puts};
-ghost use Rattle.lab_model.specs.Film.{IsWithin, rungs_of, segments_of};
+ghost use Rattle.lab_model.specs.Film.{rungs_of, segments_of};
 ghost use Rattle.labels.specs.Parts.{chain_parts, plan_parts};
 ghost use Rattle.certificate_text.specs.Line.{fields_of};
-ghost use Rattle.certificate_text.specs.Grammar.{bound_line, plan_line, rungs_line, score_line, segments_line, start_line, version_line};
-ghost use Rattle.labels.specs.Form.{AreChains, IsCertificate};
+ghost use Rattle.certificate_text.specs.Grammar.{gap_bound_line, plan_line, rungs_line, score_line, segments_line, start_line, version_line};
+ghost use Rattle.labels.specs.Form.{IsCertificate};
 ghost use Rattle.certificate_text.specs.Spelling.{chain_lines, chains_lines, gap_lines, head_lines, label_fields, label_lines, layer_fields, lines_text, spelling, table_lines, version_fields, version_number};
 
 use crate::chains::names_per;
@@ -112,7 +112,7 @@ pub fn put_gap<O: Sink>(out: &mut O, bound: i128) -> Result<(), PutErr>
 /// Puts the line of a bound, in thousandths of a point: `bound` and the number. It takes no memory of its own; after an
 /// `Err` a prefix went out.
 pub fn put_bound<O: Sink>(out: &mut O, bound: i128) -> Result<(), PutErr>
-    ensures { Puts (O.seen out.old) (fields_line (fields_of bound_line (bound, tt)))
+    ensures { Puts (O.seen out.old) (fields_line (fields_of gap_bound_line (bound, tt)))
         (O.seen out.new) result }
 {
     put_fields(out, &[Word("bound"), Number(bound)])
@@ -191,6 +191,14 @@ fn put_label<O: Sink>(
     put_names(batch, out, names)
 }
 
+/// The names of a label, which are so many, and those of the labels behind it.
+fn split_names(per: usize, names: &[u32]) -> (&[u32], &[u32])
+    ensures own { result.0.now ≡ take per names.now }
+    ensures later { result.1.now ≡ drop per names.now }
+{
+    names.split_at(per.min(names.len()))
+}
+
 /// The lines of the labels, each with so many of the names.
 fn batch_labels<O: Sink>(
     batch: &mut Batch,
@@ -199,13 +207,12 @@ fn batch_labels<O: Sink>(
     labels: &[Label],
     names: &[u32],
 ) -> Result<(), PutErr>
-    requires { length names.now ≡ length labels.now * per }
     ensures { Gathers (O.seen out.old) batch.old (lines_text (label_lines per labels.now names.now))
         (O.seen out.new) batch.new result }
 {
     let mut names = names;
     for label in labels {
-        let (own, later) = names.split_at(per);
+        let (own, later) = split_names(per, names);
         put_label(batch, out, *label, own)?;
         names = later;
     }
@@ -219,7 +226,6 @@ fn put_labels<O: Sink>(
     labels: &[Label],
     names: &[u32],
 ) -> Result<(), PutErr>
-    requires { length names.now ≡ length labels.now * per }
     ensures { Puts (O.seen out.old) (lines_text (label_lines per labels.now names.now))
         (O.seen out.new) result }
 {
@@ -252,7 +258,6 @@ fn put_chain<O: Sink>(
     rung: usize,
     chain: &Chain,
 ) -> Result<(), PutErr>
-    requires { length chain.now.names.items ≡ length chain.now.labels.items * per }
     ensures { Puts (O.seen out.old)
         (lines_text (chain_lines per segment rung (chain_parts chain.now)))
         (O.seen out.new) result }
@@ -263,20 +268,14 @@ fn put_chain<O: Sink>(
 }
 
 /// The lines of the chains, by segment, then rung.
-fn put_chains<O: Sink>(
-    out: &mut O,
-    segments: usize,
-    rungs: usize,
-    chains: &[Chain],
-) -> Result<(), PutErr>
-    requires rungs { IsWithin 1 16 rungs }
-    requires segments { segments ≤ 2000 }
-    requires count { length chains.now ≡ segments * rungs }
-    requires chains { AreChains segments rungs 0 (map chain_parts chains.now) }
+fn put_chains<O: Sink>(out: &mut O, film: &Manifest, chains: &[Chain]) -> Result<(), PutErr>
+    requires { length chains.now ≡ segments_of film.now * rungs_of film.now }
     ensures { Puts (O.seen out.old)
-        (lines_text (chains_lines segments rungs 0 (map chain_parts chains.now)))
-        (O.seen out.new) result }
+        (lines_text (chains_lines (segments_of film.now) (rungs_of film.now) 0
+        (map chain_parts chains.now))) (O.seen out.new) result }
 {
+    let segments = film.segments() as usize;
+    let rungs = film.rungs() as usize;
     for (number, chain) in chains.iter().enumerate() {
         let segment = number / rungs;
         let per = names_per(segments, rungs, segment);
@@ -294,11 +293,6 @@ pub fn write_certificate<O: Sink>(film: &Manifest, plan: &Plan, out: &mut O) -> 
     ensures { Puts (O.seen out.old) (spelling (plan_parts film.now plan.now)) (O.seen out.new) result }
 {
     put_head(out, film, plan)?;
-    put_chains(
-        out,
-        film.segments() as usize,
-        film.rungs() as usize,
-        &plan.chains,
-    )?;
+    put_chains(out, film, &plan.chains)?;
     put_line(out, "end")
 }

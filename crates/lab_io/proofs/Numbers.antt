@@ -1,10 +1,11 @@
 -- What the spelling of a number says, and that it is the only one.
-use Rattle.std.proofs.Common.{◌≡◌, ◌∙◌, ◌+◌, ◌-◌, ◌*◌, ◌/◌, ◌%◌, ◌^◌, ◌<◌, ◌≤◌, ◌&&◌, ◌==◌, ◌++◌, ◌≢◌, ℕ, zero, suc, List, [], ◌∷◌, Bool, true, false, not, Option, Some, None, cond, eqb, get_or, length, length-append, nat_le, nat_lt, take, refl, sym, ap, subst, inl, inr, add-one, arith, lit<, lit≤}
+use Rattle.std.proofs.Common.{◌≡◌, ◌∙◌, ◌+◌, ◌-◌, ◌*◌, ◌/◌, ◌%◌, ◌^◌, ◌<◌, ◌≤◌, ◌&&◌, ◌==◌, ◌++◌, ◌≢◌, ℕ, zero, suc, [], ◌∷◌, Bool, true, false, not, Some, None, ℤ, pos, negsuc, FitsSigned, cond, get_or, length, length-append, nat_le, nat_lt, take, refl, sym, ap, subst, inl, inr, add-one, arith}
 use Rattle.std.specs.Char.{digit_value, is_ascii_digit}
-use Rattle.std.specs.Fmt.{decimal}
+use Rattle.std.specs.Fmt.{decimal, signed_decimal}
+use Rattle.std.specs.Int.{w128}
 use Rattle.std.specs.Str.{all_ascii_digits}
 use Rattle.std.specs.Str.Parse.{digits_value}
-use Rattle.std.proofs.lemmas.Bool.{and_parts, cases_lt, eqb-true, eqb-false}
+use Rattle.std.proofs.lemmas.Bool.{and_parts, cases_lt, eqb-true}
 use Rattle.std.proofs.lemmas.Bool.Decides.{nat_tests}
 use Rattle.std.proofs.lemmas.Int.Digits.{digits_value_more}
 use Rattle.std.proofs.lemmas.List.{take_all, take_more}
@@ -105,6 +106,14 @@ written = decimal_by_steps_wide IsWritten
       first = λ one. rw (first_push ds (48 + n % 10) some) (w.first (omega arith));
       short = λ low. absurd (omega arith);
     })
+
+-- of a number at least one byte is written
+pub signed_some : (z : ℤ) → FitsSigned w128 z → signed_decimal z ≢ []
+signed_some (pos n) f e =
+    let fits = f.sfits in
+    let some = rw e at (written n (omega arith)).some in
+    absurd (omega (arith, some))
+signed_some (negsuc n) f e = absurd (omega (arith, ap length e))
 
 -- a number is written in its spelling
 pub decimal-spelling : (n : ℕ) → n < 10 ^ 64 → IsSpelling (decimal n)

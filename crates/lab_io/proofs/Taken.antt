@@ -5,7 +5,7 @@ use Rattle.std.proofs.lemmas.List.{take-append-drop, take_all, length-drop}
 use Rattle.std.proofs.lemmas.Bool.Decides.{nat_tests}
 use Rattle.std.specs.Io.KnownBytes.{Appends, Keeps, append_known}
 use Rattle.lab_io.specs.Sink.{Text}
-use Rattle.lab_io.specs.Edge.{Stream, Takes, TakesAll, TakesPiece, Waits, all_taken}
+use Rattle.lab_io.specs.Edge.{Stream, Takes, TakesAll, TakesPiece, WritesWaiting, all_taken}
 
 -- one text and then another
 pub appends_more : (a b c : Option Text) (t s : Text) → Appends a b t → Appends b c s → Appends a c (t ++ s)
@@ -45,10 +45,10 @@ whole_or_part contents old new piece n true h e t =
 whole_or_part contents old new piece n false h e t = (take n piece, drop n piece, sym (take-append-drop n piece), t)
 
 -- a piece that the stream took so many bytes of, where nothing waited any more
-pub through : {W : Type 0} (contents : W → Option Text) (old mid before : Stream W) (stream : W) (piece : Text) (n : ℕ) (done : Bool) → before ≡ mid → Waits contents old mid done → done ≡ true
+pub through : {W : Type 0} (contents : W → Option Text) (old mid before : Stream W) (stream : W) (piece : Text) (n : ℕ) (done : Bool) → before ≡ mid → WritesWaiting contents old mid done → done ≡ true
     → n ≤ length piece → Appends (contents before.stream) (contents stream) (take n piece) → Takes contents old piece (record before { stream = stream }) (nat_eq n (length piece))
 through contents old mid before stream piece n done same waits went h written =
-    let w : Waits contents old before done = subst (λ s. Waits contents old s done) (sym same) waits in
+    let w : WritesWaiting contents old before done = subst (λ s. WritesWaiting contents old s done) (sym same) waits in
     let none : before.waiting ≡ [] = w.nothing went in
     let behind = appends_more (all_taken contents old) (all_taken contents before) _ [] (take n piece) w.same (behind_nothing (contents before.stream) (contents stream) (take n piece) before.waiting none written) in
     record { taken = whole_or_part contents old (record before { stream = stream }) piece n (nat_eq n (length piece)) h refl behind; failures = w.failures }

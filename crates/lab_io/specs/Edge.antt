@@ -34,7 +34,7 @@ abbrev pub TakesAll : {W : Type 0} → (W → Option Text) → Stream W → Text
 TakesAll contents old text new = Appends (all_taken contents old) (all_taken contents new) text
 
 -- writing what waits: nothing comes to it and nothing is lost, and where all went well nothing waits
-pub record Waits {W : Type 0} (contents : W → Option Text) (old new : Stream W) (done : Bool) : Type 0 where
+pub record WritesWaiting {W : Type 0} (contents : W → Option Text) (old new : Stream W) (done : Bool) : Type 0 where
   pub same : TakesAll contents old [] new
   pub nothing : done ≡ true → new.waiting ≡ []
   pub failures : new.failures ≡ old.failures

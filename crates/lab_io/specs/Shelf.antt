@@ -14,13 +14,13 @@ pub record Shelved : Type 0 where
   pub asked : List (Text × ℕ)
 
 -- these bytes may be the first `most` of the file: they are, where the files are told; a name that is lacking has none
-abbrev pub Holds : Option (Text → Option Text) → Text → ℕ → Text → Type 0
-Holds None name most bytes = length bytes ≤ most
-Holds (Some files) name most bytes = (length bytes ≤ most) × (Some bytes ≡ option_map (take most) (files name))
+abbrev pub FileHolds : Option (Text → Option Text) → Text → ℕ → Text → Type 0
+FileHolds None name most bytes = length bytes ≤ most
+FileHolds (Some files) name most bytes = (length bytes ≤ most) × (Some bytes ≡ option_map (take most) (files name))
 
 -- what the answer means: the file's bytes after Ok; after Failed the count of that name rose
 abbrev pub Fetched : Shelved → Text → ℕ → Shelved → Result Text FetchErr → Type 0
-Fetched old name most new (Ok bytes) = Holds old.files name most bytes
+Fetched old name most new (Ok bytes) = FileHolds old.files name most bytes
 Fetched old name most new (Err fetch.Failed) = Rose (old.faults name) (new.faults name)
 Fetched old name most new (Err fetch.Memory) = Unit {0}
 
@@ -29,10 +29,10 @@ abbrev pub AskedMore : List (Text × ℕ) → Text → ℕ → List (Text × ℕ
 AskedMore old name most new = new ≡ old ++ (name, most) ∷ []
 
 -- what it was asked after an answer: where memory was lacking, this call may not count
-abbrev pub Asked : List (Text × ℕ) → Text → ℕ → List (Text × ℕ) → Result Text FetchErr → Type 0
-Asked old name most new (Ok bytes) = AskedMore old name most new
-Asked old name most new (Err fetch.Failed) = AskedMore old name most new
-Asked old name most new (Err fetch.Memory) = AskedMore old name most new ⊎ (new ≡ old)
+abbrev pub ShelfAsked : List (Text × ℕ) → Text → ℕ → List (Text × ℕ) → Result Text FetchErr → Type 0
+ShelfAsked old name most new (Ok bytes) = AskedMore old name most new
+ShelfAsked old name most new (Err fetch.Failed) = AskedMore old name most new
+ShelfAsked old name most new (Err fetch.Memory) = AskedMore old name most new ⊎ (new ≡ old)
 
 -- what one call of `fetch` does to a shelf: the files stay, and so does what is sure; no count falls,
 -- and that of a sure name stays
@@ -41,7 +41,7 @@ pub record Fetches (old : Shelved) (name : Text) (most : ℕ) (new : Shelved) (a
   pub faults : (other : Text) → old.faults other ≤ new.faults other
   pub sure : new.sure ≡ old.sure
   pub steady : (other : Text) → old.sure other ≡ true → new.faults other ≡ old.faults other
-  pub asked : Asked old.asked name most new.asked answer
+  pub asked : ShelfAsked old.asked name most new.asked answer
   pub answered : Fetched old name most new answer
 
 -- an answer of `fetch`, by its bytes

@@ -4,6 +4,7 @@ ghost use Rattle.std.specs.Fmt.{decimal, signed_decimal};
 ghost use Rattle.lab_io.specs.Batch.{Gathers};
 ghost use Rattle.lab_io.specs.Sink.{Puts};
 
+use crate::text::put_bytes;
 use crate::{PutErr, Sink};
 use arrayvec::ArrayVec;
 use itoa::Buffer;
@@ -43,12 +44,12 @@ impl Batch {
     fn make_way<O: Sink>(&mut self, out: &mut O, bytes: &[u8]) -> Result<(), PutErr>
         ensures { Gathers (O.seen out.old) self.old bytes.now (O.seen out.new) self.new result }
     {
-        out.put(self.waiting.as_slice())?;
+        put_bytes(out, self.waiting.as_slice())?;
         self.waiting.clear();
         if self.waiting.try_extend_from_slice(bytes).is_ok() {
             return Ok(());
         }
-        out.put(bytes)
+        put_bytes(out, bytes)
     }
 
     // Puts bytes at the end of what waits.
@@ -89,6 +90,6 @@ impl Batch {
     pub fn finish<O: Sink>(self, out: &mut O) -> Result<(), PutErr>
         ensures { Puts (O.seen out.old) self (O.seen out.new) result }
     {
-        out.put(self.waiting.as_slice())
+        put_bytes(out, self.waiting.as_slice())
     }
 }

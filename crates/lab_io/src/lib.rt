@@ -1,7 +1,7 @@
 //! Where files come from and where text goes, each with the causes of its failures.
 #![tactic(auto)]
 
-ghost use Rattle.std.specs.Prelude.{◌≡◌, [], IsOk, IsErrOf};
+ghost use Rattle.std.specs.Prelude.{◌≡◌, ◌≢◌, [], IsErrOf};
 ghost use Rattle.lab_io.specs.Shelf.{Fetches, Shelved, fetched_as};
 ghost use Rattle.lab_io.specs.Sink.{Puts, Seen};
 
@@ -65,10 +65,10 @@ pub trait Sink {
     /// After `Ok` all of it stands there. After `Failed` a prefix of it does, and the count of faults rose.
     /// After `Memory` nothing of it does, and the count of wants rose. A count that rose is greater than before,
     /// or stands at the last value of a `u64`; none falls. No call changes whether the sink is sure, and the count
-    /// of faults of a sure one stays. An empty piece always gives `Ok`.
+    /// of faults of a sure one stays. A piece is never empty: text goes out in pieces that each say something.
     fn put(&mut self, bytes: &[u8]) -> Result<(), PutErr>
+        requires { bytes.now ≢ [] }
         ensures puts { Puts (seen self.old) bytes.now (seen self.new) result }
         ensures memory { IsErrOf result PutErr.Memory
-            → (seen self.new).written ≡ (seen self.old).written }
-        ensures empty { bytes.now ≡ [] → IsOk result };
+            → (seen self.new).written ≡ (seen self.old).written };
 }

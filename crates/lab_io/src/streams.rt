@@ -1,7 +1,7 @@
 //! Real streams. What they hold is not told; the pieces that they did not take are counted.
 ghost use Rattle.std.specs.Prelude.{◌≡◌, ◌≤◌, ◌↔◌, [], length, take, IsOk, IsErrOf, IsTrue, is_err, if◌then◌else◌};
 ghost use Rattle.std.specs.Io.KnownBytes.{Appends};
-ghost use Rattle.lab_io.specs.Edge.{Stream, StreamPuts, Takes, Waits, stream_seen};
+ghost use Rattle.lab_io.specs.Edge.{Stream, StreamPuts, Takes, WritesWaiting, stream_seen};
 ghost use Rattle.lab_io.specs.Memory.{one_more};
 ghost use Rattle.lab_io.specs.Sink.{Puts};
 
@@ -71,7 +71,7 @@ impl<W: Write + Drop> StreamSink<W> {
 
     // Writes what waits, and answers whether the stream took it all; what it did not take waits on.
     fn write_waiting(&mut self) -> bool
-        ensures { Waits W.contents self.old self.new result }
+        ensures { WritesWaiting W.contents self.old self.new result }
     {
         let taken = bytes_taken(&mut self.stream, self.waiting.as_slice());
         self.waiting.drain(..taken);
@@ -97,7 +97,7 @@ impl<W: Write + Drop> StreamSink<W> {
 
     // Writes what waits and flushes the stream, and answers whether both went well.
     fn finish_line(&mut self) -> bool
-        ensures { Waits W.contents self.old self.new result }
+        ensures { WritesWaiting W.contents self.old self.new result }
     {
         self.write_waiting() && self.stream.flush().is_ok()
     }

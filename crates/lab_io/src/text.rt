@@ -16,14 +16,24 @@ pub enum Piece<'a> {
     Number(i128),
 }
 
-/// Puts the text as it is, in one piece.
+// Puts the bytes in one piece, or where there are none puts no piece.
+pub(crate) fn put_bytes<O: Sink>(out: &mut O, bytes: &[u8]) -> Result<(), PutErr>
+    ensures { Puts (O.seen out.old) bytes.now (O.seen out.new) result }
+{
+    if bytes.is_empty() {
+        return Ok(());
+    }
+    out.put(bytes)
+}
+
+/// Puts the text as it is, in one piece, or where it is empty puts nothing and answers `Ok`.
 ///
 /// As for every call of this file, after an `Err` a prefix of the bytes went out, `Failed` comes only where
 /// the sink's count of faults rose in this call, and `Memory` only where its count of wants did.
 pub fn put_text<O: Sink>(out: &mut O, text: &str) -> Result<(), PutErr>
     ensures { Puts (O.seen out.old) text.now (O.seen out.new) result }
 {
-    out.put(text.as_bytes())
+    put_bytes(out, text.as_bytes())
 }
 
 /// Puts the decimal digits, with `-` before a negative number, in one piece. It takes no memory of its own.

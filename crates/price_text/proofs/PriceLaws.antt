@@ -9,9 +9,9 @@ use Rattle.lab_model.specs.declared.fault.InputFault.{InputFault}
 use Rattle.lab_model.specs.Reading.{Gives}
 use Rattle.lab_io.specs.Sink.{Text}
 use Rattle.lab_io.specs.Piece.{fields_line}
-use Rattle.certificate_text.specs.Line.{Holds, Values, fields_of, values_at}
-use Rattle.certificate_text.specs.Grammar.{bound_line, plan_line, rungs_line, score_line, segments_line}
-use Rattle.certificate_text.specs.Reading.{last_at}
+use Rattle.certificate_text.specs.Line.{Holds, Values, fields_of, read_line}
+use Rattle.certificate_text.specs.Grammar.{gap_bound_line, plan_line, rungs_line, score_line, segments_line}
+use Rattle.certificate_text.specs.Reading.{read_last}
 use Rattle.certificate_text.specs.Spelling.{lines_text}
 use Rattle.certificate_text.proofs.Loops.{ok_is}
 use Rattle.certificate_text.proofs.LineLaws.{IsSpellable, line_again, line_takes}
@@ -63,9 +63,9 @@ record TakesCounts (bytes : Text) (x : Counts × Text) : Type 0 where
 counts_take : (bytes : Text) (x : Counts × Text) → counts_at bytes ≡ Ok x → TakesCounts bytes x
 unfolding counts_at
 counts_take bytes x h =
-    let f = then_ok (values_at 1 prices_line bytes) (λ first. values_at 2 segments_line first.1 >>= λ segments. values_at 3 rungs_line segments.1 >>= λ rungs. Ok (counts segments.0.0 rungs.0.0, rungs.1)) x h in
-    let n = then_ok (values_at 2 segments_line f.0.1) (λ segments. values_at 3 rungs_line segments.1 >>= λ rungs. Ok (counts segments.0.0 rungs.0.0, rungs.1)) x f.2 in
-    let r = then_ok (values_at 3 rungs_line n.0.1) (λ rungs. Ok (counts n.0.0.0 rungs.0.0, rungs.1)) x n.2 in
+    let f = then_ok (read_line 1 prices_line bytes) (λ first. read_line 2 segments_line first.1 >>= λ segments. read_line 3 rungs_line segments.1 >>= λ rungs. Ok (counts segments.0.0 rungs.0.0, rungs.1)) x h in
+    let n = then_ok (read_line 2 segments_line f.0.1) (λ segments. read_line 3 rungs_line segments.1 >>= λ rungs. Ok (counts segments.0.0 rungs.0.0, rungs.1)) x f.2 in
+    let r = then_ok (read_line 3 rungs_line n.0.1) (λ rungs. Ok (counts n.0.0.0 rungs.0.0, rungs.1)) x n.2 in
     let tf = line_takes 1 prices_line bytes f.0 can_first (lit≤ tt) f.1 in
     let tn = line_takes 2 segments_line f.0.1 n.0 can_segments (lit≤ tt) n.1 in
     let tr = line_takes 3 rungs_line n.0.1 r.0 can_rungs (lit≤ tt) r.1 in
@@ -104,20 +104,20 @@ record TakesHead (bytes : Text) (x : PriceParts × Text) : Type 0 where
 head_takes : (bytes : Text) (x : PriceParts × Text) → head_at bytes ≡ Ok x → TakesHead bytes x
 unfolding head_at
 head_takes bytes x h =
-    let k = then_ok (counts_at bytes) (λ counts. values_at 4 score_line counts.1 >>= λ score. values_at 5 bound_line score.1 >>= λ bound. values_at 6 (plan_line counts.0.segments) bound.1 >>= λ plan. Ok (made counts.0 score.0.0 bound.0.0 plan.0, plan.1)) x h in
-    let z = then_ok (values_at 4 score_line k.0.1) (λ score. values_at 5 bound_line score.1 >>= λ bound. values_at 6 (plan_line k.0.0.segments) bound.1 >>= λ plan. Ok (made k.0.0 score.0.0 bound.0.0 plan.0, plan.1)) x k.2 in
-    let b = then_ok (values_at 5 bound_line z.0.1) (λ bound. values_at 6 (plan_line k.0.0.segments) bound.1 >>= λ plan. Ok (made k.0.0 z.0.0.0 bound.0.0 plan.0, plan.1)) x z.2 in
-    let p = then_ok (values_at 6 (plan_line k.0.0.segments) b.0.1) (λ plan. Ok (made k.0.0 z.0.0.0 b.0.0.0 plan.0, plan.1)) x b.2 in
+    let k = then_ok (counts_at bytes) (λ counts. read_line 4 score_line counts.1 >>= λ score. read_line 5 gap_bound_line score.1 >>= λ bound. read_line 6 (plan_line counts.0.segments) bound.1 >>= λ plan. Ok (made counts.0 score.0.0 bound.0.0 plan.0, plan.1)) x h in
+    let z = then_ok (read_line 4 score_line k.0.1) (λ score. read_line 5 gap_bound_line score.1 >>= λ bound. read_line 6 (plan_line k.0.0.segments) bound.1 >>= λ plan. Ok (made k.0.0 score.0.0 bound.0.0 plan.0, plan.1)) x k.2 in
+    let b = then_ok (read_line 5 gap_bound_line z.0.1) (λ bound. read_line 6 (plan_line k.0.0.segments) bound.1 >>= λ plan. Ok (made k.0.0 z.0.0.0 bound.0.0 plan.0, plan.1)) x z.2 in
+    let p = then_ok (read_line 6 (plan_line k.0.0.segments) b.0.1) (λ plan. Ok (made k.0.0 z.0.0.0 b.0.0.0 plan.0, plan.1)) x b.2 in
     let tk = counts_take bytes k.0 k.1 in
     let tz = line_takes 4 score_line k.0.1 z.0 can_score (lit≤ tt) z.1 in
-    let tb = line_takes 5 bound_line z.0.1 b.0 can_bound (lit≤ tt) b.1 in
+    let tb = line_takes 5 gap_bound_line z.0.1 b.0 can_bound (lit≤ tt) b.1 in
     let tp = line_takes 6 (plan_line k.0.0.segments) b.0.1 p.0 (can_plan k.0.0.segments tk.segments.0.0) (omega arith) p.1 in
     let c = made k.0.0 z.0.0.0 b.0.0.0 p.0.0 in
     subst (λ (y : PriceParts × Text). TakesHead bytes y) (ok_is (c, p.0.1) x p.2) (record {
       text = tk.text ∙ ap (λ (w : Text). lines_text (count_lines c) ++ w) (tz.text
           ∙ ap (λ (w : Text). fields_line (fields_of score_line z.0.0) ++ w) (tb.text
-          ∙ ap (λ (w : Text). fields_line (fields_of bound_line b.0.0) ++ w) tp.text)
-          ∙ sym (three_behind (fields_of score_line z.0.0) (fields_of bound_line b.0.0) (fields_of (plan_line k.0.0.segments) p.0.0) p.0.1));
+          ∙ ap (λ (w : Text). fields_line (fields_of gap_bound_line b.0.0) ++ w) tp.text)
+          ∙ sym (three_behind (fields_of score_line z.0.0) (fields_of gap_bound_line b.0.0) (fields_of (plan_line k.0.0.segments) p.0.0) p.0.1));
       head = record { segments = tk.segments.0; rungs = tk.rungs.0; score = tz.holds.0; bound = tb.holds.0; plan = tp.holds };
     })
 
@@ -128,13 +128,13 @@ without_windows c = record c { windows = [] }
 head_again : (c : PriceParts) (rest : Text) → IsPriceHead c → head_at (lines_text (count_lines c) ++ (lines_text (value_lines c) ++ rest)) ≡ Ok (without_windows c, rest)
 unfolding head_at
 head_again c rest form =
-    let bound = fields_line (fields_of bound_line (c.bound, tt)) in
+    let bound = fields_line (fields_of gap_bound_line (c.bound, tt)) in
     let plan = fields_line (fields_of (plan_line c.segments) c.plan) in
     rw (
       counts_again c.segments c.rungs (lines_text (value_lines c) ++ rest) (form.segments, tt) (form.rungs, tt),
-      three_behind (fields_of score_line (c.score, tt)) (fields_of bound_line (c.bound, tt)) (fields_of (plan_line c.segments) c.plan) rest,
+      three_behind (fields_of score_line (c.score, tt)) (fields_of gap_bound_line (c.bound, tt)) (fields_of (plan_line c.segments) c.plan) rest,
       line_again 4 score_line (c.score, tt) (bound ++ (plan ++ rest)) can_score (lit≤ tt) (form.score, tt),
-      line_again 5 bound_line (c.bound, tt) (plan ++ rest) can_bound (lit≤ tt) (form.bound, tt),
+      line_again 5 gap_bound_line (c.bound, tt) (plan ++ rest) can_bound (lit≤ tt) (form.bound, tt),
       line_again 6 (plan_line c.segments) c.plan rest (can_plan c.segments form.segments.0) (omega arith) form.plan,
     ) refl
 
@@ -147,7 +147,7 @@ window_of values = record { first = values.0; last = values.1.0; price = values.
 window_takes : (row : ℕ) (bytes : Text) (x : Window × Text) → window_at row bytes ≡ Ok x → (bytes ≡ fields_line (window_fields x.0) ++ x.1) × IsSpelledWindow x.0
 unfolding window_at
 window_takes row bytes x h =
-    let v = then_ok (values_at row window_line bytes) (λ values. Ok (window_of values.0, values.1)) x h in
+    let v = then_ok (read_line row window_line bytes) (λ values. Ok (window_of values.0, values.1)) x h in
     let t = line_takes row window_line bytes v.0 can_window (lit≤ tt) v.1 in
     subst (λ (y : Window × Text). (bytes ≡ fields_line (window_fields y.0) ++ y.1) × IsSpelledWindow y.0) (ok_is (window_of v.0.0, v.0.1) x v.2)
     (t.text, record { first = t.holds.0; last = t.holds.1.0; price = t.holds.1.1.0 })
@@ -201,10 +201,10 @@ counted ws rest = append_assoc (fields_line (fields_of windows_line (length ws, 
 pub prices_take : (bytes : Text) (c : PriceParts) → prices_of bytes ≡ Ok c → IsPrices c × (bytes ≡ prices_text c)
 unfolding prices_of
 prices_take bytes c h =
-    let a = then_ok (head_at bytes) (λ head. values_at windows_row windows_line head.1 >>= λ count. windows_at (windows_row + 1) count.0.0 count.1 >>= λ windows. last_at (windows_row + 1 + count.0.0) windows.1 >>= λ done. Ok (record head.0 { windows = windows.0 })) c h in
-    let n = then_ok (values_at windows_row windows_line a.0.1) (λ count. windows_at (windows_row + 1) count.0.0 count.1 >>= λ windows. last_at (windows_row + 1 + count.0.0) windows.1 >>= λ done. Ok (record a.0.0 { windows = windows.0 })) c a.2 in
-    let w = then_ok (windows_at (windows_row + 1) n.0.0.0 n.0.1) (λ windows. last_at (windows_row + 1 + n.0.0.0) windows.1 >>= λ done. Ok (record a.0.0 { windows = windows.0 })) c n.2 in
-    let d = then_ok (last_at (windows_row + 1 + n.0.0.0) w.0.1) (λ done. Ok (record a.0.0 { windows = w.0.0 })) c w.2 in
+    let a = then_ok (head_at bytes) (λ head. read_line windows_row windows_line head.1 >>= λ count. windows_at (windows_row + 1) count.0.0 count.1 >>= λ windows. read_last (windows_row + 1 + count.0.0) windows.1 >>= λ done. Ok (record head.0 { windows = windows.0 })) c h in
+    let n = then_ok (read_line windows_row windows_line a.0.1) (λ count. windows_at (windows_row + 1) count.0.0 count.1 >>= λ windows. read_last (windows_row + 1 + count.0.0) windows.1 >>= λ done. Ok (record a.0.0 { windows = windows.0 })) c a.2 in
+    let w = then_ok (windows_at (windows_row + 1) n.0.0.0 n.0.1) (λ windows. read_last (windows_row + 1 + n.0.0.0) windows.1 >>= λ done. Ok (record a.0.0 { windows = windows.0 })) c n.2 in
+    let d = then_ok (read_last (windows_row + 1 + n.0.0.0) w.0.1) (λ done. Ok (record a.0.0 { windows = w.0.0 })) c w.2 in
     let ta = head_takes bytes a.0 a.1 in
     let tn = line_takes windows_row windows_line a.0.1 n.0 can_windows (lit≤ tt) n.1 in
     let tw = windows_take (windows_row + 1) n.0.0.0 n.0.1 w.0 w.1 in

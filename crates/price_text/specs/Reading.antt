@@ -4,9 +4,9 @@ use Rattle.lab_model.specs.Steps.{◌>>=◌}
 use Rattle.lab_model.specs.declared.fault.Refusal.{Refusal}
 use Rattle.lab_io.specs.Sink.{Text}
 use Rattle.certificate_text.specs.Fields.{Read}
-use Rattle.certificate_text.specs.Line.{values_at}
-use Rattle.certificate_text.specs.Grammar.{bound_line, plan_line, rungs_line, score_line, segments_line}
-use Rattle.certificate_text.specs.Reading.{last_at}
+use Rattle.certificate_text.specs.Line.{read_line}
+use Rattle.certificate_text.specs.Grammar.{gap_bound_line, plan_line, rungs_line, score_line, segments_line}
+use Rattle.certificate_text.specs.Reading.{read_last}
 use Rattle.price_bounds.specs.declared.window.Window.{Window}
 use Rattle.price_bounds.specs.Verdict.{PriceParts}
 use Rattle.price_text.specs.Grammar.{prices_line, window_line, windows_line}
@@ -26,18 +26,18 @@ counts_of c = record { segments = c.segments; rungs = c.rungs }
 -- the first lines: the form and the counts
 unfoldable pub counts_at : Text → Read Counts
 counts_at bytes = do
-  first ← values_at 1 prices_line bytes
-  segments ← values_at 2 segments_line first.1
-  rungs ← values_at 3 rungs_line segments.1
+  first ← read_line 1 prices_line bytes
+  segments ← read_line 2 segments_line first.1
+  rungs ← read_line 3 rungs_line segments.1
   Ok (record { segments = segments.0.0; rungs = rungs.0.0 }, rungs.1)
 
 -- all lines before the windows: a certificate that has no windows yet
 unfoldable pub head_at : Text → Read PriceParts
 head_at bytes = do
   counts ← counts_at bytes
-  score ← values_at 4 score_line counts.1
-  bound ← values_at 5 bound_line score.1
-  plan ← values_at 6 (plan_line counts.0.segments) bound.1
+  score ← read_line 4 score_line counts.1
+  bound ← read_line 5 gap_bound_line score.1
+  plan ← read_line 6 (plan_line counts.0.segments) bound.1
   Ok (record { segments = counts.0.segments; rungs = counts.0.rungs; score = score.0.0; bound = bound.0.0; plan = plan.0; windows = [] }, plan.1)
 
 -- ---- the windows
@@ -45,7 +45,7 @@ head_at bytes = do
 -- the line of a window
 unfoldable pub window_at : ℕ → Text → Read Window
 window_at row bytes = do
-  values ← values_at row window_line bytes
+  values ← read_line row window_line bytes
   Ok (record { first = values.0.0; last = values.0.1.0; price = values.0.1.1.0 }, values.1)
 
 -- the lines of so many windows
@@ -70,7 +70,7 @@ windows_row = 7
 unfoldable pub prices_of : Text → Result PriceParts Refusal
 prices_of bytes = do
   head ← head_at bytes
-  count ← values_at windows_row windows_line head.1
+  count ← read_line windows_row windows_line head.1
   windows ← windows_at (windows_row + 1) count.0.0 count.1
-  done ← last_at (windows_row + 1 + count.0.0) windows.1
+  done ← read_last (windows_row + 1 + count.0.0) windows.1
   Ok (record head.0 { windows = windows.0 })

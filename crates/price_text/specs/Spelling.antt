@@ -2,7 +2,7 @@
 use Rattle.std.specs.Prelude.{List, [], ◌∷◌, ◌++◌, length, map}
 use Rattle.lab_io.specs.Sink.{Text}
 use Rattle.certificate_text.specs.Line.{fields_of}
-use Rattle.certificate_text.specs.Grammar.{bound_line, end_line, plan_line, rungs_line, score_line, segments_line}
+use Rattle.certificate_text.specs.Grammar.{end_line, gap_bound_line, plan_line, rungs_line, score_line, segments_line}
 use Rattle.certificate_text.specs.Spelling.{lines_text}
 use Rattle.price_bounds.specs.declared.window.Window.{Window}
 use Rattle.price_bounds.specs.Verdict.{PriceParts}
@@ -18,7 +18,7 @@ count_lines c = fields_of prices_line tt ∷ fields_of segments_line (c.segments
 
 -- the lines behind them: the score, the bound and the rung list
 abbrev pub value_lines : PriceParts → List (List Text)
-value_lines c = fields_of score_line (c.score, tt) ∷ fields_of bound_line (c.bound, tt) ∷ fields_of (plan_line c.segments) c.plan ∷ []
+value_lines c = fields_of score_line (c.score, tt) ∷ fields_of gap_bound_line (c.bound, tt) ∷ fields_of (plan_line c.segments) c.plan ∷ []
 
 -- the lines of the windows: how many they are, and one for each
 abbrev pub window_lines : List Window → List (List Text)

@@ -2,7 +2,7 @@
 ghost use Rattle.std.specs.Prelude.{◌≡◌, ◌≤◌, Err, length};
 ghost use Rattle.labels.specs.Parts.{CertificateParts};
 ghost use Rattle.price_bounds.specs.Verdict.{PriceParts};
-ghost use Rattle.certificate_text.specs.Fields.{bad_line};
+ghost use Rattle.certificate_text.specs.Fields.{line_refusal};
 ghost use Rattle.certificate_text.specs.Form.{GapParts};
 ghost use Rattle.certificate_text.specs.Reading.{certificate_of, gap_of};
 ghost use Rattle.certificate_text.specs.Spelling.{gap_spelling, spelling};
@@ -23,8 +23,8 @@ pub fn texts_fit()
 
 /// The three kinds of certificates are told apart by the first line: it is the bad line for each reader of another kind.
 pub fn told_apart()
-    ensures plain { (c : PriceParts) → certificate_of (prices_text c) ≡ Err (bad_line 1) }
-    ensures gap { (c : PriceParts) → gap_of (prices_text c) ≡ Err (bad_line 1) }
-    ensures of_plain { (c : CertificateParts) → prices_of (spelling c) ≡ Err (bad_line 1) }
-    ensures of_gap { (c : GapParts) → prices_of (gap_spelling c) ≡ Err (bad_line 1) }
+    ensures plain { (c : PriceParts) → certificate_of (prices_text c) ≡ Err (line_refusal 1) }
+    ensures gap { (c : PriceParts) → gap_of (prices_text c) ≡ Err (line_refusal 1) }
+    ensures of_plain { (c : CertificateParts) → prices_of (spelling c) ≡ Err (line_refusal 1) }
+    ensures of_gap { (c : GapParts) → prices_of (gap_spelling c) ≡ Err (line_refusal 1) }
 {}

@@ -4,15 +4,15 @@ ghost use Rattle.lab_model.specs.Film.{IsWithin, most_segments};
 ghost use Rattle.lab_model.specs.Reading.{Gives};
 ghost use Rattle.price_bounds.specs.Verdict.{PriceParts, price_parts};
 ghost use Rattle.price_bounds.specs.Windows.{most_windows};
-ghost use Rattle.certificate_text.specs.Line.{values_at};
+ghost use Rattle.certificate_text.specs.Line.{read_line};
 ghost use Rattle.price_text.specs.Form.{IsPrices};
 ghost use Rattle.price_text.specs.Grammar.{prices_line, windows_line};
 ghost use Rattle.price_text.specs.Reading.{behind, counts_at, counts_of, head_at, prices_of, window_at, windows_at};
 ghost use Rattle.price_text.specs.Spelling.{prices_text};
 
 use certificate_text::{
-    MOST_RUNGS, MOST_SEGMENTS, RUNG_DIGITS, amount_at, count_at, known_at, last_at, list_at,
-    number_at, push, small_numbers, within_at, word_at,
+    MOST_RUNGS, MOST_SEGMENTS, NumberList, NumberRange, RUNG_DIGITS, push, read_amount, read_count,
+    read_known, read_last, read_list, read_number, read_within, read_word, small_numbers,
 };
 use lab_model::InputFault;
 use price_bounds::{PriceCertificate, Window};
@@ -20,6 +20,11 @@ use std::alloc::Global;
 
 /// The most windows.
 const MOST_WINDOWS: u32 = 4000;
+/// How many windows there may be.
+const WINDOW_COUNTS: NumberRange = NumberRange {
+    low: 0,
+    high: MOST_WINDOWS,
+};
 /// The most digits of a segment of a window.
 const SEGMENT_DIGITS: usize = 4;
 /// The most digits of a price.
@@ -28,13 +33,13 @@ const PRICE_DIGITS: usize = 13;
 const WINDOWS_ROW: u32 = 7;
 
 /// The first line, which tells the form of the text.
-#[tactic(auto, unfolding(certificate_text::specs::Line::values_at))]
+#[tactic(auto, unfolding(certificate_text::specs::Line::read_line))]
 fn first_line_at(bytes: &[u8]) -> Result<&[u8], InputFault>
-    ensures { Gives (λ rest. (tt, rest.now)) result (values_at 1 prices_line bytes.now) }
+    ensures { Gives (λ rest. (tt, rest.now)) result (read_line 1 prices_line bytes.now) }
 {
-    let rest = word_at(1, "abrlab", b' ', bytes)?;
-    let rest = word_at(1, "prices", b' ', rest)?;
-    known_at(1, 1, b'\n', rest)
+    let rest = read_word(1, "abrlab", b' ', bytes)?;
+    let rest = read_word(1, "prices", b' ', rest)?;
+    read_known(1, 1, b'\n', rest)
 }
 
 /// Segments and rungs.
@@ -51,8 +56,8 @@ fn counts_at(bytes: &[u8]) -> Result<(Counts, &[u8]), InputFault>
     ensures segments { IfOk result (λ x. IsWithin 1 most_segments x.0.segments) }
 {
     let rest = first_line_at(bytes)?;
-    let (segments, rest) = count_at(2, "segments", MOST_SEGMENTS, rest)?;
-    let (rungs, rest) = count_at(3, "rungs", MOST_RUNGS, rest)?;
+    let (segments, rest) = read_count(2, "segments", MOST_SEGMENTS, rest)?;
+    let (rungs, rest) = read_count(3, "rungs", MOST_RUNGS, rest)?;
     let counts = Counts {
         segments: segments as u16,
         rungs: rungs as u8,
@@ -66,10 +71,14 @@ fn head_at(alloc: Global, bytes: &[u8]) -> Result<(PriceCertificate, &[u8]), Inp
     ensures { Gives (λ x. (price_parts x.0, x.1.now)) result (head_at bytes.now) }
 {
     let (counts, rest) = counts_at(bytes)?;
-    let (score, rest) = amount_at(4, "score", rest)?;
-    let (bound, rest) = amount_at(5, "bound", rest)?;
-    let segments = counts.segments as usize;
-    let (plan, rest) = list_at(alloc, 6, "plan", segments, RUNG_DIGITS, rest)?;
+    let (score, rest) = read_amount(4, "score", rest)?;
+    let (bound, rest) = read_amount(5, "bound", rest)?;
+    let list = NumberList {
+        word: "plan",
+        count: counts.segments as usize,
+        digits: RUNG_DIGITS,
+    };
+    let (plan, rest) = read_list(alloc, 6, list, rest)?;
     let certificate = PriceCertificate {
         segments: counts.segments,
         rungs: counts.rungs,
@@ -82,24 +91,24 @@ fn head_at(alloc: Global, bytes: &[u8]) -> Result<(PriceCertificate, &[u8]), Inp
 }
 
 /// The line that tells how many windows follow it.
-#[tactic(auto, unfolding(certificate_text::specs::Line::values_at))]
+#[tactic(auto, unfolding(certificate_text::specs::Line::read_line))]
 fn window_count_at(row: u32, bytes: &[u8]) -> Result<(u32, &[u8]), InputFault>
     ensures count { Gives (λ x. ((x.0, tt), x.1.now)) result
-        (values_at row windows_line bytes.now) }
+        (read_line row windows_line bytes.now) }
     ensures few { IfOk result (λ x. x.0 ≤ most_windows) }
 {
-    let rest = word_at(row, "windows", b' ', bytes)?;
-    within_at(row, 0, MOST_WINDOWS, b'\n', rest)
+    let rest = read_word(row, "windows", b' ', bytes)?;
+    read_within(row, WINDOW_COUNTS, b'\n', rest)
 }
 
 /// The line of a window.
-#[tactic(auto, unfolding(crate::specs::Reading::window_at, certificate_text::specs::Line::values_at))]
+#[tactic(auto, unfolding(crate::specs::Reading::window_at, certificate_text::specs::Line::read_line))]
 fn window_at(row: u32, bytes: &[u8]) -> Result<(Window, &[u8]), InputFault>
     ensures { Gives (λ x. (x.0, x.1.now)) result (window_at row bytes.now) }
 {
-    let (first, rest) = number_at(row, SEGMENT_DIGITS, b' ', bytes)?;
-    let (last, rest) = number_at(row, SEGMENT_DIGITS, b' ', rest)?;
-    let (price, rest) = number_at(row, PRICE_DIGITS, b'\n', rest)?;
+    let (first, rest) = read_number(row, SEGMENT_DIGITS, b' ', bytes)?;
+    let (last, rest) = read_number(row, SEGMENT_DIGITS, b' ', rest)?;
+    let (price, rest) = read_number(row, PRICE_DIGITS, b'\n', rest)?;
     let window = Window {
         first: first as u16,
         last: last as u16,
@@ -137,7 +146,7 @@ fn prices_of(alloc: Global, bytes: &[u8]) -> Result<PriceCertificate, InputFault
     let (count, rest) = window_count_at(WINDOWS_ROW, rest)?;
     let mut windows = Vec::new(alloc);
     let rest = push_windows(&mut windows, WINDOWS_ROW + 1, count, rest)?;
-    last_at(WINDOWS_ROW + 1 + count, rest)?;
+    read_last(WINDOWS_ROW + 1 + count, rest)?;
     Ok(PriceCertificate { windows, ..head })
 }
 

@@ -115,7 +115,7 @@ const OTHERS: [&str; 2] = [
     "abrlab prices 1\nsegments 3\nrungs 2\nscore 29000\nbound 29000\nplan 1 1 1\nwindows 0\nend\n",
 ];
 
-fn bad_line(row: u32) -> Result<(), InputFault> {
+fn line_refusal(row: u32) -> Result<(), InputFault> {
     Err(InputFault::Refused(Refusal {
         kind: Kind::CertLine,
         key: Key::Line,
@@ -144,7 +144,7 @@ fn bad_lines(rt: HostRuntime) -> Result<(), Fail> {
     let alloc = rt.alloc();
     for (row, line, bad) in BAD_LINES {
         let text = with_line(alloc, row, line)?;
-        assert_eq!(rt; refusal_of(alloc, text.as_bytes()), bad_line(bad));
+        assert_eq!(rt; refusal_of(alloc, text.as_bytes()), line_refusal(bad));
     }
     Ok(())
 }
@@ -156,7 +156,7 @@ fn each_prefix(rt: HostRuntime) -> Result<(), Fail> {
     let bytes = text.as_bytes();
     let mut row = 1u32;
     for (k, byte) in bytes.iter().enumerate() {
-        assert_eq!(rt; refusal_of(alloc, &bytes[..k]), bad_line(row));
+        assert_eq!(rt; refusal_of(alloc, &bytes[..k]), line_refusal(row));
         if *byte == b'\n' {
             row = row.saturating_add(1);
         }

@@ -22,7 +22,7 @@ returns-in_err-put_chains g c =
     (puts_more _ _ _ (lines_text (head_lines parts)) (lines_text (chains_lines parts.segments parts.rungs 0 parts.chains) ++ fields_line (fields_of end_line tt))
     _ _ _ c.in_ok-put_head.was c.put_head.ensures
     (puts_failed _ _ (lines_text (chains_lines parts.segments parts.rungs 0 parts.chains)) (fields_line (fields_of end_line tt))
-    _ c.from_residual-in_err-put_chains.result _ c.in_err-put_chains.was c.from_residual-in_err-put_chains.ensures.1 (rw (c.segments.ensures.value, c.rungs.ensures.value, c.deref.ensures.value) at c.put_chains.ensures)))
+    _ c.from_residual-in_err-put_chains.result _ c.in_err-put_chains.was c.from_residual-in_err-put_chains.ensures.1 (rw c.deref.ensures.value at c.put_chains.ensures)))
 
 pub returns : goal.returns
 returns g c =
@@ -31,4 +31,4 @@ returns g c =
     (puts_more _ _ _ (lines_text (head_lines parts)) (lines_text (chains_lines parts.segments parts.rungs 0 parts.chains) ++ fields_line (fields_of end_line tt))
     _ _ _ c.in_ok-put_head.was c.put_head.ensures
     (puts_more _ _ _ (lines_text (chains_lines parts.segments parts.rungs 0 parts.chains)) (fields_line (fields_of end_line tt))
-    _ _ _ c.in_ok-put_chains.was (rw (c.segments.ensures.value, c.rungs.ensures.value, c.deref.ensures.value) at c.put_chains.ensures) c.put_line.ensures))
+    _ _ _ c.in_ok-put_chains.was (rw c.deref.ensures.value at c.put_chains.ensures) c.put_line.ensures))
