@@ -1,0 +1,5 @@
+pub mod Grid
+pub mod Tight
+pub mod Gain
+pub mod Bound
+pub mod Laws
