@@ -1,0 +1,5 @@
+pub mod Rows
+pub mod Greatest
+pub mod Bounded
+pub mod Along
+pub mod Tight
