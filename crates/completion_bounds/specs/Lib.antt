@@ -3,3 +3,4 @@ pub mod Tight
 pub mod Gain
 pub mod Bound
 pub mod Laws
+pub mod Table
