@@ -3,3 +3,7 @@ pub mod Greatest
 pub mod Bounded
 pub mod Along
 pub mod Tight
+pub mod Sizes
+pub mod Grids
+pub mod CellLaws
+pub mod Gains

@@ -1,6 +1,6 @@
 //! Grids of tables.
 
-ghost use Rattle.std.specs.Prelude.{◌≡◌, ℕ, ◌≤◌, ◌<◌, ◌↔◌, IfNone, IfSome, IsTrue, length};
+ghost use Rattle.std.specs.Prelude.{◌≡◌, ℕ, ◌*◌, ◌≤◌, ◌<◌, ◌↔◌, IfNone, IfSome, IsTrue, length, slice_index};
 ghost use Rattle.std.specs.List.Sorted.{IsStrictlyIncreasing};
 ghost use Rattle.player_core.specs.Scene.{IsTask};
 ghost use Rattle.completion_bounds.specs.Grid.{GridParts, IsGridOf, IsTableGrid, kinds_of, longest_delay, most_numbers, row_of, table_numbers};
@@ -48,18 +48,33 @@ fn is_rising(numbers: &[u32]) -> bool
     true
 }
 
+/// Whether these are some rows that rise from 0 on.
+fn are_rows(rows: &[u32]) -> bool
+    ensures { IsTrue result ↔ ((1 ≤ length rows.now) × (slice_index rows.now 0 ≡ 0)
+        × IsStrictlyIncreasing rows.now) }
+{
+    !rows.is_empty() && rows[0] == 0 && is_rising(rows)
+}
+
+/// Whether no row, each in steps, is too long.
+#[tactic(auto, using(crate::proofs::Grids::delays_low))]
+fn are_short(step: u32, rows: &[u32]) -> bool
+    requires some { 1 ≤ length rows.now }
+    requires rising { IsStrictlyIncreasing rows.now }
+    ensures { IsTrue result ↔ ((k : ℕ) → step * slice_index rows.now k ≤ longest_delay) }
+{
+    step as u64 * rows[rows.len() - 1] as u64 <= LONGEST_DELAY_MS
+}
+
 /// Whether these are a grid within its limits.
 fn is_table_grid(step: u32, columns: u32, rows: &[u32]) -> bool
     ensures { IsTrue result
         ↔ IsTableGrid (record { step = step; columns = columns; rows = rows.now }) }
 {
-    1 <= step
-        && step <= LONGEST_STEP_MS
-        && 1 <= columns
-        && !rows.is_empty()
-        && rows[0] == 0
-        && is_rising(rows)
-        && step as u64 * rows[rows.len() - 1] as u64 <= LONGEST_DELAY_MS
+    if step == 0 || step > LONGEST_STEP_MS || columns == 0 || !are_rows(rows) {
+        return false;
+    }
+    are_short(step, rows)
 }
 
 /// The rungs that the table of a scene tells apart: one serves all where a change costs nothing.

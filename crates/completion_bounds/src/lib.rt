@@ -13,5 +13,6 @@ pub use laws::{completions_are_bounded, tight_changes_nothing};
 pub use table::Table;
 
 
+
 #[cfg(test)]
 mod tests;
