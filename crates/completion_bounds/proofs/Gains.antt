@@ -97,8 +97,15 @@ kind_serves g d left q k c rung =
     (λ more. ap (λ n. gain_left g d left n k c) (cond-false (kinds_of g == 1) 0 q (ne_eqb (kinds_of g) 1 more))) (cases_eq (kinds_of g) 1)) (kinds_are g)
 
 -- it is one of the kinds
-pub kind_inside : (g : Task) → IsTask g → (q : ℕ) → q < rungs_of g.film → kind_among (kinds_of g) q < kinds_of g
-kind_inside g is q rung =
+pub kind_inside : (g : Task) (q : ℕ) → q < rungs_of g.film → kind_among (kinds_of g) q < kinds_of g
+kind_inside g q rung =
     ⊎_elim (λ (one : kinds_of g ≡ 1). let e = cond-true (kinds_of g == 1) 0 q (eq-eqb (kinds_of g) 1 one) in omega (arith, e, one))
     (λ more. let e = cond-false (kinds_of g == 1) 0 q (ne_eqb (kinds_of g) 1 more) in
     ⊎_elim (λ (free : (g.setup.weights.switch ≡ 0) × (kinds_of g ≡ 1)). absurd (more free.1)) (λ (all : kinds_of g ≡ rungs_of g.film). omega (arith, e, all, rung)) (kinds_are g)) (cases_eq (kinds_of g) 1)
+
+-- the same where the kinds are one, or as many as the rungs
+pub kind_less : (kinds n q : ℕ) → (kinds ≡ 1) ⊎ (kinds ≡ n) → q < n → kind_among kinds q < kinds
+kind_less kinds n q one_or_all low =
+    ⊎_elim (λ (one : kinds ≡ 1). let e = cond-true (kinds == 1) 0 q (eq-eqb kinds 1 one) in omega (arith, e, one))
+    (λ more. let e = cond-false (kinds == 1) 0 q (ne_eqb kinds 1 more) in
+    ⊎_elim (λ (one : kinds ≡ 1). absurd (more one)) (λ (all : kinds ≡ n). omega (arith, e, all, low)) one_or_all) (cases_eq kinds 1)

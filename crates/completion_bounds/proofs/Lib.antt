@@ -7,3 +7,4 @@ pub mod Sizes
 pub mod Grids
 pub mod CellLaws
 pub mod Gains
+pub mod LayerLaws

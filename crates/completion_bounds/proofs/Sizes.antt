@@ -1,8 +1,8 @@
 -- How large tables are.
-use Rattle.std.proofs.Common.{◌≡◌, ◌∙◌, ◌⊎◌, inl, inr, ℕ, zero, suc, ◌+◌, ◌-◌, ◌*◌, ◌<◌, ◌≤◌, ⊎_elim, true, false, length, sym, ap, subst, arith, mul-le-mul}
+use Rattle.std.proofs.Common.{◌≡◌, ◌∙◌, ◌⊎◌, inl, inr, ℕ, zero, suc, ◌+◌, ◌-◌, ◌*◌, ◌/◌, ◌<◌, ◌≤◌, ⊎_elim, true, false, length, sym, ap, subst, arith, mul-le-mul, mul-le-mul_left}
 use Rattle.std.specs.Prelude.{◌==◌}
 use Rattle.std.proofs.lemmas.Bool.{cases_Bool, cond-false, cond-true, eqb-true}
-use Rattle.std.proofs.lemmas.Nat.{mul-add-lt}
+use Rattle.std.proofs.lemmas.Nat.{div-mul-add, mul-add-lt}
 use Rattle.lab_model.specs.Film.{rungs_of, segments_of}
 use Rattle.player_core.specs.Scene.{IsTask, Task}
 use Rattle.completion_bounds.specs.Grid.{GridParts, IsGridOf, IsTableGrid, kinds_of, layer_numbers, most_numbers}
@@ -62,3 +62,18 @@ numbers_fit n k c kinds few low short some =
     let one : k * (c + 1) * kinds ≤ 2535301200456458802993406410752 = omega (arith, layer) in
     let all = mul-le-mul few one in
     (one, omega (arith, all))
+
+-- the steps of a row and a column are few
+pub steps_low : (step m columns steps : ℕ) → step ≤ 10000 → step * m ≤ 1000000000000 → columns + 1 ≤ 64000000 → steps ≤ m + columns → step * steps ≤ 1700000000000
+steps_low step m columns steps few low short inside =
+    let all = mul-le-mul_left step inside in
+    let less : columns ≤ 64000000 = omega (arith, short) in
+    let wide = mul-le-mul few less in
+    omega (arith, all, low, wide)
+
+-- where two numbers are put together alike, their parts are the same
+pub same_parts : (w a b q r : ℕ) → b < w → r < w → q * w + r ≡ a * w + b → (q ≡ a) × (r ≡ b)
+same_parts w a b q r low less e =
+    let row : q ≡ a = sym (div-mul-add q w r less) ∙ ap (λ x. x / w) e ∙ div-mul-add a w b low in
+    let base = ap (λ x. x * w) row in
+    (row, omega (arith, e, base))

@@ -70,11 +70,15 @@ pub record AreStepGainsTo (g : Task) (segment place : ℕ) (own : List ℤ) : Ty
   pub each : (q r : ℕ) → q < kinds_of g → r < rungs_of g.film → q * rungs_of g.film + r < place
       → slice_index_or own (q * rungs_of g.film + r) (pos 0) ≡ step_gain g.setup.weights segment q r
 
--- what is gained behind a segment on each rung, where it is asked for after so many steps, after the labels of a row
+-- what is gained behind a segment on each rung below one, where it is asked for after so many steps, after the labels of a row
+pub record AreGainsTo (g : Task) (d : GridParts) (left segment steps row to : ℕ) (gains : List ℤ) : Type 0 where
+  pub each : (r : ℕ) → r < to → slice_index_or gains r (pos 0)
+      ≡ (let l = came_after g d segment (came_at g (request_after g d segment steps) segment r) row in gain_left g d left r (row_of d l.p) (column_of g d segment l))
+
+-- the same on each rung
 pub record AreGains (g : Task) (d : GridParts) (left segment steps row : ℕ) (gains : List ℤ) : Type 0 where
   pub count : length gains ≡ rungs_of g.film
-  pub each : (r : ℕ) → r < rungs_of g.film → slice_index_or gains r (pos 0)
-      ≡ (let l = came_after g d segment (came_at g (request_after g d segment steps) segment r) row in gain_left g d left r (row_of d l.p) (column_of g d segment l))
+  pub all : AreGainsTo g d left segment steps row (rungs_of g.film) gains
 
 -- a layer holds the completion bounds with so many segments left
 pub record IsLayer (g : Task) (d : GridParts) (left : ℕ) (layer : List ℤ) : Type 0 where

@@ -3,6 +3,7 @@
 ghost use Rattle.std.specs.Prelude.{◌≡◌, ℕ, ◌*◌, ◌≤◌, ◌<◌, ◌↔◌, IfNone, IfSome, IsTrue, length, slice_index};
 ghost use Rattle.std.specs.List.Sorted.{IsStrictlyIncreasing};
 ghost use Rattle.player_core.specs.Scene.{IsTask};
+ghost use Rattle.completion_bounds.specs.Table.{kind_among};
 ghost use Rattle.completion_bounds.specs.Grid.{GridParts, IsGridOf, IsTableGrid, kinds_of, longest_delay, most_numbers, row_of, table_numbers};
 
 use player_core::Scene;
@@ -26,7 +27,8 @@ pub struct TableGrid {
 }
 
 impl Model for TableGrid {
-    ghost use Rattle.completion_bounds.specs.Grid.{GridParts, IsTableGrid};
+    ghost use Rattle.completion_bounds.specs.Table.{kind_among};
+ghost use Rattle.completion_bounds.specs.Grid.{GridParts, IsTableGrid};
 
     ghost Value = { GridParts };
 
@@ -87,6 +89,13 @@ pub(crate) fn kinds(scene: &Scene<'_>) -> usize
     } else {
         scene.film().rungs() as usize
     }
+}
+
+/// The kind of a rung among so many: where one serves all it is 0.
+pub(crate) fn kind_among(kinds: usize, rung: usize) -> usize
+    ensures { result ≡ kind_among kinds rung }
+{
+    if kinds == 1 { 0 } else { rung }
 }
 
 impl TableGrid {

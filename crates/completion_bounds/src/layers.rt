@@ -10,7 +10,7 @@ ghost use Rattle.completion_bounds.specs.Grid.{IsGridOf, kinds_of, layer_numbers
 ghost use Rattle.completion_bounds.specs.Table.{AreGains, AreStepGains, AreWays, IsLayer, IsLayerBelow, cells_of, most_gain, most_step, step_gain};
 
 use crate::cells::{Way, cell_at, request_after, width};
-use crate::grid::{TableGrid, kinds};
+use crate::grid::{TableGrid, kind_among, kinds};
 use player_core::Scene;
 use std::alloc::{AllocError, Global};
 
@@ -111,23 +111,23 @@ fn take_gains(
         → AreGains g grid.now left segment steps row gains.new }
 {
     for rung in 0..gains.len() {
-        let kind = if kinds == 1 { 0 } else { rung };
-        gains[rung] = behind[ways[rung].cell_behind(grid, row) * kinds + kind];
+        let cell = ways[rung].cell_behind(grid, row);
+        gains[rung] = behind[cell * kinds + kind_among(kinds, rung)];
     }
 }
 
-/// The most that a rung gains by itself and behind it.
-fn best_gain(own: &[i64], gains: &[i64]) -> i64
+/// The most that a rung gains by itself and behind it; what the rungs gain by themselves stands from a place on.
+fn best_gain(own: &[i64], from: usize, gains: &[i64]) -> i64
     requires some { 1 ≤ length gains.now }
-    requires count { length own.now ≡ length gains.now }
+    requires inside { from + length gains.now ≤ length own.now }
     requires own { All (IsNear most_step) own.now }
     requires gains { All (IsNear most_gain) gains.now }
-    ensures { result ≡ greatest_to (λ r. slice_index_or own.now r (pos 0)
+    ensures { result ≡ greatest_to (λ r. slice_index_or own.now (from + r) (pos 0)
         +ℤ slice_index_or gains.now r (pos 0)) (length gains.now - 1) }
 {
-    let mut best = own[0] + gains[0];
-    for rung in 1..own.len() {
-        best = best.max(own[rung] + gains[rung]);
+    let mut best = own[from] + gains[0];
+    for rung in 1..gains.len() {
+        best = best.max(own[from + rung] + gains[rung]);
     }
     best
 }
@@ -150,8 +150,7 @@ fn fill_cell(layer: &mut [i64], cell: usize, kinds: usize, own: &[i64], gains: &
 {
     let rungs = gains.len();
     for kind in 0..kinds {
-        let own_gains = &own[kind * rungs..kind * rungs + rungs];
-        layer[cell * kinds + kind] = best_gain(own_gains, gains);
+        layer[cell * kinds + kind] = best_gain(own, kind * rungs, gains);
     }
 }
 
@@ -193,7 +192,7 @@ fn fill_steps(
     for row in first..rows.len() {
         let own_steps = rows[row] as u64;
         if own_steps > steps {
-            break;
+            return;
         }
         take_gains(grid, ways, row, kinds, behind, gains);
         let cell = cell_at(grid, row, (steps - own_steps) as usize);

@@ -13,7 +13,7 @@ ghost use Rattle.completion_bounds.specs.Grid.{IsGridOf, row_of};
 ghost use Rattle.completion_bounds.specs.Table.{AreLayers, most_gain};
 
 use crate::cells::{cell_at, column_in, less_lead};
-use crate::grid::{TableGrid, kinds};
+use crate::grid::{TableGrid, kind_among, kinds};
 use crate::layers::{last_layer, layer_before};
 use lab_model::{Label, NoMemory};
 use labels::{RungLabel, start_on};
@@ -117,9 +117,8 @@ impl<'a> Table<'a> {
             0
         };
         let kinds = kinds(self.scene);
-        let kind = if kinds == 1 { 0 } else { rung as usize };
         let cell = cell_at(&self.grid, row, column);
-        self.layers[(last - segment) as usize][cell * kinds + kind]
+        self.layers[(last - segment) as usize][cell * kinds + kind_among(kinds, rung as usize)]
     }
 
     /// What the lists through a label end at, at most, in thousandths of a point.
