@@ -17,7 +17,7 @@ loop-rung-preserved c =
     let fits : SFits w64 value = search rules in
     let rungs = c.rungs-rung-end.ensures.value ∙ ap rungs_of c.film.ensures.value in
     let to = before * rungs_of g.film + (rung + 1) in
-    subst (AreStepGainsTo g c.args.segment to) (sym c.push.ensures.items)
+    subst (AreStepGainsTo g c.args.segment to) (sym c.in_ok-push.ensures.items)
     (subst (λ (v : ℤ). AreStepGainsTo g c.args.segment to (c.loop-rung.gains.items ++ v ∷ [])) (sym (to_z-of_z w64 value fits))
     (steps_more g c.args.segment before rung c.loop-rung.gains.items value (omega (arith, rungs)) c.loop-rung.invariant c.step_gain.ensures))
 
