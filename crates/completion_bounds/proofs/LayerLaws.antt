@@ -1,6 +1,7 @@
 -- Layers: number by number, cell by cell and sum by sum.
 use Rattle.std.proofs.Common.{◌≡◌, ◌∙◌, ◌⊎◌, inl, inr, ℕ, zero, suc, ◌+◌, ◌-◌, ◌*◌, ◌/◌, ◌<◌, ◌≤◌, ⊎_elim, List, [], ◌∷◌, ◌++◌, length, length-append, refl, sym, ap, ap₂, subst, arith, mul-le-mul_left}
-use Rattle.std.specs.Prelude.{ℤ, pos, ◌+ℤ◌, ◌-ℤ◌, max, min, Some, slice_index_or, slice_set}
+use Rattle.std.specs.Prelude.{ℤ, pos, ◌+ℤ◌, ◌-ℤ◌, max, min, Some, slice_index_or, slice_set, Vec}
+use Rattle.std.specs.Global.{Global}
 use Rattle.std.specs.List.{All}
 use Rattle.std.proofs.Math.Nat.{div-lt_iff_lt-mul, div-mul-le_self, lt-div-mul-add}
 use Rattle.std.proofs.Math.Seq.{get_or-append_seam}
@@ -21,7 +22,7 @@ use Rattle.labels.specs.Labels.{came_at, next_value}
 use Rattle.completion_bounds.specs.declared.cells.Way.{Way}
 use Rattle.completion_bounds.specs.Gain.{column_of, gain_left, greatest_to}
 use Rattle.completion_bounds.specs.Grid.{GridParts, IsGridOf, IsTableGrid, kinds_of, layer_numbers, row_delay, row_of, row_steps}
-use Rattle.completion_bounds.specs.Table.{AreGains, AreGainsTo, AreStepGains, AreStepGainsTo, IsLayer, IsLayerAt, IsLayerBelow, came_after, cell_at, cell_of, cells_of, kind_among, most_gain, most_step, request_after, step_gain}
+use Rattle.completion_bounds.specs.Table.{AreGains, AreGainsTo, AreStepGains, AreStepGainsTo, AreLayers, IsLayer, IsLayerAt, IsLayerBelow, came_after, cell_at, cell_of, cells_of, kind_among, most_gain, most_step, request_after, step_gain}
 use Rattle.completion_bounds.proofs.Bounded.{gain_last, gain_next, gain_on}
 use Rattle.completion_bounds.proofs.Gains.{gain_near, kind_inside, kind_serves, step_near}
 use Rattle.completion_bounds.proofs.Greatest.{greatest_same}
@@ -109,6 +110,13 @@ row_of_place d kinds k c q short less =
     let inside = mul-add-lt c kinds q wide (omega (arith, short)) less in
     let same : cell_at d k c * kinds + q ≡ k * (wide * kinds) + (c * kinds + q) = omega arith in
     ap (λ x. x / (wide * kinds)) same ∙ div-mul-add k (wide * kinds) (c * kinds + q) (omega (arith, inside))
+
+-- one number more of the last layer
+pub last_more : (worth : ℕ → ℤ) (place : ℕ) (layer : List ℤ) (v : ℤ) → length layer ≡ place → ((x : ℕ) → x < place → slice_index_or layer x (pos 0) ≡ worth x) → v ≡ worth place
+    → (x : ℕ) → x < place + 1 → slice_index_or (layer ++ v ∷ []) x (pos 0) ≡ worth x
+last_more worth place layer v count each e x low =
+    ⊎_elim (λ (old : x < place). get_or_append_left layer (v ∷ []) (pos 0) x (omega (arith, old, count)) ∙ each x old)
+    (λ new. let last : x ≡ place = omega (arith, new, low) in ap (λ y. slice_index_or (layer ++ v ∷ []) y (pos 0)) (last ∙ sym count) ∙ get_or-append_seam layer v [] (pos 0) ∙ e ∙ ap worth (sym last)) (cases_lt x place)
 
 -- the last layer
 pub last_is_layer : (g : Task) (d : GridParts) (per_row place : ℕ) (layer : List ℤ) → per_row ≡ (d.columns + 1) * kinds_of g → length layer ≡ place → place ≡ length d.rows * per_row
@@ -239,3 +247,20 @@ module _ (g : Task) (d : GridParts) where
 -- a segment comes soon after its request
 pub came_soon : (g : Task) → IsTask g → (start i r : ℕ) → i < segments_of g.film → r < rungs_of g.film → came_at g start i r ≤ start + 300010000
 came_soon g is start i r low rung = (done_found (period_at g.periods) (trace_flows g.periods is.trace) (omega arith) start (size_of g.film i r) (size_within g.film i r is.film low rung).1).0
+
+-- the layers so far, with one more
+pub layers_more : (g : Task) (d : GridParts) (n : ℕ) (held : List (Vec ℤ Global)) (v : Vec ℤ Global) → AreLayers g d n held → IsLayer g d n v.items → AreLayers g d (n + 1) (held ++ v ∷ [])
+layers_more g d n held v h layer =
+    let count = h.count in
+    record {
+      count = length-append held (v ∷ []) ∙ omega (arith, count);
+      each = λ left none low. ⊎_elim
+          (λ (old : left < n). subst (λ (x : Vec ℤ Global). IsLayer g d left x.items) (sym (get_or_append_left held (v ∷ []) none left (omega (arith, old, count)))) (h.each left none old))
+          (λ new. let last : left ≡ n = omega (arith, new, low) in
+          subst (λ m. IsLayer g d m (slice_index_or (held ++ v ∷ []) m none).items) (sym last)
+          (subst (λ (x : Vec ℤ Global). IsLayer g d n x.items) (sym (ap (λ y. slice_index_or (held ++ v ∷ []) y none) (sym count) ∙ get_or-append_seam held v [] none)) layer)) (cases_lt left n);
+    }
+
+-- the first of them
+pub layers_one : (g : Task) (d : GridParts) (v : Vec ℤ Global) → IsLayer g d 0 v.items → AreLayers g d 1 ([] ++ v ∷ [])
+layers_one g d v layer = layers_more g d 0 [] v (record { count = refl; each = λ left none low. absurd (omega (arith, low)) }) layer

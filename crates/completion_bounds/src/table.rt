@@ -1,6 +1,6 @@
 //! The table of completion bounds.
 
-ghost use Rattle.std.specs.Prelude.{◌≡◌, ℕ, ◌+◌, ◌<◌, ◌≤◌, ◌↔◌, IfOk, IsTrue, List, ◌≤ℤ◌};
+ghost use Rattle.std.specs.Prelude.{◌≡◌, ℕ, ◌+◌, ◌<◌, ◌≤◌, ◌↔◌, IfOk, IsTrue, List, ◌≤ℤ◌, length};
 ghost use Rattle.lab_model.specs.Film.{rungs_of, segments_of};
 ghost use Rattle.lab_model.specs.Number.{IsNear};
 ghost use Rattle.player_core.specs.Scene.{IsTask};
@@ -8,9 +8,9 @@ ghost use Rattle.labels.specs.Best.{task_value};
 ghost use Rattle.labels.specs.Labels.{AreRungs};
 ghost use Rattle.labels.specs.Near.{CanFollow};
 ghost use Rattle.completion_bounds.specs.Bound.{IsHopeless, most_of, table_bound};
-ghost use Rattle.completion_bounds.specs.Gain.{column_of, gain_of};
-ghost use Rattle.completion_bounds.specs.Grid.{IsGridOf, row_of};
-ghost use Rattle.completion_bounds.specs.Table.{AreLayers, most_gain};
+ghost use Rattle.completion_bounds.specs.Gain.{column_of, gain_left, gain_of};
+ghost use Rattle.completion_bounds.specs.Grid.{IsGridOf, kinds_of, row_of};
+ghost use Rattle.completion_bounds.specs.Table.{AreLayers, cell_at, cells_of, most_gain};
 
 use crate::cells::{cell_at, column_in, less_lead};
 use crate::grid::{TableGrid, kind_among, kinds};
@@ -88,17 +88,37 @@ impl<'a> Table<'a> {
         &self.grid
     }
 
-    /// The column of a label of a segment that isn't the last, in its row.
+    /// The column of a label, in its row; of the last segment any one serves.
     fn column_of(&self, segment: u16, rung: u8, label: Label, row: usize) -> usize
-        requires segment { segment + 1 < segments_of self.now.scene.film }
+        requires segment { segment < segments_of self.now.scene.film }
         requires rung { rung < rungs_of self.now.scene.film }
         requires label { CanFollow label }
         requires row { row ≡ row_of self.now.grid label.p }
-        ensures { result ≡ column_of self.now.scene self.now.grid segment label }
+        requires row_inside { row < length self.now.grid.rows }
+        ensures value { segment + 1 < segments_of self.now.scene.film
+            → result ≡ column_of self.now.scene self.now.grid segment label }
+        ensures inside { result ≤ self.now.grid.columns }
     {
+        if segment + 1 >= self.scene.film().segments() {
+            return 0;
+        }
         let request = RungLabel::new(self.scene, segment, rung, label).request();
         let late = less_lead(self.scene, segment + 1, request) / self.grid.step() as u64;
         column_in(&self.grid, self.grid.rows()[row] as u64, late)
+    }
+
+    /// The number of a cell and a kind with so many segments left.
+    fn number_at(&self, left: usize, cell: usize, kind: usize) -> i64
+        requires left { left < segments_of self.now.scene.film }
+        requires cell { cell < cells_of self.now.grid }
+        requires kind { kind < kinds_of self.now.scene }
+        ensures { (k column : ℕ) → cell ≡ cell_at self.now.grid k column
+            → k < length self.now.grid.rows
+            → column ≤ self.now.grid.columns
+            → result ≡ gain_left self.now.scene self.now.grid left kind k column }
+    {
+        let layer = &self.layers[left];
+        layer[cell * kinds(self.scene) + kind]
     }
 
     /// The completion bound of a label of a segment on a rung, in thousandths of a point: the most that it may still gain.
@@ -109,16 +129,12 @@ impl<'a> Table<'a> {
         ensures value { result ≡ gain_of self.now.scene self.now.grid segment rung label }
         ensures near { IsNear most_gain result }
     {
-        let last = self.scene.film().segments() - 1;
         let row = self.grid.row_of(label.p);
-        let column = if segment < last {
-            self.column_of(segment, rung, label, row)
-        } else {
-            0
-        };
-        let kinds = kinds(self.scene);
+        let column = self.column_of(segment, rung, label, row);
         let cell = cell_at(&self.grid, row, column);
-        self.layers[(last - segment) as usize][cell * kinds + kind_among(kinds, rung as usize)]
+        let left = self.scene.film().segments() - 1 - segment;
+        let kind = kind_among(kinds(self.scene), rung as usize);
+        self.number_at(left as usize, cell, kind)
     }
 
     /// What the lists through a label end at, at most, in thousandths of a point.
