@@ -1,7 +1,7 @@
 -- Completion bounds: how far they lie from 0, and where one serves all rungs.
 use Rattle.std.proofs.Common.{◌≡◌, ◌∙◌, ◌⊎◌, ℕ, zero, suc, ◌+◌, ◌-◌, ◌*◌, ◌<◌, ◌≤◌, ⊎_elim, true, false, refl, sym, ap, subst, arith, mul-le-mul}
 use Rattle.std.specs.Prelude.{ℤ, pos, ◌+ℤ◌, ◌-ℤ◌, ◌==◌, Some}
-use Rattle.std.proofs.lemmas.Bool.{cases_eq, cond-false, cond-true, eq-eqb, ne_eqb}
+use Rattle.std.proofs.lemmas.Bool.{cases_eq, cases_lt, cond-false, cond-true, eq-eqb, ne_eqb}
 use Rattle.std.proofs.lemmas.Int.{ints}
 use Rattle.lab_model.specs.Film.{rungs_of, segments_of}
 use Rattle.lab_model.specs.Number.{IsNear}
@@ -9,7 +9,7 @@ use Rattle.lab_model.specs.Weighing.{HasUtility, change_of, utility_of}
 use Rattle.lab_model.proofs.Rows.{utility_limit}
 use Rattle.player_core.specs.Scene.{IsTask, Task}
 use Rattle.labels.specs.Labels.{next_value}
-use Rattle.completion_bounds.specs.Gain.{column_of, gain_left, greatest_on, point_of}
+use Rattle.completion_bounds.specs.Gain.{column_of, gain, gain_left, greatest_on, point_of}
 use Rattle.completion_bounds.specs.Grid.{GridParts, IsTableGrid, kinds_of, row_delay, row_of}
 use Rattle.completion_bounds.specs.Table.{kind_among, most_gain, most_step, step_gain}
 use Rattle.completion_bounds.proofs.Bounded.{gain_last, gain_next, gain_on}
@@ -109,3 +109,13 @@ kind_less kinds n q one_or_all low =
     ⊎_elim (λ (one : kinds ≡ 1). let e = cond-true (kinds == 1) 0 q (eq-eqb kinds 1 one) in omega (arith, e, one))
     (λ more. let e = cond-false (kinds == 1) 0 q (ne_eqb kinds 1 more) in
     ⊎_elim (λ (one : kinds ≡ 1). absurd (more one)) (λ (all : kinds ≡ n). omega (arith, e, all, low)) one_or_all) (cases_eq kinds 1)
+
+-- the number of a rung's kind is its completion bound; of the last segment the column doesn't count
+pub number_is_gain : (g : Task) (d : GridParts) (segment q k c own left : ℕ) → q < rungs_of g.film → left ≡ segments_of g.film - (segment + 1) → (segment + 1 < segments_of g.film → c ≡ own)
+    → gain_left g d left (kind_among (kinds_of g) q) k c ≡ gain g d segment q k own
+number_is_gain g d segment q k c own left rung e same =
+    kind_serves g d left q k c rung
+    ∙ ⊎_elim (λ (inside : segment + 1 < segments_of g.film). ap (gain_left g d left q k) (same inside) ∙ ap (λ n. gain_left g d n q k own) e)
+    (λ last.
+    let none : left ≡ 0 = omega (arith, e, last) in
+    ap (λ n. gain_left g d n q k c) none ∙ gain_last g d q k c ∙ sym (gain_last g d q k own) ∙ ap (λ n. gain_left g d n q k own) (sym none ∙ e)) (cases_lt (segment + 1) (segments_of g.film))

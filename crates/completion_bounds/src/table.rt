@@ -99,7 +99,7 @@ impl<'a> Table<'a> {
             → result ≡ column_of self.now.scene self.now.grid segment label }
         ensures inside { result ≤ self.now.grid.columns }
     {
-        if segment + 1 >= self.scene.film().segments() {
+        if segment >= self.scene.film().segments() - 1 {
             return 0;
         }
         let request = RungLabel::new(self.scene, segment, rung, label).request();
