@@ -1,6 +1,6 @@
 -- Completion bounds along a list, and the table's bound.
-use Rattle.std.proofs.Common.{◌≡◌, ◌∙◌, ℕ, zero, suc, ◌+◌, ◌-◌, ◌<◌, ◌≤◌, List, [], ◌∷◌, length, refl, sym, ap, subst, arith, add-one}
-use Rattle.std.specs.Prelude.{ℤ, ◌+ℤ◌, ◌≤ℤ◌, slice_index}
+use Rattle.std.proofs.Common.{◌≡◌, ◌∙◌, ℕ, zero, suc, ◌+◌, ◌-◌, ◌<◌, List, [], ◌∷◌, length, refl, sym, ap, subst, arith, add-one}
+use Rattle.std.specs.Prelude.{◌≤ℤ◌, slice_index}
 use Rattle.std.specs.List.{All}
 use Rattle.std.proofs.lemmas.List.Elements.{All-cons, All-nil}
 use Rattle.lab_model.proofs.Orders.{≤ℤ_trans}
@@ -11,8 +11,7 @@ use Rattle.labels.proofs.Covered.{rung_at}
 use Rattle.labels.proofs.LabelsAreValues.{labels_are_values}
 use Rattle.labels.proofs.Path.{label_first, label_next}
 use Rattle.completion_bounds.specs.Bound.{most_of, table_bound}
-use Rattle.completion_bounds.specs.Gain.{column_of, gain, gain_of}
-use Rattle.completion_bounds.specs.Grid.{GridParts, IsTableGrid, row_of}
+use Rattle.completion_bounds.specs.Grid.{GridParts, IsTableGrid}
 use Rattle.completion_bounds.specs.Laws.{HopelessEndBelow, TableBounds, label_after}
 use Rattle.completion_bounds.proofs.Bounded.{completions_bounded}
 use Rattle.completion_bounds.proofs.Greatest.{greatest_bounds}

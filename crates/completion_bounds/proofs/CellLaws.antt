@@ -1,10 +1,10 @@
 -- The cells of labels that come at an instant.
-use Rattle.std.proofs.Common.{◌≡◌, ◌∙◌, ◌⊎◌, ℕ, zero, suc, ◌+◌, ◌-◌, ◌*◌, ◌/◌, ◌<◌, ◌≤◌, ⊎_elim, length, refl, sym, ap, ap₂, subst, arith, mul-le-mul_left}
+use Rattle.std.proofs.Common.{◌≡◌, ◌∙◌, ℕ, ◌+◌, ◌-◌, ◌*◌, ◌/◌, ◌<◌, ◌≤◌, ⊎_elim, length, sym, ap, arith}
 use Rattle.std.specs.Prelude.{max, min}
 use Rattle.std.proofs.Math.Nat.{mul-div-le, mul-div_cancel_left}
 use Rattle.std.proofs.lemmas.Bool.{cases_lt}
 use Rattle.std.proofs.lemmas.Nat.{le-div}
-use Rattle.player_core.specs.Scene.{IsTask, Task}
+use Rattle.player_core.specs.Scene.{Task}
 use Rattle.labels.specs.Labels.{request_at, there_at}
 use Rattle.completion_bounds.specs.declared.cells.Way.{Way}
 use Rattle.completion_bounds.specs.Gain.{column_at, column_of, less_lead}

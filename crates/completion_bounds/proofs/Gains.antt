@@ -1,5 +1,5 @@
 -- Completion bounds: how far they lie from 0, and where one serves all rungs.
-use Rattle.std.proofs.Common.{◌≡◌, ◌∙◌, ◌⊎◌, ℕ, zero, suc, ◌+◌, ◌-◌, ◌*◌, ◌<◌, ◌≤◌, ⊎_elim, true, false, refl, sym, ap, subst, arith, mul-le-mul}
+use Rattle.std.proofs.Common.{◌≡◌, ◌∙◌, ◌⊎◌, ℕ, zero, suc, ◌+◌, ◌-◌, ◌*◌, ◌<◌, ◌≤◌, ⊎_elim, sym, ap, subst, arith, mul-le-mul}
 use Rattle.std.specs.Prelude.{ℤ, pos, ◌+ℤ◌, ◌-ℤ◌, ◌==◌, Some}
 use Rattle.std.proofs.lemmas.Bool.{cases_eq, cases_lt, cond-false, cond-true, eq-eqb, ne_eqb}
 use Rattle.std.proofs.lemmas.Int.{ints}
@@ -8,8 +8,7 @@ use Rattle.lab_model.specs.Number.{IsNear}
 use Rattle.lab_model.specs.Weighing.{HasUtility, change_of, utility_of}
 use Rattle.lab_model.proofs.Rows.{utility_limit}
 use Rattle.player_core.specs.Scene.{IsTask, Task}
-use Rattle.labels.specs.Labels.{next_value}
-use Rattle.completion_bounds.specs.Gain.{column_of, gain, gain_left, greatest_on, point_of}
+use Rattle.completion_bounds.specs.Gain.{column_of, gain, gain_left, point_of}
 use Rattle.completion_bounds.specs.Grid.{GridParts, IsTableGrid, kinds_of, row_delay, row_of}
 use Rattle.completion_bounds.specs.Table.{kind_among, most_gain, most_step, step_gain}
 use Rattle.completion_bounds.proofs.Bounded.{gain_last, gain_next, gain_on}

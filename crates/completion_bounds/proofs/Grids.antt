@@ -1,10 +1,9 @@
 -- Grids: when one is within its limits, and which row a delay has.
-use Rattle.std.proofs.Common.{◌≡◌, ◌∙◌, ◌⊎◌, ℕ, zero, suc, ◌+◌, ◌-◌, ◌*◌, ◌<◌, ◌≤◌, ⊎_elim, Bool, true, false, length, refl, sym, ap, subst, arith, leb-true, le-leb, mul-le-mul_left}
-use Rattle.std.specs.Prelude.{nat_le, slice_index}
+use Rattle.std.proofs.Common.{◌≡◌, ◌∙◌, ℕ, zero, suc, ◌+◌, ◌-◌, ◌*◌, ◌<◌, ◌≤◌, ⊎_elim, Bool, true, false, length, sym, ap, subst, arith, le-leb, mul-le-mul_left}
+use Rattle.std.specs.Prelude.{nat_le}
 use Rattle.std.specs.List.Sorted.{IsStrictlyIncreasing}
 use Rattle.std.proofs.lemmas.Bool.{cases_Bool, cases_eq, cases_lt, cond-false, cond-true}
 use Rattle.std.proofs.lemmas.List.{get_or_past}
-use Rattle.lab_model.specs.Film.{IsWithin}
 use Rattle.completion_bounds.specs.Grid.{GridParts, IsTableGrid, last_passing, longest_delay, row_delay, row_of, row_steps}
 
 -- a later row isn't shorter

@@ -1,13 +1,13 @@
 -- Layers: number by number, cell by cell and sum by sum.
-use Rattle.std.proofs.Common.{◌≡◌, ◌∙◌, ◌⊎◌, inl, inr, ℕ, zero, suc, ◌+◌, ◌-◌, ◌*◌, ◌/◌, ◌<◌, ◌≤◌, ⊎_elim, List, [], ◌∷◌, ◌++◌, length, length-append, refl, sym, ap, ap₂, subst, arith, mul-le-mul_left}
-use Rattle.std.specs.Prelude.{ℤ, pos, ◌+ℤ◌, ◌-ℤ◌, max, min, Some, slice_index_or, slice_set, Vec}
+use Rattle.std.proofs.Common.{◌≡◌, ◌∙◌, ◌⊎◌, inl, inr, ℕ, suc, ◌+◌, ◌-◌, ◌*◌, ◌/◌, ◌<◌, ◌≤◌, ⊎_elim, List, [], ◌∷◌, ◌++◌, length, length-append, refl, sym, ap, ap₂, subst, arith, mul-le-mul_left}
+use Rattle.std.specs.Prelude.{ℤ, pos, ◌+ℤ◌, ◌-ℤ◌, max, Some, slice_index_or, slice_set, Vec}
 use Rattle.std.specs.Global.{Global}
 use Rattle.std.specs.List.{All}
 use Rattle.std.proofs.Math.Nat.{div-lt_iff_lt-mul, div-mul-le_self, lt-div-mul-add}
 use Rattle.std.proofs.Math.Seq.{get_or-append_seam}
 use Rattle.std.proofs.lemmas.Bool.{cases_eq, cases_lt}
 use Rattle.std.proofs.lemmas.Int.{ints}
-use Rattle.std.proofs.lemmas.List.{get_or-set_other, get_or-set_same, get_or_append_left, length-set}
+use Rattle.std.proofs.lemmas.List.{get_or-set_other, get_or-set_same, get_or_append_left}
 use Rattle.std.proofs.lemmas.List.Elements.{All-from_get_or}
 use Rattle.std.proofs.lemmas.Nat.{div-mul-add, mul-add-lt}
 use Rattle.lab_model.specs.Film.{rungs_of, segments_of, size_of}
@@ -18,10 +18,11 @@ use Rattle.network_clock.proofs.Downloads.{done_found}
 use Rattle.network_clock.proofs.Flows.{trace_flows}
 use Rattle.player_core.proofs.Runs.{size_within}
 use Rattle.player_core.specs.Scene.{IsTask, Task}
-use Rattle.labels.specs.Labels.{came_at, next_value}
-use Rattle.completion_bounds.specs.declared.cells.Way.{Way}
+use Rattle.labels.specs.Labels.{came_at, next_value, start_label}
+use Rattle.labels.specs.Near.{CanFollow}
+use Rattle.labels.proofs.Reached.{reach_follows, start_reach, well_in_reach}
 use Rattle.completion_bounds.specs.Gain.{column_of, gain_left, greatest_to}
-use Rattle.completion_bounds.specs.Grid.{GridParts, IsGridOf, IsTableGrid, kinds_of, layer_numbers, row_delay, row_of, row_steps}
+use Rattle.completion_bounds.specs.Grid.{GridParts, IsTableGrid, kinds_of, layer_numbers, row_delay, row_of, row_steps}
 use Rattle.completion_bounds.specs.Table.{AreGains, AreGainsTo, AreStepGains, AreStepGainsTo, AreLayers, IsLayer, IsLayerAt, IsLayerBelow, came_after, cell_at, cell_of, cells_of, kind_among, most_gain, most_step, request_after, step_gain}
 use Rattle.completion_bounds.proofs.Bounded.{gain_last, gain_next, gain_on}
 use Rattle.completion_bounds.proofs.Gains.{gain_near, kind_inside, kind_serves, step_near}
@@ -85,7 +86,7 @@ gains_more g d left i steps row to gains behind cell v some rung inside at layer
   each = λ r low. ⊎_elim (λ (new : r ≡ to).
       let l = came_after g d i (came_at g (request_after g d i steps) i to) row in
       subst (λ x. slice_index_or (slice_set gains to v) x (pos 0)
-          ≡ (let m = came_after g d i (came_at g (request_after g d i steps) i x) row in gain_left g d left x (row_of d m.p) (column_of g d i m))) (sym new)
+      ≡ (let m = came_after g d i (came_at g (request_after g d i steps) i x) row in gain_left g d left x (row_of d m.p) (column_of g d i m))) (sym new)
       (get_or-set_same gains to v (pos 0) inside ∙ e
       ∙ ap (λ c. slice_index_or behind (c * kinds_of g + kind_among (kinds_of g) to) (pos 0)) at
       ∙ layer.each (row_of d l.p) (column_of g d i l) (kind_among (kinds_of g) to) (row_inside d some l.p) (omega arith) (kind_inside g to rung)
@@ -173,7 +174,7 @@ module _ (g : Task) (d : GridParts) where
       → length new ≡ length old
       → ((x : ℕ) → (x < cell_at d row (steps - row_steps d row) * kinds_of g) ⊎ (cell_at d row (steps - row_steps d row) * kinds_of g + kinds_of g ≤ x) → slice_index_or new x (pos 0) ≡ slice_index_or old x (pos 0))
       → ((q : ℕ) → q < kinds_of g → slice_index_or new (cell_at d row (steps - row_steps d row) * kinds_of g + q) (pos 0)
-          ≡ greatest_to (λ r. slice_index_or own (q * length gains + r) (pos 0) +ℤ slice_index_or gains r (pos 0)) (length gains - 1))
+      ≡ greatest_to (λ r. slice_index_or own (q * length gains + r) (pos 0) +ℤ slice_index_or gains r (pos 0)) (length gains - 1))
       → IsLayerAt g d (suc left) steps row old → IsLayerAt g d (suc left) steps (row + 1) new
   layer_more left i steps row own gains old new whole some low high h k count kept put before =
       let column = steps - row_steps d row in
@@ -264,3 +265,7 @@ layers_more g d n held v h layer =
 -- the first of them
 pub layers_one : (g : Task) (d : GridParts) (v : Vec ℤ Global) → IsLayer g d 0 v.items → AreLayers g d 1 ([] ++ v ∷ [])
 layers_one g d v layer = layers_more g d 0 [] v (record { count = refl; each = λ left none low. absurd (omega (arith, low)) }) layer
+
+-- a start label may be followed
+pub start_follows : (g : Task) → IsTask g → (q : ℕ) → q < rungs_of g.film → CanFollow (start_label g q)
+start_follows g is q rung = reach_follows 0 (start_label g q) (omega arith) (well_in_reach 0 (start_label g q) (start_reach g is q rung))

@@ -1,12 +1,12 @@
 -- Rows of delays: the row of a delay isn't longer, and a request isn't earlier than that of its row and column.
-use Rattle.std.proofs.Common.{◌≡◌, ◌∙◌, ◌⊎◌, ℕ, zero, suc, ◌+◌, ◌-◌, ◌*◌, ◌/◌, ◌<◌, ◌≤◌, ⊎_elim, Bool, true, false, length, sym, ap, subst, arith, leb-true, le-leb, mul-le-mul_left}
-use Rattle.std.specs.Prelude.{max, min, nat_le, if◌then◌else◌}
+use Rattle.std.proofs.Common.{◌≡◌, ◌∙◌, ℕ, zero, suc, ◌+◌, ◌-◌, ◌*◌, ◌/◌, ◌≤◌, ⊎_elim, Bool, true, false, length, sym, ap, subst, arith, leb-true, le-leb, mul-le-mul_left}
+use Rattle.std.specs.Prelude.{min, nat_le}
 use Rattle.std.proofs.Math.Nat.{mul-div-le}
 use Rattle.std.proofs.lemmas.Bool.{cases_Bool, cond-false, cond-true}
 use Rattle.std.proofs.lemmas.Nat.{le-div}
 use Rattle.lab_model.specs.declared.label.Label.{Label}
 use Rattle.player_core.specs.Scene.{Task}
-use Rattle.labels.specs.Labels.{request_at, there_at}
+use Rattle.labels.specs.Labels.{request_at}
 use Rattle.completion_bounds.specs.Gain.{column_at, request_of}
 use Rattle.completion_bounds.specs.Grid.{GridParts, IsTableGrid, last_passing, row_delay, row_of, row_steps}
 

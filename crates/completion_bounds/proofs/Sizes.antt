@@ -1,11 +1,11 @@
 -- How large tables are.
-use Rattle.std.proofs.Common.{◌≡◌, ◌∙◌, ◌⊎◌, inl, inr, ℕ, zero, suc, ◌+◌, ◌-◌, ◌*◌, ◌/◌, ◌<◌, ◌≤◌, ⊎_elim, true, false, length, sym, ap, subst, arith, mul-le-mul, mul-le-mul_left}
+use Rattle.std.proofs.Common.{◌≡◌, ◌∙◌, ◌⊎◌, inl, inr, ℕ, ◌+◌, ◌*◌, ◌/◌, ◌<◌, ◌≤◌, ⊎_elim, true, false, length, sym, ap, arith, mul-le-mul, mul-le-mul_left}
 use Rattle.std.specs.Prelude.{◌==◌}
 use Rattle.std.proofs.lemmas.Bool.{cases_Bool, cond-false, cond-true, eqb-true}
 use Rattle.std.proofs.lemmas.Nat.{div-mul-add, mul-add-lt}
 use Rattle.lab_model.specs.Film.{rungs_of, segments_of}
 use Rattle.player_core.specs.Scene.{IsTask, Task}
-use Rattle.completion_bounds.specs.Grid.{GridParts, IsGridOf, IsTableGrid, kinds_of, layer_numbers, most_numbers}
+use Rattle.completion_bounds.specs.Grid.{GridParts, IsGridOf, kinds_of, layer_numbers, most_numbers}
 use Rattle.completion_bounds.specs.Table.{cell_at, cells_of}
 
 -- the kinds are one, or the rungs

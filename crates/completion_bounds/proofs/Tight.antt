@@ -1,12 +1,12 @@
 -- The tight setup changes no label and no value of any list.
-use Rattle.std.proofs.Common.{◌≡◌, ◌∙◌, ℕ, zero, suc, ◌+◌, ◌-◌, ◌*◌, ◌<◌, ◌≤◌, List, refl, sym, ap, subst, arith, mul-le-mul}
+use Rattle.std.proofs.Common.{◌≡◌, ◌∙◌, ℕ, zero, suc, ◌+◌, ◌-◌, ◌*◌, ◌<◌, ◌≤◌, List, sym, ap, subst, arith, mul-le-mul}
 use Rattle.std.specs.Prelude.{max, min, slice_index}
 use Rattle.lab_model.specs.declared.label.Label.{Label}
-use Rattle.lab_model.specs.Film.{rungs_of, segments_of, size_of}
+use Rattle.lab_model.specs.Film.{segments_of, size_of}
 use Rattle.network_clock.specs.Network.{period_at}
 use Rattle.network_clock.proofs.Downloads.{done_from}
-use Rattle.player_core.specs.Scene.{IsTask, Task}
-use Rattle.labels.specs.Labels.{AreRungs, came_at, end_value, label_at, next_label, next_value, request_at, there_at}
+use Rattle.player_core.specs.Scene.{Task}
+use Rattle.labels.specs.Labels.{came_at, end_value, label_at, next_label, next_value, request_at, there_at}
 use Rattle.labels.proofs.LabelsAreValues.{labels_are_values}
 use Rattle.labels.proofs.Path.{label_first, label_next}
 use Rattle.completion_bounds.specs.Laws.{TightFits, TightLabels, TightValues}
@@ -39,8 +39,8 @@ same_labels g is rungs h (suc i) low =
     let r = slice_index rungs (suc i) in
     let l = label_at g rungs i in
     let made : ℕ → Label = λ request.
-        let t = came_at g request (suc i) r in
-        record { t = t; p = max l.p (t - suc i * g.film.seg_ms); v = next_value g.setup.weights (suc i) q l.v r } in
+    let t = came_at g request (suc i) r in
+    record { t = t; p = max l.p (t - suc i * g.film.seg_ms); v = next_value g.setup.weights (suc i) q l.v r } in
     label_next (tight g) rungs i
     ∙ ap (λ m. next_label (tight g) (suc i) q m r) (same_labels g is rungs h i (omega (arith, low)))
     ∙ ap made (same_request (segments_of g.film) i g.film.seg_ms g.setup.buffer_ms l.t l.p (there_at g (suc i)) low (delay_low g rungs i))

@@ -1,10 +1,9 @@
 -- Not part of the model: what the proofs keep.
 -- What stands in a table, and how it is found.
-use Rattle.std.specs.Prelude.{◌≡◌, ◌⊎◌, ℕ, ◌+◌, ◌-◌, ◌*◌, ◌/◌, ◌<◌, ◌≤◌, ◌==◌, List, length, max, Some, ℤ, pos, ◌+ℤ◌, ◌-ℤ◌, slice_index_or, if◌then◌else◌, Vec}
+use Rattle.std.specs.Prelude.{◌≡◌, ◌⊎◌, ℕ, ◌+◌, ◌-◌, ◌*◌, ◌/◌, ◌<◌, ◌≤◌, ◌==◌, List, length, max, Some, ℤ, pos, ◌-ℤ◌, slice_index_or, if◌then◌else◌, Vec}
 use Rattle.std.specs.Global.{Global}
 use Rattle.lab_model.specs.declared.label.Label.{Label}
 use Rattle.lab_model.specs.Film.{rungs_of, segments_of}
-use Rattle.lab_model.specs.Number.{IsNear}
 use Rattle.lab_model.specs.Weighing.{Weighing, change_of, utility_of}
 use Rattle.player_core.specs.Scene.{IsTask, Task}
 use Rattle.labels.specs.Labels.{came_at, there_at}

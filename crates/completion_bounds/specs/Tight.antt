@@ -1,5 +1,5 @@
 -- The tight setup: no list needs a buffer that holds more than the film.
-use Rattle.std.specs.Prelude.{ℕ, ◌*◌, min}
+use Rattle.std.specs.Prelude.{◌*◌, min}
 use Rattle.lab_model.specs.declared.setup.Setup.{Setup}
 use Rattle.lab_model.specs.Film.{Film, segments_of}
 use Rattle.player_core.specs.Scene.{Task}

@@ -28,7 +28,7 @@ pub struct TableGrid {
 
 impl Model for TableGrid {
     ghost use Rattle.completion_bounds.specs.Table.{kind_among};
-ghost use Rattle.completion_bounds.specs.Grid.{GridParts, IsTableGrid};
+    ghost use Rattle.completion_bounds.specs.Grid.{GridParts, IsTableGrid};
 
     ghost Value = { GridParts };
 

@@ -146,7 +146,7 @@ fn fill_cell(layer: &mut [i64], cell: usize, kinds: usize, own: &[i64], gains: &
         → slice_index_or layer.new x (pos 0) ≡ slice_index_or layer.old x (pos 0) }
     ensures put { (q : ℕ) → q < kinds → slice_index_or layer.new (cell * kinds + q) (pos 0)
         ≡ greatest_to (λ r. slice_index_or own.now (q * length gains.now + r) (pos 0)
-            +ℤ slice_index_or gains.now r (pos 0)) (length gains.now - 1) }
+        +ℤ slice_index_or gains.now r (pos 0)) (length gains.now - 1) }
 {
     let rungs = gains.len();
     for kind in 0..kinds {

@@ -5,7 +5,7 @@ ghost use Rattle.lab_model.specs.Film.{rungs_of, segments_of};
 ghost use Rattle.lab_model.specs.Number.{IsNear};
 ghost use Rattle.player_core.specs.Scene.{IsTask};
 ghost use Rattle.labels.specs.Best.{task_value};
-ghost use Rattle.labels.specs.Labels.{AreRungs};
+ghost use Rattle.labels.specs.Labels.{AreRungs, start_label};
 ghost use Rattle.labels.specs.Near.{CanFollow};
 ghost use Rattle.completion_bounds.specs.Bound.{IsHopeless, most_of, table_bound};
 ghost use Rattle.completion_bounds.specs.Gain.{column_of, gain_left, gain_of};
@@ -64,11 +64,7 @@ fn layers_of(
 
 impl<'a> Table<'a> {
     /// The table of a scene on a grid that fits it. It takes 8 bytes for each of its numbers.
-    pub fn new(
-        alloc: Global,
-        scene: &'a Scene<'a>,
-        grid: TableGrid,
-    ) -> Result<Table<'a>, NoMemory>
+    pub fn new(alloc: Global, scene: &'a Scene<'a>, grid: TableGrid) -> Result<Table<'a>, NoMemory>
         requires { IsGridOf scene.now grid }
         ensures value { IfOk result (λ t. t ≡ record { scene = scene.entry.now; grid = grid }) }
     {
@@ -158,6 +154,16 @@ impl<'a> Table<'a> {
         self.most_of(segment, rung, label) <= most
     }
 
+    /// What the lists that begin with a rung end at, at most, in thousandths of a point.
+    fn most_of_start(&self, rung: u8) -> i128
+        requires { rung < rungs_of self.now.scene.film }
+        ensures { result ≡ most_of self.now.scene self.now.grid 0 rung
+            (start_label self.now.scene rung) }
+    {
+        prove!(self.scene.film().segments() > 0);
+        self.most_of(0, rung, start_on(self.scene, rung))
+    }
+
     /// The table's bound, in thousandths of a point: no rung list has a greater value.
     pub fn bound(&self) -> i128
         ensures value { result ≡ table_bound self.now.scene self.now.grid }
@@ -165,9 +171,10 @@ impl<'a> Table<'a> {
             → AreRungs self.now.scene (segments_of self.now.scene.film) rungs
             → task_value self.now.scene rungs ≤ℤ result }
     {
-        let mut best = self.most_of(0, 0, start_on(self.scene, 0));
-        for rung in 1..self.scene.film().rungs() {
-            best = best.max(self.most_of(0, rung, start_on(self.scene, rung)));
+        let count = self.scene.film().rungs();
+        let mut best = self.most_of_start(0);
+        for rung in 1..count {
+            best = best.max(self.most_of_start(rung));
         }
         best
     }

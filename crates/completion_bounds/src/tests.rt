@@ -292,11 +292,7 @@ fn tables_say(rt: HostRuntime) -> Result<(), Fail> {
         let table = Table::new(alloc, &scene, grid)?;
         assert_eq!(rt; table.bound(), case.bound, "bound of case {number}");
         for (segment, rung, t, p, gain) in case.gains {
-            let label = Label {
-                t: *t,
-                p: *p,
-                v: 0,
-            };
+            let label = Label { t: *t, p: *p, v: 0 };
             assert!(rt; *segment < film.segments() && *rung < film.rungs());
             assert!(rt; *t < 1_000_000_000 && *p < 1_000_000_000);
             let found = table.gain(*segment, *rung, label);

@@ -1,5 +1,5 @@
 use mir.Val.{SFits, of_z, to_z}
-use Rattle.std.proofs.Common.{◌≡◌, ◌∙◌, ℕ, suc, ◌+◌, ◌-◌, ◌≤◌, ◌<◌, length, sym, ap, arith, rules}
+use Rattle.std.proofs.Common.{◌≡◌, ◌∙◌, ℕ, suc, ◌+◌, ◌-◌, sym, ap, arith, rules}
 use Rattle.std.specs.Int.{int_max, w64}
 use Rattle.std.specs.Prelude.{ℤ, pos, ◌+ℤ◌, slice_index_or}
 use Rattle.std.proofs.lemmas.Int.{ints}

@@ -1,8 +1,8 @@
-use Rattle.std.proofs.Common.{◌≡◌, ◌∙◌, ◌⊎◌, inl, inr, ⊎_elim, ℕ, suc, ◌+◌, ◌-◌, ◌*◌, ◌≤◌, ◌<◌, length, sym, ap, ap₂, subst, arith, mul-le-mul}
+use Rattle.std.proofs.Common.{◌≡◌, ◌∙◌, inl, inr, ⊎_elim, ℕ, suc, ◌+◌, ◌-◌, ◌*◌, ◌≤◌, ◌<◌, length, sym, ap, ap₂, subst, arith, mul-le-mul}
 use Rattle.std.specs.Prelude.{pos, slice_index, slice_index_or}
 use Rattle.lab_model.specs.Film.{segments_of}
 use Rattle.completion_bounds.specs.Grid.{kinds_of, row_steps}
-use Rattle.completion_bounds.specs.Table.{IsLayerAt, IsLayerBelow, cell_at, cells_of}
+use Rattle.completion_bounds.specs.Table.{IsLayerAt, cell_at, cells_of}
 use Rattle.completion_bounds.proofs.Grids.{rows_in_order}
 use Rattle.completion_bounds.proofs.LayerLaws.{gains_near, layer_first, layer_last, layer_more, steps_near}
 use Rattle.completion_bounds.proofs.Sizes.{cells_few, columns_few, layer_few, steps_low}

@@ -1,5 +1,5 @@
-use Rattle.std.proofs.Common.{◌≡◌, ◌∙◌, ◌⊎◌, ◌+◌, ◌<◌, ⊎_elim, sym, ap, subst, arith, length}
-use Rattle.std.specs.Prelude.{ℕ, slice_index_or, slice_set}
+use Rattle.std.proofs.Common.{◌≡◌, ◌∙◌, ◌<◌, ⊎_elim, sym, ap, subst, arith, length}
+use Rattle.std.specs.Prelude.{slice_index_or, slice_set}
 use Rattle.std.proofs.lemmas.Bool.{cases_eq}
 use Rattle.std.proofs.lemmas.List.{get_or-set_other, get_or-set_same, length-set}
 use Rattle.lab_model.specs.Film.{size_of}
@@ -18,9 +18,9 @@ new-requires-clause-came c =
     let count = c.loop-rung.invariant.count in
     let asked = request_after g d i c.args.steps in
     let came : c.done-came.result ≡ came_at g asked i r =
-        c.done-came.ensures ∙ ap (λ ps. done_at ps c.request-asked.result.start c.size.result) (c.request-asked.ensures.periods ∙ c.clock.ensures.value)
-        ∙ ap (λ s. done_at g.periods s c.size.result) (c.request-asked.ensures.start ∙ c.request_after.ensures.value)
-        ∙ ap (done_at g.periods asked) (c.size.ensures.value ∙ ap (λ f. size_of f i r) c.film.ensures.value) in
+    c.done-came.ensures ∙ ap (λ ps. done_at ps c.request-asked.result.start c.size.result) (c.request-asked.ensures.periods ∙ c.clock.ensures.value)
+    ∙ ap (λ s. done_at g.periods s c.size.result) (c.request-asked.ensures.start ∙ c.request_after.ensures.value)
+    ∙ ap (done_at g.periods asked) (c.size.ensures.value ∙ ap (λ f. size_of f i r) c.film.ensures.value) in
     let soon = came_soon g c.film.ensures.task asked i r c.requires.segment (omega (arith, count)) in
     let limit = c.request_after.ensures.limit in
     let value = c.request_after.ensures.value in
@@ -37,9 +37,9 @@ loop-rung-preserved c =
     let asked = request_after g d i c.args.steps in
     let inside : to < length ways = omega arith in
     let came : c.done-came.result ≡ came_at g asked i to =
-        c.done-came.ensures ∙ ap (λ ps. done_at ps c.request-asked.result.start c.size.result) (c.request-asked.ensures.periods ∙ c.clock.ensures.value)
-        ∙ ap (λ s. done_at g.periods s c.size.result) (c.request-asked.ensures.start ∙ c.request_after.ensures.value)
-        ∙ ap (done_at g.periods asked) (c.size.ensures.value ∙ ap (λ f. size_of f i to) c.film.ensures.value) in
+    c.done-came.ensures ∙ ap (λ ps. done_at ps c.request-asked.result.start c.size.result) (c.request-asked.ensures.periods ∙ c.clock.ensures.value)
+    ∙ ap (λ s. done_at g.periods s c.size.result) (c.request-asked.ensures.start ∙ c.request_after.ensures.value)
+    ∙ ap (done_at g.periods asked) (c.size.ensures.value ∙ ap (λ f. size_of f i to) c.film.ensures.value) in
     record {
       count = length-set ways to way ∙ c.loop-rung.invariant.count;
       each = λ r low. ⊎_elim (λ (new : r ≡ to).

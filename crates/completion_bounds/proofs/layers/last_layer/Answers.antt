@@ -1,9 +1,9 @@
 use mir.Val.{SFits, of_z, to_z}
-use Rattle.std.proofs.Common.{◌≡◌, ◌∙◌, ℕ, ◌+◌, ◌-◌, ◌*◌, ◌/◌, ◌<◌, [], ◌∷◌, ◌++◌, length, length-append, sym, ap, ap₂, subst, arith, rules}
+use Rattle.std.proofs.Common.{◌≡◌, ◌∙◌, ℕ, ◌*◌, ◌/◌, [], ◌∷◌, length, length-append, ap, ap₂, arith, rules}
 use Rattle.std.specs.Int.{w64}
 use Rattle.std.specs.Prelude.{ℤ, pos, ◌-ℤ◌, slice_index, slice_index_or}
 use Rattle.std.proofs.lemmas.Int.{to_z-of_z}
-use Rattle.completion_bounds.specs.Grid.{kinds_of, row_delay}
+use Rattle.completion_bounds.specs.Grid.{row_delay}
 use Rattle.completion_bounds.proofs.LayerLaws.{last_is_layer, last_more}
 use Rattle.completion_bounds.proofs.Sizes.{layer_few, row_few}
 use Rattle.completion_bounds.proofs.layers.last_layer.Goals as goal

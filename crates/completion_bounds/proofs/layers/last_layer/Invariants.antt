@@ -1,4 +1,4 @@
-use Rattle.std.proofs.Common.{◌≡◌, ℕ, ◌+◌, ◌*◌, ◌/◌, ◌<◌, length, pos, ◌-ℤ◌, slice_index_or}
+use Rattle.std.proofs.Common.{◌≡◌, ℕ, ◌*◌, ◌/◌, ◌<◌, length, pos, ◌-ℤ◌, slice_index_or}
 use Rattle.completion_bounds.specs.Grid.{row_delay}
 use Rattle.completion_bounds.proofs.layers.last_layer.Given as goal
 

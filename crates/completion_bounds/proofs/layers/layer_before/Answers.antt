@@ -1,11 +1,11 @@
-use Rattle.std.proofs.Common.{◌≡◌, ◌∙◌, ◌⊎◌, ⊎_elim, ℕ, suc, ◌+◌, ◌-◌, ◌*◌, ◌≤◌, ◌<◌, length, max, sym, ap, ap₂, subst, arith, rules, Fits, w32}
+use Rattle.std.proofs.Common.{◌≡◌, ◌∙◌, ⊎_elim, ◌+◌, ◌-◌, length, max, sym, ap, subst, arith, rules, Fits, w32}
 use Rattle.std.specs.Prelude.{slice_index}
 use Rattle.std.proofs.lemmas.Bool.{cases_eq}
 use Rattle.lab_model.specs.Film.{segments_of}
 use Rattle.completion_bounds.specs.Grid.{row_steps}
 use Rattle.completion_bounds.specs.Table.{IsLayerBelow}
 use Rattle.completion_bounds.proofs.Grids.{rows_in_order}
-use Rattle.completion_bounds.proofs.LayerLaws.{layer_all, layer_none, layer_skip, layer_weaker}
+use Rattle.completion_bounds.proofs.LayerLaws.{layer_all, layer_skip, layer_weaker}
 use Rattle.completion_bounds.proofs.Sizes.{cells_few, columns_few}
 use Rattle.completion_bounds.proofs.layers.layer_before.Goals as goal
 

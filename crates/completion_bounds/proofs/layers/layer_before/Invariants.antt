@@ -1,4 +1,4 @@
-use Rattle.std.proofs.Common.{◌≡◌, ℕ, ◌+◌, ◌-◌, ◌<◌, ◌≤◌, length}
+use Rattle.std.proofs.Common.{◌≡◌, ℕ, ◌+◌, ◌-◌, ◌<◌, length}
 use Rattle.lab_model.specs.Film.{rungs_of, segments_of}
 use Rattle.completion_bounds.specs.Grid.{row_steps}
 use Rattle.completion_bounds.specs.Table.{IsLayerBelow}

@@ -1,4 +1,4 @@
-use Rattle.std.proofs.Common.{◌≤◌, ◌<◌, ◌^◌, arith, rules, Fits, w32, w64}
+use Rattle.std.proofs.Common.{arith, rules, Fits, w32, w64}
 use Rattle.completion_bounds.proofs.Sizes.{kinds_within, numbers_fit}
 use Rattle.completion_bounds.proofs.grid.TableGrid.fits.Goals as goal
 

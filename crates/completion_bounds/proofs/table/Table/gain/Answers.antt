@@ -1,5 +1,5 @@
 use mir.Val.{SFits, of_z, to_z}
-use Rattle.std.proofs.Common.{◌≡◌, ◌∙◌, ℕ, ◌+◌, ◌-◌, ◌<◌, ◌≤◌, length, sym, ap, subst, arith, rules}
+use Rattle.std.proofs.Common.{◌≡◌, ◌∙◌, ◌+◌, ◌-◌, ◌<◌, length, sym, ap, subst, arith, rules}
 use Rattle.std.specs.Int.{w64}
 use Rattle.std.proofs.lemmas.Int.{to_z-of_z}
 use Rattle.lab_model.specs.Film.{segments_of}
@@ -36,10 +36,10 @@ returns c =
     let own = c.row_of-row.ensures.value ∙ ap (λ x. row_of x l.p) grid in
     let fits : SFits w64 c.number_at.result = search rules in
     let value : to_z w64 (of_z w64 c.number_at.result) ≡ gain_of g d i q l =
-        to_z-of_z w64 c.number_at.result fits ∙ c.number_at.ensures row column at inside short
-        ∙ ap (λ k. gain_left g d left k row column) kind
-        ∙ number_is_gain g d i q row column (column_of g d i l) left c.requires.rung rest c.column_of-column.ensures.value
-        ∙ ap (λ k. gain g d i q k (column_of g d i l)) own in
+    to_z-of_z w64 c.number_at.result fits ∙ c.number_at.ensures row column at inside short
+    ∙ ap (λ k. gain_left g d left k row column) kind
+    ∙ number_is_gain g d i q row column (column_of g d i l) left c.requires.rung rest c.column_of-column.ensures.value
+    ∙ ap (λ k. gain g d i q k (column_of g d i l)) own in
     let is = subst IsTask scene c.self.invariant.task in
     let good = subst IsTableGrid grid c.self.invariant.grid.grid in
     let some = c.requires.segment in

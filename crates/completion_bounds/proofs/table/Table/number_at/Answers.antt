@@ -7,7 +7,7 @@ use Rattle.std.proofs.lemmas.Int.{to_z-of_z}
 use Rattle.std.proofs.lemmas.List.{get_or_default}
 use Rattle.lab_model.specs.Film.{segments_of}
 use Rattle.completion_bounds.specs.Gain.{gain_left}
-use Rattle.completion_bounds.specs.Grid.{GridParts, kinds_of}
+use Rattle.completion_bounds.specs.Grid.{kinds_of}
 use Rattle.completion_bounds.specs.Table.{IsLayer, TableValue, cell_at, cells_of}
 use Rattle.completion_bounds.proofs.Sizes.{place_inside}
 use Rattle.completion_bounds.proofs.table.Table.number_at.Goals as goal
@@ -41,7 +41,7 @@ returns c =
     let inside = place_inside (cells_of d) c.kinds.result c.args.cell c.args.kind cell (omega (arith, kind, kinds)) in
     let count = layer.count ∙ ap (λ n. cells_of d * n) (sym kinds) in
     subst (λ (v : TableValue). (k column : ℕ) → c.args.cell ≡ cell_at v.grid k column → k < length v.grid.rows → column ≤ v.grid.columns
-        → to_z w64 (of_z w64 value) ≡ gain_left v.scene v.grid c.args.left c.args.kind k column) c.self.view_is
+    → to_z w64 (of_z w64 value) ≡ gain_left v.scene v.grid c.args.left c.args.kind k column) c.self.view_is
     (λ k column at row short.
     to_z-of_z w64 value fits ∙ c.index.ensures ∙ get_or_default items place value (pos 0) (omega (arith, inside, count))
     ∙ ap (λ n. slice_index_or items (c.args.cell * n + c.args.kind) (pos 0)) kinds ∙ ap (λ x. slice_index_or items (x * kinds_of g + c.args.kind) (pos 0)) at
