@@ -11,6 +11,3 @@ mod table;
 pub use grid::TableGrid;
 pub use laws::{completions_are_bounded, tight_changes_nothing};
 pub use table::Table;
-
-#[cfg(test)]
-mod tests;

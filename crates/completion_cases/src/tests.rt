@@ -1,6 +1,8 @@
 //! Tables of small scenes: the completion bounds of labels, and the bound of all lists, which another program reckoned.
 
-use crate::{Table, TableGrid};
+ghost use Rattle.std.specs.Prelude.{◌≡◌};
+
+use completion_bounds::{Table, TableGrid};
 use lab_model::{Ahead, Label, Manifest, Period, Setup, Trace, Weights};
 use network_clock::Clock;
 use player_core::Scene;
@@ -277,30 +279,54 @@ fn setup(alloc: Global, case: &Case) -> Result<Setup, Fail> {
     })
 }
 
+/// No label of the cases is later, in milliseconds.
+const FAR_MS: u64 = 1_000_000_000;
+
+/// The table says this of a label, and a label is hopeless from its value and its bound on.
+fn says(
+    rt: &impl Abort,
+    table: &Table<'_>,
+    film: &Manifest,
+    row: (u16, u8, u64, u64, i64),
+) -> Result<(), Fail>
+    requires { table.now.scene.film ≡ film.now }
+{
+    let (segment, rung, t, p, gain) = row;
+    assert!(rt; segment < film.segments() && rung < film.rungs());
+    assert!(rt; t < FAR_MS && p < FAR_MS);
+    let label = Label { t, p, v: 0 };
+    assert_eq!(rt;
+        table.gain(segment, rung, label),
+        gain,
+        "segment {segment}, {t} {p}"
+    );
+    assert!(rt; table.is_hopeless(segment, rung, label, gain as i128));
+    assert!(rt; !table.is_hopeless(segment, rung, label, gain as i128 - 1));
+    Ok(())
+}
+
+/// The table of a case says what it should.
+fn table_says(rt: &impl Abort, alloc: Global, case: &Case) -> Result<(), Fail> {
+    let (film, clock, setup) = (film(alloc, case)?, clock(alloc, case)?, setup(alloc, case)?);
+    assert!(rt; setup.fits(&film));
+    let ahead = Ahead::new(case.ahead).ok_or("too much ahead")?;
+    let scene = Scene::new(&film, &clock, &setup, ahead);
+    let rows = case.rows.to_vec(alloc)?;
+    let grid = TableGrid::new(case.step, case.columns, rows).ok_or("not a grid")?;
+    assert!(rt; grid.fits(&scene));
+    let table = Table::new(alloc, &scene, grid)?;
+    assert_eq!(rt; table.bound(), case.bound);
+    for row in case.gains {
+        says(rt, &table, &film, *row)?;
+    }
+    Ok(())
+}
+
 #[test]
 fn tables_say(rt: HostRuntime) -> Result<(), Fail> {
     let alloc = rt.alloc();
-    for number in 0..CASES.len() {
-        let case = &CASES[number];
-        let (film, clock, setup) = (film(alloc, case)?, clock(alloc, case)?, setup(alloc, case)?);
-        assert!(rt; setup.fits(&film));
-        let ahead = Ahead::new(case.ahead).ok_or("too much ahead")?;
-        let scene = Scene::new(&film, &clock, &setup, ahead);
-        let rows = case.rows.to_vec(alloc)?;
-        let grid = TableGrid::new(case.step, case.columns, rows).ok_or("not a grid")?;
-        assert!(rt; grid.fits(&scene));
-        let table = Table::new(alloc, &scene, grid)?;
-        assert_eq!(rt; table.bound(), case.bound, "bound of case {number}");
-        for (segment, rung, t, p, gain) in case.gains {
-            let label = Label { t: *t, p: *p, v: 0 };
-            assert!(rt; *segment < film.segments() && *rung < film.rungs());
-            assert!(rt; *t < 1_000_000_000 && *p < 1_000_000_000);
-            let found = table.gain(*segment, *rung, label);
-            assert_eq!(rt; found, *gain, "case {number}, segment {segment}, {t} {p}");
-            let most = *gain as i128;
-            assert!(rt; table.is_hopeless(*segment, *rung, label, most));
-            assert!(rt; !table.is_hopeless(*segment, *rung, label, most - 1));
-        }
+    for case in CASES {
+        table_says(&rt, alloc, &case)?;
     }
     Ok(())
 }
