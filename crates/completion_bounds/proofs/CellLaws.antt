@@ -8,7 +8,7 @@ use Rattle.player_core.specs.Scene.{Task}
 use Rattle.labels.specs.Labels.{request_at, there_at}
 use Rattle.completion_bounds.specs.declared.cells.Way.{Way}
 use Rattle.completion_bounds.specs.Gain.{column_at, column_of, less_lead}
-use Rattle.completion_bounds.specs.Grid.{GridParts, IsTableGrid, row_delay, row_of, row_steps}
+use Rattle.completion_bounds.specs.Grid.{GridParts, IsTableGrid, row_delay, delay_row, row_steps}
 use Rattle.completion_bounds.specs.Table.{IsWay, came_after, cell_at, cell_of, cells_of, point}
 use Rattle.completion_bounds.proofs.Grids.{row_inside, row_of_own}
 use Rattle.completion_bounds.proofs.Sizes.{cell_inside}
@@ -38,7 +38,7 @@ module _ (g : Task) (d : GridParts) (is : IsTableGrid d) where
 
   -- a cell of a label is one of the cells
   pub cell_of_inside : (segment : ℕ) (t p : ℕ) → cell_of g d segment (point t p) < cells_of d
-  cell_of_inside segment t p = cell_inside d (row_of d p) (column_of g d segment (point t p)) (row_inside d is.some p) (omega arith)
+  cell_of_inside segment t p = cell_inside d (delay_row d p) (column_of g d segment (point t p)) (row_inside d is.some p) (omega arith)
 
   module _ (segment came : ℕ) (w : Way) (way : IsWay g d segment came w) where
     -- where the delay is longer than the row's

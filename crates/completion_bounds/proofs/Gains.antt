@@ -9,7 +9,7 @@ use Rattle.lab_model.specs.Weighing.{HasUtility, change_of, utility_of}
 use Rattle.lab_model.proofs.Rows.{utility_limit}
 use Rattle.player_core.specs.Scene.{IsTask, Task}
 use Rattle.completion_bounds.specs.Gain.{column_of, gain, gain_left, point_of}
-use Rattle.completion_bounds.specs.Grid.{GridParts, IsTableGrid, kinds_of, row_delay, row_of}
+use Rattle.completion_bounds.specs.Grid.{GridParts, IsTableGrid, kinds_of, row_delay, delay_row}
 use Rattle.completion_bounds.specs.Table.{kind_among, most_gain, most_step, step_gain}
 use Rattle.completion_bounds.proofs.Bounded.{gain_last, gain_next, gain_on}
 use Rattle.completion_bounds.proofs.Greatest.{greatest_near, greatest_same}
@@ -65,8 +65,8 @@ module _ (g : Task) (is : IsTask g) where
         (greatest_near (1000000000000000000 + suc left * 1000000000000) (gain_on g d left next q k c) (rungs_of g.film - 1) (λ r below.
         let inside : r < rungs_of g.film = omega (arith, below, some) in
         let l = point_of g d next k c r in
-        near_next left (gain_left g d left r (row_of d l.p) (column_of g d next l)) _ _ (up_low next r (omega (arith, low)) inside) (down_low next q r (omega (arith, low)) rung inside)
-        (near_left left r (row_of d l.p) (column_of g d next l) (omega (arith, low)) inside)))
+        near_next left (gain_left g d left r (delay_row d l.p) (column_of g d next l)) _ _ (up_low next r (omega (arith, low)) inside) (down_low next q r (omega (arith, low)) rung inside)
+        (near_left left r (delay_row d l.p) (column_of g d next l) (omega (arith, low)) inside)))
 
     -- completion bounds lie near 0
     pub gain_near : (left q k c : ℕ) → left < segments_of g.film → q < rungs_of g.film → IsNear most_gain (gain_left g d left q k c)

@@ -4,7 +4,7 @@ use Rattle.std.specs.Prelude.{nat_le}
 use Rattle.std.specs.List.Sorted.{IsStrictlyIncreasing}
 use Rattle.std.proofs.lemmas.Bool.{cases_Bool, cases_eq, cases_lt, cond-false, cond-true}
 use Rattle.std.proofs.lemmas.List.{get_or_past}
-use Rattle.completion_bounds.specs.Grid.{GridParts, IsTableGrid, last_passing, longest_delay, row_delay, row_of, row_steps}
+use Rattle.completion_bounds.specs.Grid.{GridParts, IsTableGrid, last_passing, longest_delay, row_delay, delay_row, row_steps}
 
 -- a later row isn't shorter
 pub rows_rise : (d : GridParts) → IsStrictlyIncreasing d.rows → (k more : ℕ) → k + more < length d.rows → row_steps d k ≤ row_steps d (k + more)
@@ -43,7 +43,7 @@ not_le : (a b : ℕ) → b < a → nat_le a b ≡ false
 not_le a b h = grind (arith, nat_le)
 
 -- the row of a delay: it isn't longer, and the next one is
-pub row_is : (d : GridParts) → IsStrictlyIncreasing d.rows → (delay k : ℕ) → k < length d.rows → row_delay d k ≤ delay → (k + 1 < length d.rows → delay < row_delay d (k + 1)) → k ≡ row_of d delay
+pub row_is : (d : GridParts) → IsStrictlyIncreasing d.rows → (delay k : ℕ) → k < length d.rows → row_delay d k ≤ delay → (k + 1 < length d.rows → delay < row_delay d (k + 1)) → k ≡ delay_row d delay
 row_is d rising delay k inside low next =
     sym (last_is (λ j. nat_le (row_delay d j) delay) (length d.rows) k inside (le-leb _ _ low)
     (λ j more less.
@@ -66,11 +66,11 @@ last_inside passes (suc (suc n)) some =
     omega (arith, e, before)) (cases_Bool (passes (suc n)))
 
 -- the same of a delay
-pub row_inside : (d : GridParts) → 1 ≤ length d.rows → (delay : ℕ) → row_of d delay < length d.rows
+pub row_inside : (d : GridParts) → 1 ≤ length d.rows → (delay : ℕ) → delay_row d delay < length d.rows
 row_inside d some delay = last_inside (λ k. nat_le (row_delay d k) delay) (length d.rows) some
 
 -- the row of a row's own delay
-pub row_of_own : (d : GridParts) → IsTableGrid d → (k : ℕ) → k < length d.rows → row_of d (row_delay d k) ≡ k
+pub row_of_own : (d : GridParts) → IsTableGrid d → (k : ℕ) → k < length d.rows → delay_row d (row_delay d k) ≡ k
 row_of_own d is k inside =
     sym (row_is d is.rising (row_delay d k) k inside (omega arith) (λ more.
     let next = is.rising k more in

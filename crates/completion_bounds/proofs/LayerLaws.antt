@@ -22,8 +22,8 @@ use Rattle.labels.specs.Labels.{came_at, next_value, start_label}
 use Rattle.labels.specs.Near.{CanFollow}
 use Rattle.labels.proofs.Reached.{reach_follows, start_reach, well_in_reach}
 use Rattle.completion_bounds.specs.Gain.{column_of, gain_left, greatest_to}
-use Rattle.completion_bounds.specs.Grid.{GridParts, IsTableGrid, kinds_of, layer_numbers, row_delay, row_of, row_steps}
-use Rattle.completion_bounds.specs.Table.{AreGains, AreGainsTo, AreStepGains, AreStepGainsTo, AreLayers, IsLayer, IsLayerAt, IsLayerBelow, came_after, cell_at, cell_of, cells_of, kind_among, most_gain, most_step, request_after, step_gain}
+use Rattle.completion_bounds.specs.Grid.{GridParts, IsTableGrid, kinds_of, layer_numbers, row_delay, delay_row, row_steps}
+use Rattle.completion_bounds.specs.Table.{AreGains, AreGainsTo, AreStepGains, AreStepGainsTo, AreLayers, IsGainLayer, IsLayerAt, IsLayerBelow, came_after, cell_at, cell_of, cells_of, kind_among, most_gain, most_step, request_after, step_gain}
 use Rattle.completion_bounds.proofs.Bounded.{gain_last, gain_next, gain_on}
 use Rattle.completion_bounds.proofs.Gains.{gain_near, kind_inside, kind_serves, step_near}
 use Rattle.completion_bounds.proofs.Greatest.{greatest_same}
@@ -79,18 +79,18 @@ steps_near g is i own low h =
 
 -- on one rung more
 pub gains_more : (g : Task) (d : GridParts) (left i steps row to : ℕ) (gains behind : List ℤ) (cell : ℕ) (v : ℤ) → 1 ≤ length d.rows → to < rungs_of g.film → to < length gains
-    → cell ≡ cell_of g d i (came_after g d i (came_at g (request_after g d i steps) i to) row) → IsLayer g d left behind
+    → cell ≡ cell_of g d i (came_after g d i (came_at g (request_after g d i steps) i to) row) → IsGainLayer g d left behind
     → v ≡ slice_index_or behind (cell * kinds_of g + kind_among (kinds_of g) to) (pos 0)
     → AreGainsTo g d left i steps row to gains → AreGainsTo g d left i steps row (to + 1) (slice_set gains to v)
 gains_more g d left i steps row to gains behind cell v some rung inside at layer e h = record {
   each = λ r low. ⊎_elim (λ (new : r ≡ to).
       let l = came_after g d i (came_at g (request_after g d i steps) i to) row in
       subst (λ x. slice_index_or (slice_set gains to v) x (pos 0)
-      ≡ (let m = came_after g d i (came_at g (request_after g d i steps) i x) row in gain_left g d left x (row_of d m.p) (column_of g d i m))) (sym new)
+      ≡ (let m = came_after g d i (came_at g (request_after g d i steps) i x) row in gain_left g d left x (delay_row d m.p) (column_of g d i m))) (sym new)
       (get_or-set_same gains to v (pos 0) inside ∙ e
       ∙ ap (λ c. slice_index_or behind (c * kinds_of g + kind_among (kinds_of g) to) (pos 0)) at
-      ∙ layer.each (row_of d l.p) (column_of g d i l) (kind_among (kinds_of g) to) (row_inside d some l.p) (omega arith) (kind_inside g to rung)
-      ∙ kind_serves g d left to (row_of d l.p) (column_of g d i l) rung))
+      ∙ layer.each (delay_row d l.p) (column_of g d i l) (kind_among (kinds_of g) to) (row_inside d some l.p) (omega arith) (kind_inside g to rung)
+      ∙ kind_serves g d left to (delay_row d l.p) (column_of g d i l) rung))
       (λ (old : r ≡ to → ⊥). get_or-set_other gains to r v (pos 0) old ∙ h.each r (omega (arith, low, old))) (cases_eq r to);
 }
 
@@ -121,7 +121,7 @@ last_more worth place layer v count each e x low =
 
 -- the last layer
 pub last_is_layer : (g : Task) (d : GridParts) (per_row place : ℕ) (layer : List ℤ) → per_row ≡ (d.columns + 1) * kinds_of g → length layer ≡ place → place ≡ length d.rows * per_row
-    → ((x : ℕ) → x < place → slice_index_or layer x (pos 0) ≡ pos 0 -ℤ pos (g.setup.weights.stall * row_delay d (x / per_row))) → IsLayer g d 0 layer
+    → ((x : ℕ) → x < place → slice_index_or layer x (pos 0) ≡ pos 0 -ℤ pos (g.setup.weights.stall * row_delay d (x / per_row))) → IsGainLayer g d 0 layer
 last_is_layer g d per_row place layer wide count all each =
     let whole : place ≡ layer_numbers g d = all ∙ ap (λ n. length d.rows * n) wide ∙ omega arith in
     record {
@@ -163,9 +163,9 @@ module _ (g : Task) (d : GridParts) where
       let inside : r < w = omega (arith, low, some) in
       let l = came_after g d i (came_at g (request_after g d i steps) i r) row in
       ap₂ (λ (x y : ℤ). x +ℤ y) (h.each q r kind inside) (k.all.each r inside)
-      ∙ gained (gain_left g d left r (row_of d l.p) (column_of g d i l)) (1000 * utility_of g.setup.weights i r) (g.setup.weights.switch * change_of g.setup.weights i (Some q) r)
+      ∙ gained (gain_left g d left r (delay_row d l.p) (column_of g d i l)) (1000 * utility_of g.setup.weights i r) (g.setup.weights.switch * change_of g.setup.weights i (Some q) r)
       ∙ ap (λ s. let l = came_after g d i (came_at g (request_after g d i s) i r) row in
-      next_value g.setup.weights i q (gain_left g d left r (row_of d l.p) (column_of g d i l)) r) (sym sum))
+      next_value g.setup.weights i q (gain_left g d left r (delay_row d l.p) (column_of g d i l)) r) (sym sum))
       ∙ ap (λ s. greatest_to (gain_on g d left s q row c) (w - 1)) here ∙ sym (gain_next g d left q row c)
 
   -- one cell more
@@ -235,7 +235,7 @@ module _ (g : Task) (d : GridParts) where
   }
 
   -- at last all cells are filled
-  pub layer_all : (left from : ℕ) (layer : List ℤ) → ((k : ℕ) → k < length d.rows → row_steps d k + d.columns < from) → IsLayerBelow g d left from layer → IsLayer g d left layer
+  pub layer_all : (left from : ℕ) (layer : List ℤ) → ((k : ℕ) → k < length d.rows → row_steps d k + d.columns < from) → IsLayerBelow g d left from layer → IsGainLayer g d left layer
   layer_all left from layer short h = record {
     count = h.count;
     each = λ k c q inside column kind. h.each k c q inside column kind (let less = short k inside in omega (arith, less, column));
@@ -250,20 +250,20 @@ pub came_soon : (g : Task) → IsTask g → (start i r : ℕ) → i < segments_o
 came_soon g is start i r low rung = (done_found (period_at g.periods) (trace_flows g.periods is.trace) (omega arith) start (size_of g.film i r) (size_within g.film i r is.film low rung).1).0
 
 -- the layers so far, with one more
-pub layers_more : (g : Task) (d : GridParts) (n : ℕ) (held : List (Vec ℤ Global)) (v : Vec ℤ Global) → AreLayers g d n held → IsLayer g d n v.items → AreLayers g d (n + 1) (held ++ v ∷ [])
+pub layers_more : (g : Task) (d : GridParts) (n : ℕ) (held : List (Vec ℤ Global)) (v : Vec ℤ Global) → AreLayers g d n held → IsGainLayer g d n v.items → AreLayers g d (n + 1) (held ++ v ∷ [])
 layers_more g d n held v h layer =
     let count = h.count in
     record {
       count = length-append held (v ∷ []) ∙ omega (arith, count);
       each = λ left none low. ⊎_elim
-          (λ (old : left < n). subst (λ (x : Vec ℤ Global). IsLayer g d left x.items) (sym (get_or_append_left held (v ∷ []) none left (omega (arith, old, count)))) (h.each left none old))
+          (λ (old : left < n). subst (λ (x : Vec ℤ Global). IsGainLayer g d left x.items) (sym (get_or_append_left held (v ∷ []) none left (omega (arith, old, count)))) (h.each left none old))
           (λ new. let last : left ≡ n = omega (arith, new, low) in
-          subst (λ m. IsLayer g d m (slice_index_or (held ++ v ∷ []) m none).items) (sym last)
-          (subst (λ (x : Vec ℤ Global). IsLayer g d n x.items) (sym (ap (λ y. slice_index_or (held ++ v ∷ []) y none) (sym count) ∙ get_or-append_seam held v [] none)) layer)) (cases_lt left n);
+          subst (λ m. IsGainLayer g d m (slice_index_or (held ++ v ∷ []) m none).items) (sym last)
+          (subst (λ (x : Vec ℤ Global). IsGainLayer g d n x.items) (sym (ap (λ y. slice_index_or (held ++ v ∷ []) y none) (sym count) ∙ get_or-append_seam held v [] none)) layer)) (cases_lt left n);
     }
 
 -- the first of them
-pub layers_one : (g : Task) (d : GridParts) (v : Vec ℤ Global) → IsLayer g d 0 v.items → AreLayers g d 1 ([] ++ v ∷ [])
+pub layers_one : (g : Task) (d : GridParts) (v : Vec ℤ Global) → IsGainLayer g d 0 v.items → AreLayers g d 1 ([] ++ v ∷ [])
 layers_one g d v layer = layers_more g d 0 [] v (record { count = refl; each = λ left none low. absurd (omega (arith, low)) }) layer
 
 -- a start label may be followed

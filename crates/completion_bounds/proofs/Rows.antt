@@ -7,8 +7,8 @@ use Rattle.std.proofs.lemmas.Nat.{le-div}
 use Rattle.lab_model.specs.declared.label.Label.{Label}
 use Rattle.player_core.specs.Scene.{Task}
 use Rattle.labels.specs.Labels.{request_at}
-use Rattle.completion_bounds.specs.Gain.{column_at, request_of}
-use Rattle.completion_bounds.specs.Grid.{GridParts, IsTableGrid, last_passing, row_delay, row_of, row_steps}
+use Rattle.completion_bounds.specs.Gain.{column_at, cell_request}
+use Rattle.completion_bounds.specs.Grid.{GridParts, IsTableGrid, last_passing, row_delay, delay_row, row_steps}
 
 -- where 0 passes, the last that passes does
 last_passes : (passes : ℕ → Bool) (n : ℕ) → passes 0 ≡ true → passes (last_passing passes n) ≡ true
@@ -19,7 +19,7 @@ last_passes passes (suc n) h =
     (λ (no : passes n ≡ false). ap passes (cond-false (passes n) n (last_passing passes n) no) ∙ last_passes passes n h) (cases_Bool (passes n))
 
 -- the row of a delay isn't longer
-pub row_not_longer : (d : GridParts) → IsTableGrid d → (delay : ℕ) → row_delay d (row_of d delay) ≤ delay
+pub row_not_longer : (d : GridParts) → IsTableGrid d → (delay : ℕ) → row_delay d (delay_row d delay) ≤ delay
 row_not_longer d is delay =
     let first = is.first in
     let none : row_delay d 0 ≤ delay = subst (λ m. d.step * m ≤ delay) (sym first) (omega arith) in
@@ -40,9 +40,9 @@ led_back step m most delay lead buffer request some low before =
 
 -- the request after a row and a column isn't later than that of a label in them
 pub request_not_later : (g : Task) (d : GridParts) → IsTableGrid d → (next : ℕ) (l : Label)
-    → request_of g d next (row_of d l.p) (column_at g d next (row_of d l.p) (request_at g next l)) ≤ request_at g next l
+    → cell_request g d next (delay_row d l.p) (column_at g d next (delay_row d l.p) (request_at g next l)) ≤ request_at g next l
 request_not_later g d is next l =
-    let k = row_of d l.p in
+    let k = delay_row d l.p in
     let request = request_at g next l in
     let back = led_back d.step (row_steps d k) d.columns l.p ((next + 1) * g.film.seg_ms) g.setup.buffer_ms request is.step.0 (row_not_longer d is l.p) (omega arith) in
     omega (arith, back)

@@ -5,7 +5,7 @@ use Rattle.lab_model.specs.declared.label.Label.{Label}
 use Rattle.lab_model.specs.Film.{rungs_of, segments_of}
 use Rattle.player_core.specs.Scene.{Task}
 use Rattle.labels.specs.Labels.{came_at, next_value, request_at, there_at}
-use Rattle.completion_bounds.specs.Grid.{GridParts, row_delay, row_of, row_steps}
+use Rattle.completion_bounds.specs.Grid.{GridParts, row_delay, delay_row, row_steps}
 
 -- A segment's lead is `(segment + 1) * S - B`, which may be negative: the earliest request of the segment that the buffer admits, less
 -- the delay of the label before. Below it is only added to a delay, and taken off a request.
@@ -24,16 +24,16 @@ column_at g d next row request = min d.columns (less_lead g next request / d.ste
 
 -- the column of a label of a segment, in its own row
 abbrev pub column_of : Task → GridParts → ℕ → Label → ℕ
-column_of g d segment l = column_at g d (segment + 1) (row_of d l.p) (request_at g (segment + 1) l)
+column_of g d segment l = column_at g d (segment + 1) (delay_row d l.p) (request_at g (segment + 1) l)
 
 -- the earliest request of a segment after the labels of a row and a column
-abbrev pub request_of : Task → GridParts → ℕ → ℕ → ℕ → ℕ
-request_of g d next row column = max (after_lead g next (d.step * (row_steps d row + column))) (there_at g next)
+abbrev pub cell_request : Task → GridParts → ℕ → ℕ → ℕ → ℕ
+cell_request g d next row column = max (after_lead g next (d.step * (row_steps d row + column))) (there_at g next)
 
 -- no label of a segment on a rung that follows those of a row and a column has an earlier time or a shorter delay (its value doesn't count)
 abbrev pub point_of : Task → GridParts → ℕ → ℕ → ℕ → ℕ → Label
 point_of g d next row column rung =
-    let t = came_at g (request_of g d next row column) next rung in
+    let t = came_at g (cell_request g d next row column) next rung in
     record { t = t; p = max (row_delay d row) (t - next * g.film.seg_ms); v = pos 0 }
 
 -- the greatest of what a function gives at the numbers from 0 to one
@@ -52,12 +52,12 @@ gain_left g d (suc left) q k c =
     let next = segments_of g.film - suc left in
     greatest_on g (λ r.
     let l = point_of g d next k c r in
-    next_value g.setup.weights next q (gain_left g d left r (row_of d l.p) (column_of g d next l)) r)
+    next_value g.setup.weights next q (gain_left g d left r (delay_row d l.p) (column_of g d next l)) r)
 
 -- the completion bound of a segment, a rung, a row and a column
 abbrev pub gain : Task → GridParts → ℕ → ℕ → ℕ → ℕ → ℤ
 gain g d segment q k c = gain_left g d (segments_of g.film - (segment + 1)) q k c
 
 -- the completion bound of a label of a segment on a rung, at its own row and column
-abbrev pub gain_of : Task → GridParts → ℕ → ℕ → Label → ℤ
-gain_of g d segment q l = gain g d segment q (row_of d l.p) (column_of g d segment l)
+abbrev pub label_gain : Task → GridParts → ℕ → ℕ → Label → ℤ
+label_gain g d segment q l = gain g d segment q (delay_row d l.p) (column_of g d segment l)

@@ -58,5 +58,5 @@ last_passing passes zero = 0
 last_passing passes (suc n) = if passes n then n else last_passing passes n
 
 -- the row of a delay: the last one that isn't longer
-abbrev pub row_of : GridParts → ℕ → ℕ
-row_of d delay = last_passing (λ k. nat_le (row_delay d k) delay) (length d.rows)
+abbrev pub delay_row : GridParts → ℕ → ℕ
+delay_row d delay = last_passing (λ k. nat_le (row_delay d k) delay) (length d.rows)

@@ -7,7 +7,7 @@ use Rattle.labels.specs.Best.{task_value}
 use Rattle.labels.specs.Labels.{AreRungs, end_value, label_at, next_label}
 use Rattle.completion_bounds.specs.Bound.{IsHopeless, table_bound}
 use Rattle.completion_bounds.specs.Gain.{column_of, gain}
-use Rattle.completion_bounds.specs.Grid.{GridParts, IsTableGrid, row_of}
+use Rattle.completion_bounds.specs.Grid.{GridParts, IsTableGrid, delay_row}
 use Rattle.completion_bounds.specs.Tight.{tight}
 
 -- the label that rungs lead to which go on from a label of a segment on a rung
@@ -21,7 +21,7 @@ abbrev pub CompletionsAreBounded : Type 0
 CompletionsAreBounded =
     (g : Task) → IsTask g → (d : GridParts) → IsTableGrid d → (i q : ℕ) → i < segments_of g.film
     → (early l : Label) → early.t ≤ l.t → early.p ≤ l.p → (rungs : List ℕ) → AreRungs g (segments_of g.film - (i + 1)) rungs
-    → end_value g (label_after g i q l rungs) ≤ℤ (l.v +ℤ gain g d i q (row_of d early.p) (column_of g d i early))
+    → end_value g (label_after g i q l rungs) ≤ℤ (l.v +ℤ gain g d i q (delay_row d early.p) (column_of g d i early))
 
 -- a list has no greater value than one under which a label along it is hopeless
 abbrev pub HopelessEndBelow : Type 0

@@ -9,7 +9,7 @@ use Rattle.player_core.specs.Scene.{IsTask, Task}
 use Rattle.labels.specs.Labels.{came_at, there_at}
 use Rattle.completion_bounds.specs.declared.cells.Way.{Way}
 use Rattle.completion_bounds.specs.Gain.{after_lead, column_of, gain_left, less_lead}
-use Rattle.completion_bounds.specs.Grid.{GridParts, IsGridOf, kinds_of, layer_numbers, row_delay, row_of, row_steps}
+use Rattle.completion_bounds.specs.Grid.{GridParts, IsGridOf, kinds_of, layer_numbers, row_delay, delay_row, row_steps}
 
 -- the earliest request of a segment after the labels whose row and column come to so many steps
 abbrev pub request_after : Task → GridParts → ℕ → ℕ → ℕ
@@ -25,7 +25,7 @@ cells_of d = length d.rows * (d.columns + 1)
 
 -- the cell of a label of a segment
 abbrev pub cell_of : Task → GridParts → ℕ → Label → ℕ
-cell_of g d segment l = cell_at d (row_of d l.p) (column_of g d segment l)
+cell_of g d segment l = cell_at d (delay_row d l.p) (column_of g d segment l)
 
 -- a label whose value doesn't count
 abbrev pub point : ℕ → ℕ → Label
@@ -72,7 +72,7 @@ pub record AreStepGainsTo (g : Task) (segment place : ℕ) (own : List ℤ) : Ty
 -- what is gained behind a segment on each rung below one, where it is asked for after so many steps, after the labels of a row
 pub record AreGainsTo (g : Task) (d : GridParts) (left segment steps row to : ℕ) (gains : List ℤ) : Type 0 where
   pub each : (r : ℕ) → r < to → slice_index_or gains r (pos 0)
-      ≡ (let l = came_after g d segment (came_at g (request_after g d segment steps) segment r) row in gain_left g d left r (row_of d l.p) (column_of g d segment l))
+      ≡ (let l = came_after g d segment (came_at g (request_after g d segment steps) segment r) row in gain_left g d left r (delay_row d l.p) (column_of g d segment l))
 
 -- the same on each rung
 pub record AreGains (g : Task) (d : GridParts) (left segment steps row : ℕ) (gains : List ℤ) : Type 0 where
@@ -80,7 +80,7 @@ pub record AreGains (g : Task) (d : GridParts) (left segment steps row : ℕ) (g
   pub all : AreGainsTo g d left segment steps row (rungs_of g.film) gains
 
 -- a layer holds the completion bounds with so many segments left
-pub record IsLayer (g : Task) (d : GridParts) (left : ℕ) (layer : List ℤ) : Type 0 where
+pub record IsGainLayer (g : Task) (d : GridParts) (left : ℕ) (layer : List ℤ) : Type 0 where
   pub count : length layer ≡ layer_numbers g d
   pub each : (k c q : ℕ) → k < length d.rows → c ≤ d.columns → q < kinds_of g
       → slice_index_or layer (cell_at d k c * kinds_of g + q) (pos 0) ≡ gain_left g d left q k c
@@ -114,10 +114,10 @@ pub record TableValue : Type 0 where
 -- the layers of a table, from the last segment on, so many
 pub record AreLayers (g : Task) (d : GridParts) (n : ℕ) (held : List (Vec ℤ Global)) : Type 0 where
   pub count : length held ≡ n
-  pub each : (left : ℕ) (none : Vec ℤ Global) → left < n → IsLayer g d left (slice_index_or held left none).items
+  pub each : (left : ℕ) (none : Vec ℤ Global) → left < n → IsGainLayer g d left (slice_index_or held left none).items
 
 -- a table within the limits
-pub record IsTable (g : Task) (d : GridParts) (held : List (Vec ℤ Global)) : Type 0 where
+pub record IsGainTable (g : Task) (d : GridParts) (held : List (Vec ℤ Global)) : Type 0 where
   pub task : IsTask g
   pub grid : IsGridOf g d
   pub layers : AreLayers g d (segments_of g.film) held

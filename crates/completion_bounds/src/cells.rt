@@ -99,7 +99,7 @@ impl Way {
         let asked = came.max(there_at(scene, segment + 1));
         let step = grid.step() as u64;
         let late = less_lead(scene, segment + 1, asked) / step;
-        let row = grid.row_of(delay);
+        let row = grid.delay_row(delay);
         let column = column_in(grid, grid.rows()[row] as u64, late.max(delay / step));
         Way {
             delay,

@@ -4,7 +4,7 @@ ghost use Rattle.std.specs.Prelude.{◌≡◌, ℕ, ◌*◌, ◌≤◌, ◌<◌,
 ghost use Rattle.std.specs.List.Sorted.{IsStrictlyIncreasing};
 ghost use Rattle.player_core.specs.Scene.{IsTask};
 ghost use Rattle.completion_bounds.specs.Table.{kind_among};
-ghost use Rattle.completion_bounds.specs.Grid.{GridParts, IsGridOf, IsTableGrid, kinds_of, longest_delay, most_numbers, row_of, table_numbers};
+ghost use Rattle.completion_bounds.specs.Grid.{GridParts, IsGridOf, IsTableGrid, kinds_of, longest_delay, most_numbers, delay_row, table_numbers};
 
 use player_core::Scene;
 use std::marker::Model;
@@ -150,8 +150,8 @@ impl TableGrid {
     }
 
     /// The row of a delay in milliseconds: the last one that isn't longer.
-    pub(crate) fn row_of(&self, delay: u64) -> usize
-        ensures value { result ≡ row_of self.now delay }
+    pub(crate) fn delay_row(&self, delay: u64) -> usize
+        ensures value { result ≡ delay_row self.now delay }
         ensures inside { result < length self.now.rows }
         ensures grid { IsTableGrid self.now }
     {

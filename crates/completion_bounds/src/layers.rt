@@ -7,7 +7,7 @@ ghost use Rattle.lab_model.specs.Number.{IsNear};
 ghost use Rattle.player_core.specs.Scene.{IsTask, Task};
 ghost use Rattle.completion_bounds.specs.Gain.{greatest_to};
 ghost use Rattle.completion_bounds.specs.Grid.{IsGridOf, kinds_of, layer_numbers, most_numbers, row_steps};
-ghost use Rattle.completion_bounds.specs.Table.{AreGains, AreStepGains, AreWays, IsLayer, IsLayerBelow, cells_of, most_gain, most_step, step_gain};
+ghost use Rattle.completion_bounds.specs.Table.{AreGains, AreStepGains, AreWays, IsGainLayer, IsLayerBelow, cells_of, most_gain, most_step, step_gain};
 
 use crate::cells::{Way, cell_at, request_after, width};
 use crate::grid::{TableGrid, kind_among, kinds};
@@ -56,7 +56,7 @@ pub(crate) fn last_layer(
     grid: &TableGrid,
 ) -> Result<Vec<i64>, AllocError>
     requires { IsGridOf scene.now grid.now }
-    ensures { IfOk result (λ v. IsLayer scene.now grid.now 0 v.items) }
+    ensures { IfOk result (λ v. IsGainLayer scene.now grid.now 0 v.items) }
 {
     let rows = grid.rows();
     let per_row = width(grid) * kinds(scene);
@@ -107,7 +107,7 @@ fn take_gains(
     ensures gains { (g : Task) (left segment steps : ℕ)
         → kinds ≡ kinds_of g
         → AreWays g grid.now segment steps ways.now
-        → IsLayer g grid.now left behind.now
+        → IsGainLayer g grid.now left behind.now
         → AreGains g grid.now left segment steps row gains.new }
 {
     for rung in 0..gains.len() {
@@ -175,7 +175,7 @@ fn fill_steps(
         × (steps ≤ row_steps grid.now first + grid.now.columns) }
     requires before { (k : ℕ) → k < first → row_steps grid.now k + grid.now.columns < steps }
     requires own { AreStepGains scene.now segment own.now }
-    requires behind { IsLayer scene.now grid.now (segments_of scene.now.film - (segment + 1))
+    requires behind { IsGainLayer scene.now grid.now (segments_of scene.now.film - (segment + 1))
         behind.now }
     requires ways { length ways.old ≡ rungs_of scene.now.film }
     requires gains { length gains.old ≡ rungs_of scene.now.film }
@@ -210,9 +210,9 @@ pub(crate) fn layer_before(
 ) -> Result<Vec<i64>, AllocError>
     requires grid { IsGridOf scene.now grid.now }
     requires segment { (1 ≤ segment) × (segment < segments_of scene.now.film) }
-    requires behind { IsLayer scene.now grid.now (segments_of scene.now.film - (segment + 1))
+    requires behind { IsGainLayer scene.now grid.now (segments_of scene.now.film - (segment + 1))
         behind.now }
-    ensures { IfOk result (λ v. IsLayer scene.now grid.now
+    ensures { IfOk result (λ v. IsGainLayer scene.now grid.now
         (segments_of scene.now.film - segment) v.items) }
 {
     let rungs = scene.film().rungs() as usize;

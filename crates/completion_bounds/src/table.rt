@@ -8,8 +8,8 @@ ghost use Rattle.labels.specs.Best.{task_value};
 ghost use Rattle.labels.specs.Labels.{AreRungs, start_label};
 ghost use Rattle.labels.specs.Near.{CanFollow};
 ghost use Rattle.completion_bounds.specs.Bound.{IsHopeless, most_of, table_bound};
-ghost use Rattle.completion_bounds.specs.Gain.{column_of, gain_left, gain_of};
-ghost use Rattle.completion_bounds.specs.Grid.{IsGridOf, kinds_of, row_of};
+ghost use Rattle.completion_bounds.specs.Gain.{column_of, gain_left, label_gain};
+ghost use Rattle.completion_bounds.specs.Grid.{IsGridOf, kinds_of, delay_row};
 ghost use Rattle.completion_bounds.specs.Table.{AreLayers, cell_at, cells_of, most_gain};
 
 use crate::cells::{cell_at, column_in, less_lead};
@@ -31,13 +31,13 @@ pub struct Table<'a> {
 }
 
 impl<'a> Model for Table<'a> {
-    ghost use Rattle.completion_bounds.specs.Table.{IsTable, TableValue};
+    ghost use Rattle.completion_bounds.specs.Table.{IsGainTable, TableValue};
 
     ghost Value = { TableValue };
 
     ghost view = { λ t. record { scene = t.scene.now; grid = t.grid } };
 
-    ghost invariant = { λ t. IsTable t.scene.now t.grid t.layers.items };
+    ghost invariant = { λ t. IsGainTable t.scene.now t.grid t.layers.items };
 }
 
 /// The layers, from the last segment to the first.
@@ -89,7 +89,7 @@ impl<'a> Table<'a> {
         requires segment { segment < segments_of self.now.scene.film }
         requires rung { rung < rungs_of self.now.scene.film }
         requires label { CanFollow label }
-        requires row { row ≡ row_of self.now.grid label.p }
+        requires row { row ≡ delay_row self.now.grid label.p }
         requires row_inside { row < length self.now.grid.rows }
         ensures value { segment + 1 < segments_of self.now.scene.film
             → result ≡ column_of self.now.scene self.now.grid segment label }
@@ -122,10 +122,10 @@ impl<'a> Table<'a> {
         requires segment { segment < segments_of self.now.scene.film }
         requires rung { rung < rungs_of self.now.scene.film }
         requires label { CanFollow label }
-        ensures value { result ≡ gain_of self.now.scene self.now.grid segment rung label }
+        ensures value { result ≡ label_gain self.now.scene self.now.grid segment rung label }
         ensures near { IsNear most_gain result }
     {
-        let row = self.grid.row_of(label.p);
+        let row = self.grid.delay_row(label.p);
         let column = self.column_of(segment, rung, label, row);
         let cell = cell_at(&self.grid, row, column);
         let left = self.scene.film().segments() - 1 - segment;

@@ -1,6 +1,6 @@
 use Rattle.std.proofs.Common.{◌≡◌, ◌∙◌, ◌+◌, ◌-◌, sym, ap, subst, arith}
 use Rattle.lab_model.specs.Film.{segments_of}
-use Rattle.completion_bounds.specs.Table.{AreLayers, IsLayer}
+use Rattle.completion_bounds.specs.Table.{AreLayers, IsGainLayer}
 use Rattle.completion_bounds.proofs.LayerLaws.{layers_more}
 use Rattle.completion_bounds.proofs.table.layers_of.Goals as goal
 
@@ -15,5 +15,5 @@ loop-left-preserved c =
     record {
       some = omega arith;
       layers = subst (AreLayers g d (left + 1)) (sym c.in_ok-push-2.ensures.items)
-          (layers_more g d left c.loop-left.layers.items c.in_ok-layer.layer c.loop-left.invariant.layers (subst (λ n. IsLayer g d n c.in_ok-layer.layer.items) same c.in_ok-layer.ensures));
+          (layers_more g d left c.loop-left.layers.items c.in_ok-layer.layer c.loop-left.invariant.layers (subst (λ n. IsGainLayer g d n c.in_ok-layer.layer.items) same c.in_ok-layer.ensures));
     }

@@ -8,7 +8,7 @@ use Rattle.std.proofs.lemmas.List.{get_or_default}
 use Rattle.lab_model.specs.Film.{segments_of}
 use Rattle.completion_bounds.specs.Gain.{gain_left}
 use Rattle.completion_bounds.specs.Grid.{kinds_of}
-use Rattle.completion_bounds.specs.Table.{IsLayer, TableValue, cell_at, cells_of}
+use Rattle.completion_bounds.specs.Table.{IsGainLayer, TableValue, cell_at, cells_of}
 use Rattle.completion_bounds.proofs.Sizes.{place_inside}
 use Rattle.completion_bounds.proofs.table.Table.number_at.Goals as goal
 
@@ -19,7 +19,7 @@ index-requires c =
     let left = subst (λ (v : TableValue). c.args.left < segments_of v.scene.film) (sym c.self.view_is) c.requires.left in
     let cell = subst (λ (v : TableValue). c.args.cell < cells_of v.grid) (sym c.self.view_is) c.requires.cell in
     let kind = subst (λ (v : TableValue). c.args.kind < kinds_of v.scene) (sym c.self.view_is) c.requires.kind in
-    let layer = subst (λ (v : Vec ℤ Global). IsLayer g d c.args.left v.items) (sym c.index-layer.ensures) (c.self.invariant.layers.each c.args.left c.index-layer.result.now left) in
+    let layer = subst (λ (v : Vec ℤ Global). IsGainLayer g d c.args.left v.items) (sym c.index-layer.ensures) (c.self.invariant.layers.each c.args.left c.index-layer.result.now left) in
     let kinds = c.kinds.ensures.value in
     let place = place_inside (cells_of d) c.kinds.result c.args.cell c.args.kind cell (omega (arith, kind, kinds)) in
     let count = layer.count ∙ ap (λ n. cells_of d * n) (sym kinds) in
@@ -32,7 +32,7 @@ returns c =
     let left = subst (λ (v : TableValue). c.args.left < segments_of v.scene.film) (sym c.self.view_is) c.requires.left in
     let cell = subst (λ (v : TableValue). c.args.cell < cells_of v.grid) (sym c.self.view_is) c.requires.cell in
     let kind = subst (λ (v : TableValue). c.args.kind < kinds_of v.scene) (sym c.self.view_is) c.requires.kind in
-    let layer = subst (λ (v : Vec ℤ Global). IsLayer g d c.args.left v.items) (sym c.index-layer.ensures) (c.self.invariant.layers.each c.args.left c.index-layer.result.now left) in
+    let layer = subst (λ (v : Vec ℤ Global). IsGainLayer g d c.args.left v.items) (sym c.index-layer.ensures) (c.self.invariant.layers.each c.args.left c.index-layer.result.now left) in
     let kinds = c.kinds.ensures.value in
     let items = c.index-layer.result.now.items in
     let value = c.index.result.now in

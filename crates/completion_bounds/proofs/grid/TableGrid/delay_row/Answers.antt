@@ -1,7 +1,7 @@
 use Rattle.std.proofs.Common.{◌≡◌, ◌+◌, ◌*◌, ◌<◌, get_or, subst, arith}
-use Rattle.completion_bounds.specs.Grid.{GridParts, row_of}
+use Rattle.completion_bounds.specs.Grid.{GridParts, delay_row}
 use Rattle.completion_bounds.proofs.Grids.{row_is}
-use Rattle.completion_bounds.proofs.grid.TableGrid.row_of.Goals as goal
+use Rattle.completion_bounds.proofs.grid.TableGrid.delay_row.Goals as goal
 
 pub returns-clause-value : goal.returns-clause-value
 returns-clause-value c =
@@ -13,6 +13,6 @@ returns-clause-value c =
     let above = loop.above in
     let done = c.loop-high-test.false in
     let last : c.loop-high.high ≡ c.loop-high.low + 1 = omega (arith, order, done) in
-    subst (λ v. c.loop-high.low ≡ row_of v c.args.delay) c.self.view_is
+    subst (λ v. c.loop-high.low ≡ delay_row v c.args.delay) c.self.view_is
     (row_is d c.self.invariant.rising c.args.delay c.loop-high.low (omega (arith, order, place)) loop.below
     (λ more. subst (λ h. c.args.delay < inside.step * get_or inside.rows.items h 0) last (above (omega (arith, last, more)))))

@@ -1,5 +1,5 @@
 use Rattle.std.proofs.Common.{◌-◌, ◌*◌, ◌<◌, ◌≤◌, get_or, length}
-use Rattle.completion_bounds.proofs.grid.TableGrid.row_of.Given as goal
+use Rattle.completion_bounds.proofs.grid.TableGrid.delay_row.Given as goal
 
 abbrev pub invariant-loop-high : goal.invariant-loop-high
 invariant-loop-high l = record {
