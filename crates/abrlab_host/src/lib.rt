@@ -20,7 +20,11 @@ fn status_of(error: &io::Error) -> ExitCode {
 ///
 /// Where the machine refuses the words for want of memory nothing is printed and the status is 9, and 8 where it refuses
 /// them for another cause.
-pub fn run_here<R: AllocGlobal + Files + Env, O: Write + Drop, E: Write + Drop>(rt: &R, out: O, err: E) -> ExitCode {
+pub fn run_here<R: AllocGlobal + Files + Env, O: Write + Drop, E: Write + Drop>(
+    rt: &R,
+    out: O,
+    err: E,
+) -> ExitCode {
     let words = match env::args(rt) {
         Ok(words) => words,
         Err(error) => return status_of(&error),
