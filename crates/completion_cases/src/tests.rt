@@ -14,7 +14,7 @@ use std::test::Fail;
 #[derive(Clone, Copy)]
 struct Case {
     seg_ms: u32,
-    rungs: u32,
+    rungs: u8,
     /// Segment by segment, and in each rung by rung.
     sizes: &'static [u32],
     /// Milliseconds, thousandths of a kbps, and latency.
@@ -245,7 +245,7 @@ const CASES: [Case; 12] = [
 fn film(alloc: Global, case: &Case) -> Result<Manifest, Fail> {
     let mut bitrates = Vec::new(alloc);
     for rung in 0..case.rungs {
-        bitrates.push(rung + 1)?;
+        bitrates.push(rung as u32 + 1)?;
     }
     let sizes = case.sizes.to_vec(alloc)?;
     Ok(Manifest::from_parts(case.seg_ms, bitrates, sizes).ok_or("not a film")?)
@@ -270,7 +270,7 @@ fn setup(alloc: Global, case: &Case) -> Result<Setup, Fail> {
     let weights = if case.segments == 0 {
         Weights::from_parts(utilities, switch, stall, startup)
     } else {
-        Weights::from_table(utilities, case.rungs as u8, switch, stall, startup)
+        Weights::from_table(utilities, case.rungs, switch, stall, startup)
     };
     Ok(Setup {
         buffer_ms: case.buffer_ms,
