@@ -3,10 +3,9 @@ use Rattle.std.proofs.Common.{◌≡◌, ◌∙◌, ◌-◌, ◌≤◌, ℕ, suc
 use Rattle.std.specs.Prelude.{ℤ, nat_lt}
 use Rattle.std.specs.List.{slice_get}
 use Rattle.std.proofs.lemmas.Bool.{le-ltb, lt-ltb}
-use Rattle.lab_model.specs.declared.setup.Setup.{Setup}
 use Rattle.lab_model.specs.declared.trace.Period.{Period}
 use Rattle.lab_io.specs.Sink.{Text, Seen}
-use Rattle.lab_model.specs.Film.{Film, segments_of}
+use Rattle.lab_model.specs.Film.{segments_of}
 use Rattle.lab_inputs.specs.declared.stop.Stop.{Stop}
 use Rattle.lab_inputs.specs.Inputs.{InputValues}
 use Rattle.lab_inputs.specs.Settings.{settled}
@@ -15,7 +14,7 @@ use Rattle.frontier_planner.specs.declared.plans.CoarsePlan.{CoarsePlan}
 use Rattle.frontier_planner.specs.declared.plans.PlanErr.{PlanErr}
 use Rattle.frontier_planner.specs.declared.plans.PlanErr.TheVariants as planned
 use Rattle.labels.specs.Grid.{Rounding, IsGrid, exact}
-use Rattle.player_core.specs.Scene.{Task, task_of}
+use Rattle.player_core.specs.Scene.{Task}
 use Rattle.labels.specs.Parts.{CertificateParts, plan_parts}
 use Rattle.frontier_planner.specs.Planned.{CoarseAnswer, ExactAnswer, IsListOf, IsPlanOf, ListAnswer}
 use Rattle.labels.specs.Frontier.{frontier}
@@ -26,7 +25,6 @@ use Rattle.labels.proofs.Rounds.{exact_fits}
 use Rattle.certificate_text.specs.Form.{IsGapCertificate}
 use Rattle.gap_plan.specs.Gap.{plan_gap}
 use Rattle.abrlab_top.specs.declared.ending.Ending.TheVariants as ending
-use Rattle.abrlab_top.specs.Ahead.{ahead_of}
 use Rattle.abrlab_top.specs.Answer.{printed}
 use Rattle.abrlab_top.specs.Ending.{after_plan}
 use Rattle.abrlab_top.specs.Plan.{IsListFound, IsPlanned, PlanAsked, bound_on, certificate_lines, certificate_on, chains_on, labels_on, list_lines, parts_text, plan, plan_on, planned_on, spent_on, steps_of, task_on, unless_spent}
@@ -125,10 +123,6 @@ plan_has_form o g c of = record { bound = of.short; inner = of.form }
 -- the chains spend the budget
 task_spent : (o : PlanAsked) (g : Task) (s : ℕ) → SpentAt g (chains_on o.grid g) o.budget s → planned_on o g ≡ Err (ending.Spent None s)
 task_spent o g s at = ap (unless_spent o g) (spent_at o.grid g o.budget s at)
-
--- the task is the one on the network
-pub task_is : (i : InputValues) (periods clock : List Period) (film : Film) (setup : Setup) (ahead : ℕ) → film ≡ i.film → clock ≡ periods → setup ≡ i.setup → ahead ≡ ahead_of i.live → task_of film clock setup ahead ≡ task_on i periods
-task_is i periods clock film setup ahead f p q a = rw (f, p, q, a) refl
 
 -- planning failed
 pub plan_failed : (o : PlanAsked) (g : Task) (old : Seen) (r : Result CoarsePlan PlanErr) (e : PlanErr) → r ≡ Err e → IsPlanned o.grid g o.budget r → Writes at_the_end (planned_on o g) old (after_plan e) old

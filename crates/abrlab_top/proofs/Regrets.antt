@@ -10,8 +10,6 @@ use Rattle.std.proofs.lemmas.List.{drop_all, get_or-map, get_or_default, length-
 use Rattle.std.proofs.lemmas.List.Elements.{All-map}
 use Rattle.lab_io.specs.Sink.{Text, Seen}
 use Rattle.lab_model.specs.declared.trace.Period.{Period}
-use Rattle.lab_model.specs.declared.setup.Setup.{Setup}
-use Rattle.lab_model.specs.Film.{Film}
 use Rattle.lab_model.specs.Rules.{KindFits, RuleKind}
 use Rattle.lab_words.specs.declared.NamedRule.{NamedRule}
 use Rattle.lab_words.specs.Command.{named}
@@ -22,7 +20,7 @@ use Rattle.lab_inputs.specs.declared.stop.Stop.{Stop}
 use Rattle.lab_inputs.specs.Inputs.{InputValues}
 use Rattle.lab_inputs.specs.Settings.{settled}
 use Rattle.lab_inputs.specs.Stages.{network_of}
-use Rattle.player_core.specs.Scene.{IsTask, task_of}
+use Rattle.player_core.specs.Scene.{IsTask}
 use Rattle.frontier_planner.specs.declared.plans.BoundedList.{BoundedList}
 use Rattle.frontier_planner.specs.declared.plans.PlanErr.TheVariants as planned
 use Rattle.labels.specs.Frontier.{frontier}
@@ -38,14 +36,13 @@ use Rattle.abrlab_top.specs.declared.ending.Ending.{Ending}
 use Rattle.abrlab_top.specs.declared.ending.Ending.TheVariants as ending
 use Rattle.abrlab_top.specs.declared.regret.Scored.{Scored}
 use Rattle.abrlab_top.specs.Answer.{printed}
-use Rattle.abrlab_top.specs.Ahead.{ahead_of}
 use Rattle.abrlab_top.specs.Choice.{AreBounds, IsBound}
 use Rattle.abrlab_top.specs.Plan.{IsListFound, PlanAsked, task_on}
 use Rattle.abrlab_top.specs.Regret.{AreCompared, AreRanked, AreTops, CanRank, IsTop, RankingValue, SpentBy, Unspent, best_on, first_spent, near_regret, network_rows, networks_rows, ranked_row, ranked_text, regret, regret_text, rows_of, score_on, scored_on, scores_at, scores_over, seen_scored, spent_there, sums_row, tops_of, unless_any_spent}
 use Rattle.abrlab_top.specs.Stages.{Writes, at_the_end}
 use Rattle.abrlab_top.proofs.Behind.{are_scores, best_bounds}
 use Rattle.abrlab_top.proofs.Networks.{all_mapped, rules_within}
-use Rattle.abrlab_top.proofs.Plans.{never_spent, spent_at, task_is}
+use Rattle.abrlab_top.proofs.Plans.{never_spent, spent_at}
 use Rattle.abrlab_top.proofs.Whole.{wanting}
 
 cons_same : {A : Type 0} {x y : A} {xs ys : List A} → x ∷ xs ≡ y ∷ ys → (x ≡ y) × (xs ≡ ys)
@@ -62,10 +59,6 @@ pub map_more : {A B : Type 0} (f : A → B) (xs : List A) (k : ℕ) (x : A) → 
 map_more f xs k x lt e = ap (map f) (rw (add-one, take-suc xs k x lt, ← e) refl) ∙ map-append f (take k xs) (x ∷ [])
 
 -- ---- on one network
-
--- the task is the one on the network
-pub task_seen : (i seen : InputValues) (clock : List Period) (film : Film) (setup : Setup) (ahead : ℕ) → seen ≡ i → film ≡ seen.film → setup ≡ seen.setup → ahead ≡ ahead_of seen.live → task_of film clock setup ahead ≡ task_on i clock
-task_seen i seen clock film setup ahead e f p a = task_is seen clock clock film setup ahead f refl p a ∙ ap (λ (v : InputValues). task_on v clock) e
 
 -- the list has the best score, and no budget is spent
 pub best_listed : (i : InputValues) (periods : List Period) (budget place : ℕ) (o : PlanAsked) (b : BoundedList) → o ≡ record { grid = None; budget = budget; as_certificate = false } → IsListFound o.grid (task_on i periods) o.budget (Ok b)
