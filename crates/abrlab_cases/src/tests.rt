@@ -19,6 +19,7 @@ mod reach;
 mod regret;
 mod rules;
 mod simulate;
+mod statuses;
 mod tables;
 mod usage;
 

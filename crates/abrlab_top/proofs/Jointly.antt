@@ -26,7 +26,7 @@ use Rattle.player_core.specs.declared.session.Session.{Session}
 use Rattle.player_core.specs.Session.{Shown, shown}
 use Rattle.session_report.specs.Session.{CanReport, session_text}
 use Rattle.shared_link.specs.Joint.{JointCase, joint_of, joint_session, players_of}
-use Rattle.shared_link.specs.Table.{AreSessions, IsWhole}
+use Rattle.shared_link.specs.Table.{AreSessions, IsWholeSession}
 use Rattle.abrlab_top.specs.declared.ending.Ending.{Ending}
 use Rattle.abrlab_top.specs.declared.ending.Ending.TheVariants as ending
 use Rattle.abrlab_top.specs.declared.rule.AnyRule.{AnyRule}
@@ -176,7 +176,7 @@ has_utility f set rung segment fits h = (rw fits.utilities.rungs h.0, by_rows fi
     by_rows (inr all) some = rw all h.1
 
 -- a session of the film can be reported
-can_report : (f : Film) (set : Setup) (s : Session) → SetupFits set f → IsWhole f s → CanReport (shown s) set.weights
+can_report : (f : Film) (set : Setup) (s : Session) → SetupFits set f → IsWholeSession f s → CanReport (shown s) set.weights
 can_report f set s fits whole =
     let times = whole.times in
     let ends = whole.ends in
@@ -191,7 +191,7 @@ can_report f set s fits whole =
     }
 
 -- each session can be reported
-pub all_reported : (film : Film) (set weighed : Setup) (ss : List Session) → SetupFits set film → weighed ≡ set → All (IsWhole film) ss → All (λ s. CanReport (shown s) weighed.weights) ss
+pub all_reported : (film : Film) (set weighed : Setup) (ss : List Session) → SetupFits set film → weighed ≡ set → All (IsWholeSession film) ss → All (λ s. CanReport (shown s) weighed.weights) ss
 all_reported film set weighed ss fits e h = λ i d low. rw e (can_report film set (get_or ss i d) fits (h i d low))
 
 -- the case that was played is that of the inputs

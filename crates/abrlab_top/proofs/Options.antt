@@ -4,9 +4,8 @@ use Rattle.std.proofs.lemmas.Bool.Decides.{nat_tests}
 use Rattle.lab_model.specs.Film.{IsWithin}
 use Rattle.lab_words.specs.declared.Verb.TheVariants.{Compare, Plan}
 use Rattle.lab_words.specs.Command.{CommandWords}
-use Rattle.lab_words.specs.Limits.{HasItsOwn, IsBudget, IsWithinLimits, agrees}
+use Rattle.lab_words.specs.Limits.{AreGridWords, HasItsOwn, IsBudget, IsWithinLimits, agrees}
 use Rattle.lab_words.specs.Values.{at_most_one}
-use Rattle.lab_words.specs.Limits as words
 use Rattle.labels.specs.Grid.{IsGrid}
 use Rattle.abrlab_top.specs.Plan.{grid_in}
 
@@ -18,7 +17,7 @@ no_grid time value e = rw e refl
 pub grid_fits : (c : CommandWords) → IsWithinLimits c → IfSome (grid_in c.coarse_time c.coarse_value) IsGrid
 grid_fits c limits = by_grid c.coarse_time c.coarse_value limits.grid
   where
-    by_grid : (time value : ℕ) → words.IsGrid time value → IfSome (grid_in time value) IsGrid
+    by_grid : (time value : ℕ) → AreGridWords time value → IfSome (grid_in time value) IsGrid
     by_grid time value (inl none) = rw none.0 tt
     by_grid time value (inr some) =
         let low = some.0.0 in

@@ -119,11 +119,7 @@ pub(crate) fn list_on(
 }
 
 /// The plan on a scene.
-fn plan_on(
-    alloc: Global,
-    scene: &Scene<'_>,
-    options: PlanOptions,
-) -> Result<CoarsePlan, PlanErr>
+fn plan_on(alloc: Global, scene: &Scene<'_>, options: PlanOptions) -> Result<CoarsePlan, PlanErr>
     ensures { IsPlanned options.grid scene.now options.budget result }
 {
     plan_from(alloc, scene, steps_of(options.grid()), options.budget())

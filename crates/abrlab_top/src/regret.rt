@@ -313,11 +313,7 @@ fn put_regrets<O: Sink>(
 }
 
 /// Plays and plans everything, where the settings fit.
-fn score_all(
-    alloc: Global,
-    inputs: &Inputs,
-    budget: Option<Budget>,
-) -> Result<Vec<Scored>, Ending>
+fn score_all(alloc: Global, inputs: &Inputs, budget: Option<Budget>) -> Result<Vec<Scored>, Ending>
     requires { CanRank inputs.now }
     ensures { Unspent (first_spent inputs.now budget 1 inputs.now.networks)
         (λ table. AreCompared inputs.now budget table.items) result }
@@ -343,7 +339,7 @@ fn write_regrets<O: Sink>(
 
 /// Plays and bounds everything, and then writes.
 fn write_near_regrets<O: Sink>(alloc: Global, inputs: &Inputs, out: &mut O) -> Result<(), Ending>
-    requires calm { inputs.now.setup.abandon ≡ false }
+    requires { inputs.now.setup.abandon ≡ false }
     ensures { WritesBounds inputs.now (O.seen out.old) (ended result) (O.seen out.new) }
 {
     inputs.fit()?;

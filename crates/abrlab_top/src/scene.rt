@@ -27,5 +27,10 @@ pub(crate) fn scene_on<'a>(inputs: &'a Inputs, clock: &'a Clock) -> Scene<'a>
     ensures value { result ≡ task_on inputs.entry.now clock.entry.now }
     ensures task { IsTask result }
 {
-    Scene::new(inputs.manifest(), clock, inputs.setup(), media_ahead(inputs))
+    Scene::new(
+        inputs.manifest(),
+        clock,
+        inputs.setup(),
+        media_ahead(inputs),
+    )
 }

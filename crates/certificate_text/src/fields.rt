@@ -24,7 +24,7 @@ pub(crate) struct Digits {
 
 /// From which number to which one a number may lie, both included.
 #[derive(Clone, Copy)]
-pub struct Limits {
+pub struct NumberRange {
     /// The least.
     pub low: u32,
     /// The greatest.
@@ -163,21 +163,21 @@ pub fn read_known(row: u32, known: u32, stop: u8, bytes: &[u8]) -> Result<&[u8],
     value_if(row, n == u64::from(known), rest)
 }
 
-/// A number within limits, and what stands behind it and the byte that ends it. It is refused exactly where the line
+/// A number of a range, and what stands behind it and the byte that ends it. It is refused exactly where the line
 /// goes on otherwise.
 #[tactic(auto, unfolding(crate::specs::Fields::read_within))]
 pub fn read_within(
     row: u32,
-    limits: Limits,
+    range: NumberRange,
     stop: u8,
     bytes: &[u8],
 ) -> Result<(u32, &[u8]), InputFault>
     ensures number { Gives (λ x. (x.0, x.1.now)) result
-        (read_within row limits.low limits.high stop bytes.now) }
-    ensures within { IfOk result (λ x. IsWithin limits.low limits.high x.0) }
+        (read_within row range.low range.high stop bytes.now) }
+    ensures within { IfOk result (λ x. IsWithin range.low range.high x.0) }
 {
     let (n, rest) = read_number(row, PLACE_DIGITS, stop, bytes)?;
-    if u64::from(limits.low) <= n && n <= u64::from(limits.high) {
+    if u64::from(range.low) <= n && n <= u64::from(range.high) {
         Ok((n as u32, rest))
     } else {
         Err(line_refusal(row))

@@ -10,10 +10,10 @@ ghost use Rattle.certificate_text.specs.Reading.{counts_of, place_of, read_bound
 
 use crate::certificate::Certificate;
 use crate::fields::{
-    Digits, Limits, PLACE_DIGITS, push, push_numbers, read_known, read_signed, read_within,
+    Digits, NumberRange, PLACE_DIGITS, push, push_numbers, read_known, read_signed, read_within,
     read_word, stop_before,
 };
-use crate::places::{Counts, Head, Heading, Spot};
+use crate::places::{Counts, Heading, Opening, Spot};
 use lab_model::InputFault;
 use std::alloc::Global;
 
@@ -42,7 +42,7 @@ pub fn read_count<'a>(
     ensures within { IfOk result (λ x. IsWithin 1 most x.0) }
 {
     let rest = read_word(row, word, b' ', bytes)?;
-    read_within(row, Limits { low: 1, high: most }, b'\n', rest)
+    read_within(row, NumberRange { low: 1, high: most }, b'\n', rest)
 }
 
 /// The first line: whether its version is that of a setup with a utility table.
@@ -160,7 +160,7 @@ pub(crate) fn read_head(
     alloc: Global,
     heading: Heading,
     bytes: &[u8],
-) -> Result<Head<'_>, InputFault>
+) -> Result<Opening<'_>, InputFault>
     ensures { Gives (λ head. (certificate_parts head.certificate, place_of head.spot)) result
         (read_head heading.lines bytes.now) }
 {
@@ -195,5 +195,5 @@ pub(crate) fn read_head(
         left: MOST_LABELS,
         rest,
     };
-    Ok(Head { certificate, spot })
+    Ok(Opening { certificate, spot })
 }

@@ -33,7 +33,9 @@ mod writer;
 
 pub use certificate::{Certificate, GapCertificate, Layer};
 pub use chains::read_last;
-pub use fields::{Limits, line_refusal, push, read_known, read_number, read_within, read_word};
+pub use fields::{
+    NumberRange, line_refusal, push, read_known, read_number, read_within, read_word,
+};
 pub use head::{
     MOST_RUNGS, MOST_SEGMENTS, NumberList, RUNG_DIGITS, read_amount, read_count, read_list,
     small_numbers,

@@ -13,7 +13,7 @@ ghost use Rattle.certificate_text.specs.Walk.{BeginsBadly, BeginsGap, BeginsLaye
 use crate::certificate::{Certificate, GapCertificate, Layer};
 use crate::chains::{read_chains, read_end};
 use crate::head::{read_bound, read_head};
-use crate::places::{Head, Heading, Spot};
+use crate::places::{Heading, Opening, Spot};
 use lab_model::{InputFault, Refusal};
 use std::alloc::Global;
 use std::marker::Model;
@@ -95,7 +95,7 @@ impl<'a> Lines<'a> {
     }
 
     /// The reader behind these lines, which stands at the first layer.
-    fn at_first_layer(alloc: Global, head: Head<'a>, bound: i128) -> Lines<'a>
+    fn at_first_layer(alloc: Global, head: Opening<'a>, bound: i128) -> Lines<'a>
         ensures { result ≡ first_walk bound
             (certificate_parts head.entry.certificate, place_of head.entry.spot) }
     {

@@ -44,7 +44,7 @@ pub(crate) struct Spot<'a> {
 
 /// What stands before the chains, in a certificate that has no chains yet, and where these begin.
 #[derive(Drop)]
-pub(crate) struct Head<'a> {
+pub(crate) struct Opening<'a> {
     /// The certificate.
     pub(crate) certificate: Certificate,
     /// The place of its first chain.

@@ -9,9 +9,9 @@ use Rattle.std.proofs.lemmas.List.Elements.{All-head, All-tail, Contains-append_
 use Rattle.std.proofs.lemmas.List.FromFn.{length-range_with_len, get_or-range_with_len}
 use Rattle.lab_model.specs.Ladder.{rungs_below}
 use Rattle.lab_model.proofs.Rungs.{rungs_more}
-use Rattle.mpc_rule.specs.declared.outlook.Outlook.{Outlook}
 use Rattle.mpc_rule.specs.declared.forecast.Draft.{Draft}
-use Rattle.mpc_rule.specs.Search.{best_after, better, completions, extended, ladder_of}
+use Rattle.mpc_rule.specs.Lookahead.{Lookahead, ladder_of}
+use Rattle.mpc_rule.specs.Search.{best_after, better, completions, extended}
 use Rattle.mpc_rule.specs.Relaxations.{IsUnder}
 
 -- ---- the list that is kept of two
@@ -88,24 +88,24 @@ flat_contains {X} f (q ∷ qs) r x is here =
     ]
 
 -- a completion of a list with one more rung completes the list by one rung more
-pub extended_whole : (o : Outlook) (n : ℕ) (d e : Draft) (r : ℕ) → r < ladder_of o → Contains (completions o n (extended o d r)) e → Contains (completions o (suc n) d) e
+pub extended_whole : (o : Lookahead) (n : ℕ) (d e : Draft) (r : ℕ) → r < ladder_of o → Contains (completions o n (extended o d r)) e → Contains (completions o (suc n) d) e
 unfolding completions
 extended_whole o n d e r low is = flat_contains (λ q. completions o n (extended o d q)) (rungs_below (ladder_of o)) r e (below_contains (ladder_of o) r low) is
 
 -- a list completes itself
-pub whole_itself : (o : Outlook) (d : Draft) → Contains (completions o 0 d) d
+pub whole_itself : (o : Lookahead) (d : Draft) → Contains (completions o 0 d) d
 unfolding completions
 whole_itself o d = (0, omega arith, refl)
 
 -- ---- all lists, rung by rung
 
 -- after a whole list
-pub whole_best : (o : Outlook) (d : Draft) (best : Option Draft) → best_after o 0 d best ≡ better best d
+pub whole_best : (o : Lookahead) (d : Draft) (best : Option Draft) → best_after o 0 d best ≡ better best d
 unfolding completions
 whole_best o d best = refl
 
 -- after all lists with a rung below the next one
-pub rungs_best : (o : Outlook) (n : ℕ) (d : Draft) (best now : Option Draft) (rung : ℕ)
+pub rungs_best : (o : Lookahead) (n : ℕ) (d : Draft) (best now : Option Draft) (rung : ℕ)
     → now ≡ fold better best (flat_map (λ q. completions o n (extended o d q)) (rungs_below rung))
     → best_after o n (extended o d rung) now ≡ fold better best (flat_map (λ q. completions o n (extended o d q)) (rungs_below (rung + 1)))
 rungs_best o n d best now rung h =
@@ -116,7 +116,7 @@ rungs_best o n d best now rung h =
     ∙ ap (λ (qs : List ℕ). fold better best (flat_map lists qs)) (sym (rungs_more rung))
 
 -- after the lists with each rung next, all completions were considered
-pub all_best : (o : Outlook) (n : ℕ) (d : Draft) (best : Option Draft)
+pub all_best : (o : Lookahead) (n : ℕ) (d : Draft) (best : Option Draft)
     → fold better best (flat_map (λ q. completions o n (extended o d q)) (rungs_below (ladder_of o))) ≡ best_after o (suc n) d best
 unfolding completions
 all_best o n d best = refl

@@ -3,8 +3,7 @@ use Rattle.std.proofs.Common.{◌≡◌, ◌∙◌, ℕ, ◌+◌, ◌-◌, ◌*�
 use Rattle.std.specs.Prelude.{slice_index}
 use Rattle.std.specs.Int.{abs_diff}
 use Rattle.std.specs.List.{All, fold}
-use Rattle.std.proofs.lemmas.List.Elements.{All-nil, All-cons, All-append, All-head, All-tail, All-drop}
-use Rattle.circular_buffer.specs.Buffer.{Buffer, buffer, keep_last}
+use Rattle.std.proofs.lemmas.List.Elements.{All-head, All-tail}
 use Rattle.lab_model.specs.declared.setup.Setup.{Setup}
 use Rattle.lab_model.specs.declared.context.Context.{Context}
 use Rattle.lab_model.specs.Film.{Film, IsWithin}
@@ -12,23 +11,9 @@ use Rattle.lab_model.specs.Horizon.{horizon_score}
 use Rattle.lab_model.specs.Mpc.{best_list, lists_ahead, mpc_choice}
 use Rattle.lab_model.specs.Rates.{error_after, errors_from, errors_of, greatest, harmonic_of, last_of, robust_rate}
 use Rattle.lab_model.proofs.Histories.{last_of_push}
-use Rattle.mpc_rule.specs.Recall.{IsRing, Recall, IsRecallOf, rate_ahead}
+use Rattle.mpc_rule.specs.Recall.{Recall, IsRecallOf, rate_ahead}
 
--- ---- the rings keep their limits
-
--- one more number within the limits
-pub ring_push : (low high : ℕ) (ring : Buffer ℕ) (n : ℕ) → IsRing low high ring → IsWithin low high n → IsRing low high (buffer (keep_last ring.capacity (ring.items ++ n ∷ [])) ring.capacity)
-ring_push low high ring n is within = record {
-  capacity = is.capacity;
-  count = let cut = length-drop (length (ring.items ++ n ∷ []) - ring.capacity) (ring.items ++ n ∷ []) in let five = is.capacity in omega (arith, cut, five);
-  numbers = All-drop (IsWithin low high) (length (ring.items ++ n ∷ []) - ring.capacity) (ring.items ++ n ∷ [])
-      (All-append (IsWithin low high) ring.items (n ∷ []) is.numbers (All-cons (IsWithin low high) n [] within (All-nil (IsWithin low high))));
-}
-
--- its numbers are the last 5, with the new one
-pub pushed_items : (low high : ℕ) (ring now : Buffer ℕ) (n : ℕ) → IsRing low high ring → now ≡ buffer (keep_last ring.capacity (ring.items ++ n ∷ [])) ring.capacity
-    → now.items ≡ last_of 5 (ring.items ++ n ∷ [])
-pushed_items low high ring now n is e = ap (λ (b : Buffer ℕ). b.items) e ∙ ap (λ (m : ℕ). last_of m (ring.items ++ n ∷ [])) is.capacity
+-- ---- the greatest of the errors
 
 greatest_from_most : (high a : ℕ) (xs : List ℕ) → a ≤ high → All (IsWithin 0 high) xs → fold (λ x y. max x y) a xs ≤ high
 greatest_from_most high a [] low all = low

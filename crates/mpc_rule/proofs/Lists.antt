@@ -1,7 +1,7 @@
 -- The best of all completions of the empty list is the first list of the greatest horizon score.
-use Rattle.std.proofs.Common.{◌≡◌, ◌∙◌, ℕ, zero, suc, ◌+◌, ◌-◌, ◌*◌, ◌<◌, ◌≤◌, List, [], ◌∷◌, ◌++◌, length, Option, Some, None, Bool, true, false, cond, refl, sym, ap, arith, ◌==◌, add-zero}
-use Rattle.std.specs.Prelude.{ℤ, pos, ◌+ℤ◌, ◌-ℤ◌, int_lt, map, slice_index, fold}
-use Rattle.std.specs.List.{All, flat_map}
+use Rattle.std.proofs.Common.{◌≡◌, ◌∙◌, ℕ, zero, suc, ◌+◌, ◌-◌, ◌*◌, ◌<◌, List, [], ◌∷◌, ◌++◌, length, Option, Some, None, Bool, true, false, cond, refl, sym, ap, subst, arith, ◌==◌, add-zero}
+use Rattle.std.specs.Prelude.{ℤ, pos, ◌+ℤ◌, ◌-ℤ◌, ◌<ℤ◌, int_lt, map, slice_index, fold}
+use Rattle.std.specs.List.{All, Contains, flat_map}
 use Rattle.std.proofs.Math.Dec.{eqb-suc-zero}
 use Rattle.std.proofs.lemmas.Int.{ints}
 use Rattle.std.proofs.lemmas.Bool.{cond_both}
@@ -15,25 +15,26 @@ use Rattle.lab_model.specs.Horizon.{foretold_ms, horizon_score, next_level}
 use Rattle.lab_model.specs.Ladder.{rungs_below}
 use Rattle.lab_model.specs.Mpc.{best_list, lists_of}
 use Rattle.lab_model.proofs.Choices.{best_keeps, flat_fits}
-use Rattle.mpc_rule.specs.declared.outlook.Outlook.{Outlook}
 use Rattle.mpc_rule.specs.declared.forecast.Draft.{Draft}
-use Rattle.mpc_rule.specs.Search.{better, best_after, best_rung, completions, extended, first_rung, gain_of, ladder_of, segment_after, start_of}
+use Rattle.mpc_rule.specs.Lookahead.{Lookahead, ladder_of}
+use Rattle.mpc_rule.specs.Search.{IsWholeDraft, better, best_after, best_rung, completions, extended, first_rung, gain_of, rungs_left, segment_after, start_of}
+use Rattle.mpc_rule.proofs.Floors.{floor_keeps}
 
 -- ---- the completions are the lists, each added to the list in hand
 
 -- the list in hand with rungs added, one after the other
-abbrev along : Outlook → Draft → List ℕ → Draft
+abbrev along : Lookahead → Draft → List ℕ → Draft
 along o d [] = d
 along o d (r ∷ rs) = along o (extended o d r) rs
 
-flat_along : (o : Outlook) (d : Draft) (lists : List (List ℕ)) (rs : List ℕ)
+flat_along : (o : Lookahead) (d : Draft) (lists : List (List ℕ)) (rs : List ℕ)
     → flat_map (λ r. map (along o (extended o d r)) lists) rs ≡ map (along o d) (flat_map (λ r. map (λ l. r ∷ l) lists) rs)
 flat_along o d lists [] = refl
 flat_along o d lists (r ∷ rs) =
     (λ i. sym (map-map (along o d) (λ l. r ∷ l) lists) i ++ flat_along o d lists rs i)
     ∙ sym (map-append (along o d) (map (λ l. r ∷ l) lists) (flat_map (λ q. map (λ l. q ∷ l) lists) rs))
 
-completions_along : (o : Outlook) (n : ℕ) (d : Draft) → completions o n d ≡ map (along o d) (lists_of (ladder_of o) n)
+completions_along : (o : Lookahead) (n : ℕ) (d : Draft) → completions o n d ≡ map (along o d) (lists_of (ladder_of o) n)
 unfolding completions lists_of
 completions_along o zero d = refl
 completions_along o (suc n) d =
@@ -52,21 +53,21 @@ horizon_more : (f : Film) (s : Setup) (rate segment level : ℕ) (before : Optio
 horizon_more f s rate segment level before r rs = omega (arith, ints)
 
 -- the score that a list in hand comes to along rungs
-abbrev score_along : Outlook → Draft → List ℕ → ℤ
-score_along o d rs = horizon_score o.film.now o.setup.now o.rate (segment_after o d) d.level d.before rs
+abbrev score_along : Lookahead → Draft → List ℕ → ℤ
+score_along o d rs = horizon_score o.film o.setup o.rate (segment_after o d) d.level d.before rs
 
-score_extended : (o : Outlook) (d : Draft) (r : ℕ) → (extended o d r).score ≡ d.score +ℤ gain_of o d r
+score_extended : (o : Lookahead) (d : Draft) (r : ℕ) → (extended o d r).score ≡ d.score +ℤ gain_of o d r
 unfolding extended
 score_extended o d r = refl
 
-score_more : (o : Outlook) (d : Draft) (r : ℕ) (rs : List ℕ) → score_along o d (r ∷ rs) ≡ gain_of o d r +ℤ score_along o (extended o d r) rs
+score_more : (o : Lookahead) (d : Draft) (r : ℕ) (rs : List ℕ) → score_along o d (r ∷ rs) ≡ gain_of o d r +ℤ score_along o (extended o d r) rs
 unfolding extended
 score_more o d r rs =
-    let later : o.context.now.next + d.count + 1 ≡ o.context.now.next + (d.count + 1) = omega arith in
-    horizon_more o.film.now o.setup.now o.rate (segment_after o d) d.level d.before r rs
-    ∙ (λ i. gain_of o d r +ℤ horizon_score o.film.now o.setup.now o.rate (later i) (extended o d r).level (Some r) rs)
+    let later : o.context.next + d.count + 1 ≡ o.context.next + (d.count + 1) = omega arith in
+    horizon_more o.film o.setup o.rate (segment_after o d) d.level d.before r rs
+    ∙ (λ i. gain_of o d r +ℤ horizon_score o.film o.setup o.rate (later i) (extended o d r).level (Some r) rs)
 
-score_is : (o : Outlook) (rs : List ℕ) (d : Draft) → (along o d rs).score ≡ d.score +ℤ score_along o d rs
+score_is : (o : Lookahead) (rs : List ℕ) (d : Draft) → (along o d rs).score ≡ d.score +ℤ score_along o d rs
 score_is o [] d = omega (arith, ints)
 score_is o (r ∷ rs) d =
     score_is o rs (extended o d r)
@@ -83,24 +84,24 @@ eqb_no : (n : ℕ) → 0 < n → (n == 0) ≡ false
 eqb_no zero some = absurd (omega (arith, some))
 eqb_no (suc n) some = eqb-suc-zero n
 
-first_extended : (o : Outlook) (d : Draft) (r : ℕ) → 0 < d.count → (extended o d r).first ≡ d.first
+first_extended : (o : Lookahead) (d : Draft) (r : ℕ) → 0 < d.count → (extended o d r).first ≡ d.first
 unfolding extended
 first_extended o d r some = let none = eqb_no d.count some in rw none refl
 
-count_extended : (o : Outlook) (d : Draft) (r : ℕ) → (extended o d r).count ≡ d.count + 1
+count_extended : (o : Lookahead) (d : Draft) (r : ℕ) → (extended o d r).count ≡ d.count + 1
 unfolding extended
 count_extended o d r = refl
 
-first_along : (o : Outlook) (rs : List ℕ) (d : Draft) → 0 < d.count → (along o d rs).first ≡ d.first
+first_along : (o : Lookahead) (rs : List ℕ) (d : Draft) → 0 < d.count → (along o d rs).first ≡ d.first
 first_along o [] d some = refl
 first_along o (r ∷ rs) d some =
     let more = count_extended o d r in first_along o rs (extended o d r) (omega (arith, more)) ∙ first_extended o d r some
 
-first_of_extended : (o : Outlook) (d : Draft) (r : ℕ) → d.count ≡ 0 → (extended o d r).first ≡ r
+first_of_extended : (o : Lookahead) (d : Draft) (r : ℕ) → d.count ≡ 0 → (extended o d r).first ≡ r
 unfolding extended
 first_of_extended o d r none = rw none refl
 
-first_is : (o : Outlook) (l : List ℕ) (d : Draft) → d.count ≡ 0 → 0 < length l → (along o d l).first ≡ slice_index l 0
+first_is : (o : Lookahead) (l : List ℕ) (d : Draft) → d.count ≡ 0 → 0 < length l → (along o d l).first ≡ slice_index l 0
 first_is o [] d none some = absurd (omega (arith, some))
 first_is o (r ∷ rs) d none some =
     let more = count_extended o d r in first_along o rs (extended o d r) (omega (arith, more)) ∙ first_of_extended o d r none
@@ -150,13 +151,27 @@ lists_long count (suc n) =
     (λ r u. All-map (λ l. length l ≡ suc n) (λ rs. r ∷ rs) (lists_of count n) (λ k d h. ap suc (lists_long count n k d h))) (λ k d h. tt)
 
 -- the first rung of the best completion of no rungs is that of the best list
-pub best_is : (o : Outlook) (n : ℕ) → 0 < n → n ≤ 5 → first_rung (best_after o n (start_of o) None) ≡ best_rung o n
-best_is o n some few =
+pub best_is : (o : Lookahead) → 0 < o.span → first_rung (best_after o o.span (start_of o) None) ≡ best_rung o
+best_is o some =
+    let n = o.span in
     ap (λ (ds : List Draft). first_rung (fold better None ds)) (completions_along o n (start_of o))
     ∙ best_first (score_along o (start_of o)) (along o (start_of o)) (λ l. length l ≡ n)
     (λ l h. score_is o l (start_of o) ∙ nothing (score_along o (start_of o) l))
     (lists_of (ladder_of o) n) (λ l h. first_is o l (start_of o) refl (omega (arith, h))) (lists_long (ladder_of o) n)
-    ∙ ap (λ (segment : ℕ). slice_index (best_list (horizon_score o.film.now o.setup.now o.rate segment o.context.now.level o.context.now.last) (lists_of (ladder_of o) n)) 0) (add-zero o.context.now.next)
+    ∙ ap (λ (segment : ℕ). slice_index (best_list (horizon_score o.film o.setup o.rate segment o.context.level o.context.last) (lists_of (ladder_of o) n)) 0) (add-zero o.context.next)
   where
     nothing : (z : ℤ) → pos 0 +ℤ z ≡ z
     nothing z = omega (arith, ints)
+
+-- a search from the list of no rungs that begins with less than some whole list has finds the best list
+pub found_is : (o : Lookahead) (start found below whole : Draft) → start ≡ start_of o → 0 < o.span → Some found ≡ best_after o (rungs_left o start) start (Some below)
+    → IsWholeDraft o whole → below.score <ℤ whole.score → found.first ≡ best_rung o
+found_is o start found below whole begins some is list less =
+    let count = ap (λ (d : Draft). d.count) begins in
+    let all : rungs_left o start ≡ o.span = omega (arith, count) in
+    let one = subst (λ (d : Draft). Contains (completions o o.span d) whole) (sym begins) list.list in
+    ap first_rung is
+    ∙ ap (λ (n : ℕ). first_rung (best_after o n start (Some below))) all
+    ∙ ap first_rung (floor_keeps below (completions o o.span start) whole one less)
+    ∙ ap (λ (d : Draft). first_rung (best_after o o.span d None)) begins
+    ∙ best_is o some

@@ -1,5 +1,5 @@
 -- What the segments to come can add at most bounds each completion.
-use Rattle.std.proofs.Common.{◌≡◌, ℕ, suc, ◌+◌, ◌-◌, ◌*◌, ◌<◌, ◌≤◌, [], refl, sym, ap, subst, arith}
+use Rattle.std.proofs.Common.{◌≡◌, ℕ, List, suc, ◌+◌, ◌-◌, ◌*◌, ◌<◌, ◌≤◌, [], refl, sym, ap, subst, arith}
 use Rattle.std.specs.Prelude.{ℤ, pos, ◌+ℤ◌, ◌≤ℤ◌, slice_index_or}
 use Rattle.std.specs.List.{All}
 use Rattle.std.proofs.Math.Nat.{mul-le-mul, mul-le-mul_left}
@@ -8,12 +8,10 @@ use Rattle.std.proofs.lemmas.List.Elements.{All-nil, All-cons, All-weaker}
 use Rattle.lab_model.specs.Ladder.{rungs_below}
 use Rattle.lab_model.specs.Weighing.{change_of}
 use Rattle.lab_model.proofs.Choices.{all_below, flat_fits}
-use Rattle.mpc_rule.specs.declared.outlook.Outlook.{Outlook}
 use Rattle.mpc_rule.specs.declared.forecast.Draft.{Draft}
-use Rattle.mpc_rule.specs.Search.{IsDraft, completions, extended, gain_of, ladder_of, segment_after, wait_of, weights_of}
-use Rattle.mpc_rule.specs.declared.forecast.Forecast.{Forecast}
-use Rattle.mpc_rule.specs.declared.relaxation.Relaxation.{Relaxation}
-use Rattle.mpc_rule.specs.Relaxations.{IsRelaxation, IsMostToCome, IsPromise, IsUnder, promise_of, room_of}
+use Rattle.mpc_rule.specs.Lookahead.{Lookahead, ladder_of, room_of, weights_of}
+use Rattle.mpc_rule.specs.Search.{IsDraft, completions, extended, gain_of, rungs_left, segment_after, wait_of}
+use Rattle.mpc_rule.specs.Relaxations.{IsCeiling, IsRelaxation, IsMostToCome, IsPromise, IsUnder, promise_of}
 
 times : (p a b c : ℕ) → p * (a + b + c) ≡ p * a + p * b + p * c
 times p a b c = omega arith
@@ -32,7 +30,7 @@ stall_is : (stall p wait level : ℕ) → p ≤ stall → (p + (stall - p)) * (w
 stall_is stall p wait level low = let same : p + (stall - p) ≡ stall = omega arith in ap (λ (s : ℕ). s * (wait - level)) same
 
 -- one more rung adds at most what it promises and the price of the media
-rung_most : (o : Outlook) (d : Draft) (r p seg next : ℕ) → p ≤ (weights_of o).stall → d.level ≤ room_of o → next ≤ (d.level - wait_of o d r) + seg
+rung_most : (o : Lookahead) (d : Draft) (r p seg next : ℕ) → p ≤ (weights_of o).stall → d.level ≤ room_of o → next ≤ (d.level - wait_of o d r) + seg
     → (gain_of o d r +ℤ pos (p * next)) ≤ℤ (pos (p * d.level) +ℤ promise_of o p (segment_after o d) r +ℤ pos (p * seg))
 rung_most o d r p seg next low within more =
     let w = weights_of o in
@@ -42,31 +40,31 @@ rung_most o d r p seg next low within more =
     omega (arith, ints, step, same)
 
 -- the level after one more rung is at most that of a full buffer, and what is left with one segment more
-level_extended : (o : Outlook) (d : Draft) (r : ℕ) → ((extended o d r).level ≤ room_of o) × ((extended o d r).level ≤ (d.level - wait_of o d r) + o.film.now.seg_ms)
+level_extended : (o : Lookahead) (d : Draft) (r : ℕ) → ((extended o d r).level ≤ room_of o) × ((extended o d r).level ≤ (d.level - wait_of o d r) + o.film.seg_ms)
 unfolding extended
 level_extended o d r = (omega arith, omega arith)
 
-count_extended : (o : Outlook) (d : Draft) (r : ℕ) → (extended o d r).count ≡ d.count + 1
+count_extended : (o : Lookahead) (d : Draft) (r : ℕ) → (extended o d r).count ≡ d.count + 1
 unfolding extended
 count_extended o d r = refl
 
-score_extended : (o : Outlook) (d : Draft) (r : ℕ) → (extended o d r).score ≡ d.score +ℤ gain_of o d r
+score_extended : (o : Lookahead) (d : Draft) (r : ℕ) → (extended o d r).score ≡ d.score +ℤ gain_of o d r
 unfolding extended
 score_extended o d r = refl
 
 -- each rung of the segment after so many promises at most so much
-abbrev pub Promise : Outlook → ℕ → ℕ → ℤ → Type 0
-Promise o p k m = (r : ℕ) → r < ladder_of o → promise_of o p (o.context.now.next + k) r ≤ℤ m
+abbrev pub Promise : Lookahead → ℕ → ℕ → ℤ → Type 0
+Promise o p k m = (r : ℕ) → r < ladder_of o → promise_of o p (o.context.next + k) r ≤ℤ m
 
 -- what a list in hand can come to, by the price of its level and what is added at most
 abbrev pub top : Draft → ℕ → ℤ → ℤ
 top d p z = d.score +ℤ pos (p * d.level) +ℤ z
 
-here_most : (o : Outlook) (p k : ℕ) (m : ℤ) (d : Draft) (r : ℕ) → Promise o p k m → d.count ≡ k → r < ladder_of o → promise_of o p (segment_after o d) r ≤ℤ m
-here_most o p k m d r promise e low = subst (λ (c : ℕ). promise_of o p (o.context.now.next + c) r ≤ℤ m) (sym e) (promise r low)
+here_most : (o : Lookahead) (p k : ℕ) (m : ℤ) (d : Draft) (r : ℕ) → Promise o p k m → d.count ≡ k → r < ladder_of o → promise_of o p (segment_after o d) r ≤ℤ m
+here_most o p k m d r promise e low = subst (λ (c : ℕ). promise_of o p (o.context.next + c) r ≤ℤ m) (sym e) (promise r low)
 
 -- the last segment adds at most the greatest promise
-pub last_most : (o : Outlook) (p k : ℕ) (m : ℤ) → p ≤ (weights_of o).stall → Promise o p k m
+pub last_most : (o : Lookahead) (p k : ℕ) (m : ℤ) → p ≤ (weights_of o).stall → Promise o p k m
     → (d : Draft) → d.count ≡ k → d.level ≤ room_of o → All (IsUnder (top d p m)) (completions o 1 d)
 unfolding completions
 last_most o p k m low promise d e within =
@@ -79,20 +77,20 @@ last_most o p k m low promise d e within =
     (all_below (ladder_of o))
 
 -- one segment before those to come adds at most its greatest promise and the price of its media
-pub more_most : (o : Outlook) (p n k : ℕ) (m z : ℤ) → p ≤ (weights_of o).stall → Promise o p k m
+pub more_most : (o : Lookahead) (p n k : ℕ) (m z : ℤ) → p ≤ (weights_of o).stall → Promise o p k m
     → ((d : Draft) → d.count ≡ k + 1 → d.level ≤ room_of o → All (IsUnder (top d p z)) (completions o n d))
-    → (d : Draft) → d.count ≡ k → d.level ≤ room_of o → All (IsUnder (top d p (z +ℤ (pos (p * o.film.now.seg_ms) +ℤ m)))) (completions o (suc n) d)
+    → (d : Draft) → d.count ≡ k → d.level ≤ room_of o → All (IsUnder (top d p (z +ℤ (pos (p * o.film.seg_ms) +ℤ m)))) (completions o (suc n) d)
 unfolding completions
 more_most o p n k m z low promise rest d e within =
-    flat_fits (IsUnder (top d p (z +ℤ (pos (p * o.film.now.seg_ms) +ℤ m)))) (λ r. completions o n (extended o d r)) (λ q. q < ladder_of o) (rungs_below (ladder_of o))
+    flat_fits (IsUnder (top d p (z +ℤ (pos (p * o.film.seg_ms) +ℤ m)))) (λ r. completions o n (extended o d r)) (λ q. q < ladder_of o) (rungs_below (ladder_of o))
     (λ r small.
     let longer = extended o d r in
     let here = here_most o p k m d r promise e small in
     let level = level_extended o d r in
-    let step = rung_most o d r p o.film.now.seg_ms longer.level low within level.1 in
+    let step = rung_most o d r p o.film.seg_ms longer.level low within level.1 in
     let score = score_extended o d r in
     let count = count_extended o d r in
-    All-weaker (IsUnder (top longer p z)) (IsUnder (top d p (z +ℤ (pos (p * o.film.now.seg_ms) +ℤ m))))
+    All-weaker (IsUnder (top longer p z)) (IsUnder (top d p (z +ℤ (pos (p * o.film.seg_ms) +ℤ m))))
     (λ x under. omega (arith, ints, under, here, step, score)) (completions o n longer) (rest longer (omega (arith, count, e)) level.0))
     (all_below (ladder_of o))
 
@@ -103,7 +101,7 @@ pub price_most : (p ms most : ℕ) → p ≤ 1000000 → ms ≤ most → p * ms 
 price_most p ms most low few = mul-le-mul low few
 
 -- the last segment
-pub most_last : (o : Outlook) (p k : ℕ) (m z : ℤ) → p ≤ (weights_of o).stall → Promise o p k m → IsPromise m → z ≡ m → IsMostToCome o p 1 k z
+pub most_last : (o : Lookahead) (p k : ℕ) (m z : ℤ) → p ≤ (weights_of o).stall → Promise o p k m → IsPromise m → z ≡ m → IsMostToCome o p 1 k z
 most_last o p k m z low promise is e = record {
   under = λ d count within. subst (λ (y : ℤ). All (IsUnder (top d p y)) (completions o 1 d)) (sym e) (last_most o p k m low promise d count within);
   least = let h = is.least in omega (arith, ints, e, h);
@@ -111,23 +109,24 @@ most_last o p k m z low promise is e = record {
 }
 
 -- one segment before those to come
-pub most_more : (o : Outlook) (p n k : ℕ) (m y z : ℤ) → p ≤ (weights_of o).stall → p ≤ 1000000 → o.film.now.seg_ms ≤ 60000 → Promise o p k m → IsPromise m
-    → IsMostToCome o p n (k + 1) y → z ≡ y +ℤ (pos (p * o.film.now.seg_ms) +ℤ m) → IsMostToCome o p (n + 1) k z
+pub most_more : (o : Lookahead) (p n k : ℕ) (m y z : ℤ) → p ≤ (weights_of o).stall → p ≤ 1000000 → o.film.seg_ms ≤ 60000 → Promise o p k m → IsPromise m
+    → IsMostToCome o p n (k + 1) y → z ≡ y +ℤ (pos (p * o.film.seg_ms) +ℤ m) → IsMostToCome o p (n + 1) k z
 most_more o p n k m y z low small short promise is rest e = record {
   under = λ d count within.
       let same : suc n ≡ n + 1 = omega arith in
       subst (λ (x : ℤ). All (IsUnder (top d p x)) (completions o (n + 1) d)) (sym e)
-      (subst (λ (j : ℕ). All (IsUnder (top d p (y +ℤ (pos (p * o.film.now.seg_ms) +ℤ m)))) (completions o j d)) same (more_most o p n k m y low promise rest.under d count within));
+      (subst (λ (j : ℕ). All (IsUnder (top d p (y +ℤ (pos (p * o.film.seg_ms) +ℤ m)))) (completions o j d)) same (more_most o p n k m y low promise rest.under d count within));
   least = let h = is.least in let g = rest.least in omega (arith, ints, e, h, g);
-  most = let h = is.most in let g = rest.most in let load = price_most p o.film.now.seg_ms 60000 small short in omega (arith, ints, e, h, g, load);
+  most = let h = is.most in let g = rest.most in let load = price_most p o.film.seg_ms 60000 small short in omega (arith, ints, e, h, g, load);
 }
 
 -- what a list in hand comes to at most
-pub reach_is : (f : Forecast) (h : Relaxation) (d : Draft) (more : ℕ) (y z : ℤ) → IsRelaxation f h → IsDraft f.outlook d more → 0 < more → d.count + more ≡ f.length
-    → z ≡ top d h.price (slice_index_or h.most (more - 1) y) → All (IsUnder z) (completions f.outlook more d)
-reach_is f h d more y z relaxation is some whole e =
-    let most = relaxation.most (more - 1) y (omega (arith, some, whole)) in
-    let n : more - 1 + 1 ≡ more = omega (arith, some) in
-    let count : d.count ≡ f.length - (more - 1 + 1) = omega (arith, some, whole) in
-    subst (λ (x : ℤ). All (IsUnder x) (completions f.outlook more d)) (sym e)
-    (subst (λ (j : ℕ). All (IsUnder (top d h.price (slice_index_or h.most (more - 1) y))) (completions f.outlook j d)) n (most.under d count is.level))
+pub reach_is : (o : Lookahead) (p : ℕ) (sums : List ℤ) (d : Draft) (y z : ℤ) → IsRelaxation o p sums → IsDraft o d → d.count < o.span
+    → z ≡ top d p (slice_index_or sums (rungs_left o d - 1) y) → IsCeiling o d z
+reach_is o p sums d y z relaxation is room e =
+    let n = rungs_left o d - 1 in
+    let most = relaxation.most n y (omega (arith, room)) in
+    let more : n + 1 ≡ rungs_left o d = omega (arith, room) in
+    let count : d.count ≡ o.span - (n + 1) = omega (arith, room) in
+    subst (λ (x : ℤ). All (IsUnder x) (completions o (rungs_left o d) d)) (sym e)
+    (subst (λ (j : ℕ). All (IsUnder (top d p (slice_index_or sums n y))) (completions o j d)) more (most.under d count is.level))

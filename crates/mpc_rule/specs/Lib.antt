@@ -1,3 +1,4 @@
+pub mod Lookahead
 pub mod Search
 pub mod Relaxations
 pub mod Recall

@@ -1,20 +1,32 @@
-//! The segments of a horizon, and the lists of rungs for them.
+//! The segments that are looked at, and the lists of rungs for them.
 
-ghost use Rattle.std.specs.Prelude.{◌≡◌, ℕ, ◌+◌, ◌*◌, ◌<◌, ◌≤◌};
-ghost use Rattle.mpc_rule.specs.Search.{IsDraft, IsForecast, IsOutlook, IsForetoldTable, IsTold, change_after, extended, ladder_of, loss_at, segments_ahead, start_of};
+ghost use Rattle.std.specs.Prelude.{◌≡◌, ◌<◌, ◌≤◌};
+ghost use Rattle.mpc_rule.specs.Lookahead.{IsLookahead, ladder_of, room_of, weights_of};
+ghost use Rattle.mpc_rule.specs.Search.{IsDraft, IsForetoldTable, IsTold, change_after, extended, start_of};
 
-use crate::outlook::{Foretold, MOST_RUNGS, NOTHING, Outlook};
+use crate::outlook::{Foretold, NOTHING, Outlook};
+use lab_model::MOST_RUNGS;
+use std::marker::Model;
 
 /// The longest horizon, in segments.
 pub(crate) const LONGEST: usize = 5;
 
-/// What is foretold of the segments of a horizon.
-#[derive(Clone, Copy)]
+/// What is foretold of the segments that are looked at.
+#[derive(Drop)]
 pub(crate) struct Forecast<'a> {
-    pub(crate) outlook: Outlook<'a>,
-    /// The number of segments, 1 to 5.
-    pub(crate) length: u8,
-    pub(crate) table: Table,
+    outlook: &'a Outlook<'a>,
+    table: Table,
+}
+
+impl<'a> Model for Forecast<'a> {
+    ghost use Rattle.mpc_rule.specs.Lookahead.{IsLookahead, Lookahead};
+    ghost use Rattle.mpc_rule.specs.Search.{IsForetoldTable};
+
+    ghost Value = { Lookahead };
+
+    ghost view = { λ f. f.outlook.now };
+
+    ghost invariant = { λ f. IsLookahead f.outlook.now × IsForetoldTable f.outlook.now f.table };
 }
 
 /// What is foretold, segment by segment from the next one on, and in each rung by rung.
@@ -38,45 +50,90 @@ pub(crate) struct Draft {
     pub(crate) score: i64,
 }
 
-impl<'a> Outlook<'a> {
-    /// What is foretold of so many segments from the next one on.
-    fn table(&self, length: u8) -> Table
-        requires outlook { IsOutlook self.now }
-        requires segments { length ≤ segments_ahead self.now }
-        ensures { IsForetoldTable self.now length result }
+impl Outlook<'_> {
+    /// What is foretold of the segments that are looked at.
+    fn table(&self) -> Table
+        ensures table { IsForetoldTable self.now result }
+        ensures lookahead { IsLookahead self.now }
     {
         let mut rows = [[NOTHING; MOST_RUNGS]; LONGEST];
-        for k in 0..length {
+        for k in 0..self.span {
             rows[k as usize] = self.row(self.context.next + k as u16);
         }
         Table { rows }
     }
-
-    /// The forecast of so many segments.
-    pub(crate) fn forecast(&self, length: u8) -> Forecast<'a>
-        requires outlook { IsOutlook self.now }
-        requires some { 0 < length }
-        requires segments { length ≤ segments_ahead self.now }
-        ensures outlook { result.outlook ≡ self.now }
-        ensures length { result.length ≡ length }
-        ensures forecast { IsForecast result }
-    {
-        Forecast {
-            outlook: *self,
-            length,
-            table: self.table(length),
-        }
-    }
 }
 
-impl Forecast<'_> {
+impl<'a> Forecast<'a> {
+    /// The forecast of the segments that are looked at.
+    pub(crate) fn of(outlook: &'a Outlook<'a>) -> Forecast<'a>
+        ensures value { result ≡ outlook.entry.now }
+        ensures lookahead { IsLookahead result }
+    {
+        let table = outlook.table();
+        Forecast { outlook, table }
+    }
+
+    /// How many segments are looked at, 1 to 5.
+    pub(crate) fn span(&self) -> u8
+        ensures value { result ≡ self.now.span }
+        ensures lookahead { IsLookahead self.now }
+    {
+        let outlook = self.outlook;
+        outlook.span
+    }
+
+    /// The number of rungs of the ladder, 1 to 16.
+    pub(crate) fn rungs(&self) -> u8
+        ensures value { result ≡ ladder_of self.now }
+        ensures lookahead { IsLookahead self.now }
+    {
+        self.outlook.rungs()
+    }
+
+    /// The duration of a segment, in milliseconds.
+    pub(crate) fn seg_ms(&self) -> u32
+        ensures value { result ≡ self.now.film.seg_ms }
+        ensures lookahead { IsLookahead self.now }
+    {
+        let outlook = self.outlook;
+        outlook.film.seg_ms()
+    }
+
+    /// The level to which a segment can fill the buffer, in milliseconds.
+    pub(crate) fn room(&self) -> u32
+        ensures value { result ≡ room_of self.now }
+        ensures lookahead { IsLookahead self.now }
+    {
+        let outlook = self.outlook;
+        outlook.setup.buffer_ms - outlook.film.seg_ms()
+    }
+
+    /// The weight of a change of utility.
+    fn switch_weight(&self) -> u32
+        ensures value { result ≡ (weights_of self.now).switch }
+        ensures lookahead { IsLookahead self.now }
+    {
+        let outlook = self.outlook;
+        outlook.setup.weights.switch()
+    }
+
+    /// The weight of a millisecond of stall.
+    pub(crate) fn stall_weight(&self) -> u32
+        ensures value { result ≡ (weights_of self.now).stall }
+        ensures lookahead { IsLookahead self.now }
+    {
+        let outlook = self.outlook;
+        outlook.setup.weights.stall()
+    }
+
     /// The list of no rungs.
     pub(crate) fn start(&self) -> Draft
-        requires { IsForecast self.now }
-        ensures value { result ≡ start_of self.now.outlook }
-        ensures draft { IsDraft self.now.outlook result self.now.length }
+        ensures value { result ≡ start_of self.now }
+        ensures draft { IsDraft self.now result }
     {
-        let context = self.outlook.context;
+        let outlook = self.outlook;
+        let context = outlook.context;
         Draft {
             first: 0,
             before: context.last,
@@ -88,9 +145,8 @@ impl Forecast<'_> {
 
     /// What is foretold on a rung of the segment after so many.
     pub(crate) fn foretold(&self, count: u8, rung: u8) -> Foretold
-        requires forecast { IsForecast self.now }
-        requires segment { count < self.now.length }
-        requires rung { rung < ladder_of self.now.outlook }
+        requires segment { count < self.now.span }
+        requires rung { rung < ladder_of self.now }
         ensures { IsTold self.now count rung result }
     {
         self.table.rows[count as usize][rung as usize]
@@ -98,11 +154,10 @@ impl Forecast<'_> {
 
     /// How far the utility changes to one more rung from the rung before, 0 where there is none.
     fn change(&self, draft: &Draft, rung: u8, told: Foretold) -> u32
-        requires forecast { IsForecast self.now }
-        requires draft { IsDraft self.now.outlook draft.now 1 }
-        requires segment { draft.now.count < self.now.length }
+        requires draft { IsDraft self.now draft.now }
+        requires room { draft.now.count < self.now.span }
         requires told { IsTold self.now draft.now.count rung told }
-        ensures value { result ≡ change_after self.now.outlook draft.now rung }
+        ensures value { result ≡ change_after self.now draft.now rung }
         ensures limit { result ≤ 1000000 }
     {
         match draft.before {
@@ -113,40 +168,25 @@ impl Forecast<'_> {
         }
     }
 
-    /// What one more rung takes from the score by its change and by its stall.
-    fn loss(&self, draft: &Draft, rung: u8, told: Foretold) -> u64
-        requires forecast { IsForecast self.now }
-        requires draft { IsDraft self.now.outlook draft.now 1 }
-        requires segment { draft.now.count < self.now.length }
-        requires told { IsTold self.now draft.now.count rung told }
-        ensures value { result ≡ loss_at self.now draft.now rung }
-        ensures limit { result ≤ 200001000000000000 }
-    {
-        let weights = &self.outlook.setup.weights;
-        let change = self.change(draft, rung, told);
-        let stall = told.wait.saturating_sub(draft.level as u64);
-        weights.switch() as u64 * change as u64 + weights.stall() as u64 * stall
-    }
-
     /// The list with one more rung.
     pub(crate) fn with_rung(&self, draft: Draft, rung: u8) -> Draft
-        requires forecast { IsForecast self.now }
-        requires draft { IsDraft self.now.outlook draft 1 }
-        requires segment { draft.count < self.now.length }
-        requires rung { rung < ladder_of self.now.outlook }
-        ensures value { result ≡ extended self.now.outlook draft rung }
-        ensures draft { (n : ℕ) → IsDraft self.now.outlook draft (n + 1)
-            → IsDraft self.now.outlook result n }
+        requires draft { IsDraft self.now draft }
+        requires room { draft.count < self.now.span }
+        requires rung { rung < ladder_of self.now }
+        ensures value { result ≡ extended self.now draft rung }
+        ensures draft { IsDraft self.now result }
     {
-        let seg_ms = self.outlook.film.seg_ms();
         let told = self.foretold(draft.count, rung);
+        let change = self.change(&draft, rung, told);
+        let stall = told.wait.saturating_sub(draft.level as u64);
+        let loss = self.switch_weight() as u64 * change as u64 + self.stall_weight() as u64 * stall;
         let left = (draft.level as u64).saturating_sub(told.wait) as u32;
-        let gain = 1000 * told.utility as i64 - self.loss(&draft, rung, told) as i64;
+        let gain = 1000 * told.utility as i64 - loss as i64;
         Draft {
             first: if draft.count == 0 { rung } else { draft.first },
             before: Some(rung),
             count: draft.count + 1,
-            level: (left + seg_ms).min(self.outlook.setup.buffer_ms - seg_ms),
+            level: (left + self.seg_ms()).min(self.room()),
             score: draft.score + gain,
         }
     }

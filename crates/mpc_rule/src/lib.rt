@@ -13,11 +13,10 @@ mod relaxation;
 mod ring;
 mod search;
 
-use circular_buffer::HeapCircularBuffer;
 use forecast::LONGEST;
 use lab_model::{Context, Manifest, Rule, Sample, Setup};
 use outlook::Outlook;
-use ring::{KEPT, error_in, greatest_in, harmonic_in};
+use ring::{Errors, Rates};
 use std::alloc::{AllocError, Global};
 use std::marker::Model;
 
@@ -46,21 +45,19 @@ impl From<AllocError> for MpcErr {
 #[derive(Drop)]
 pub struct RobustMpc {
     horizon: u8,
-    rates: HeapCircularBuffer<u64>,
-    errors: HeapCircularBuffer<u64>,
+    rates: Rates,
+    errors: Errors,
 }
 
 impl Model for RobustMpc {
     ghost use Rattle.lab_model.specs.Film.{IsWithin};
-    ghost use Rattle.mpc_rule.specs.Recall.{IsRing, Recall};
+    ghost use Rattle.mpc_rule.specs.Recall.{Recall};
 
     ghost Value = { Recall };
 
-    ghost view = { λ r.
-        record { horizon = r.horizon; rates = r.rates.items; errors = r.errors.items } };
+    ghost view = { λ r. record { horizon = r.horizon; rates = r.rates; errors = r.errors } };
 
-    ghost invariant = { λ r. IsWithin 1 5 r.horizon × IsRing 1 10000000000 r.rates
-        × IsRing 0 10000000000000 r.errors };
+    ghost invariant = { λ r. IsWithin 1 5 r.horizon };
 }
 
 impl RobustMpc {
@@ -75,8 +72,8 @@ impl RobustMpc {
         }
         Ok(RobustMpc {
             horizon,
-            rates: HeapCircularBuffer::with_capacity(alloc, KEPT)?,
-            errors: HeapCircularBuffer::with_capacity(alloc, KEPT)?,
+            rates: Rates::new(alloc)?,
+            errors: Errors::new(alloc)?,
         })
     }
 
@@ -86,7 +83,7 @@ impl RobustMpc {
         ensures value { result ≡ rate_ahead self.now }
         ensures limits { IsWithin 1 10000000000 result }
     {
-        (1000 * harmonic_in(&self.rates) / (1000 + greatest_in(&self.errors))).max(1)
+        (1000 * self.rates.harmonic() / (1000 + self.errors.greatest())).max(1)
     }
 }
 
@@ -102,24 +99,25 @@ impl Rule for RobustMpc {
 
     fn observe(&mut self, s: Sample) {
         if !self.rates.is_empty() {
-            self.errors.push_back(error_in(&self.rates, s.rate));
+            self.errors.push(self.rates.error(s));
         }
-        self.rates.push_back(s.rate);
+        self.rates.push(s);
     }
 
     fn choose(&self, m: &Manifest, set: &Setup, c: &Context) -> u8 {
         if self.rates.is_empty() {
             return 0;
         }
+        prove!(set.weights.count() > 0);
+        let to_come = m.segments() - c.next;
         let outlook = Outlook {
             film: m,
             setup: set,
             context: c,
-            rungs: set.weights.count(),
             rate: self.rate_ahead(),
+            span: to_come.min(self.horizon as u16) as u8,
         };
-        let to_come = m.segments() - c.next;
-        outlook.best_rung(to_come.min(self.horizon as u16) as u8)
+        outlook.best_rung()
     }
 }
 

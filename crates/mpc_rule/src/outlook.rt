@@ -1,24 +1,46 @@
 //! What a choice is made from, and what it foretells of a segment on a rung.
 
-ghost use Rattle.std.specs.Prelude.{◌≡◌, ◌+◌, ◌*◌, ◌<◌, ◌≤◌};
+ghost use Rattle.std.specs.Prelude.{◌≡◌, ◌<◌};
 ghost use Rattle.lab_model.specs.Film.{segments_of};
-ghost use Rattle.mpc_rule.specs.Search.{IsForetold, IsOutlook, IsForetoldRow, ladder_of, wait_at};
+ghost use Rattle.mpc_rule.specs.Lookahead.{IsLookahead, ladder_of};
+ghost use Rattle.mpc_rule.specs.Search.{IsForetold, IsForetoldRow};
 
-use lab_model::{Context, Manifest, Setup};
+use lab_model::{Context, MOST_RUNGS, Manifest, Setup};
+use std::marker::Model;
 
-/// The most rungs of a ladder.
-pub(crate) const MOST_RUNGS: usize = 16;
-
-/// What a choice is made from.
-#[derive(Clone, Copy)]
+/// What a choice is made from: the setup fits the film, the context is one of the film's, and the segments that are
+/// looked at are 1 to 5, none past the last.
+#[derive(Drop)]
 pub(crate) struct Outlook<'a> {
     pub(crate) film: &'a Manifest,
     pub(crate) setup: &'a Setup,
     pub(crate) context: &'a Context,
-    /// The number of rungs, each with its utility.
-    pub(crate) rungs: u8,
     /// The rate that is reckoned with, in bits per second.
     pub(crate) rate: u64,
+    /// How many segments are looked at, from the next one on.
+    pub(crate) span: u8,
+}
+
+impl<'a> Model for Outlook<'a> {
+    ghost use Rattle.mpc_rule.specs.Lookahead.{IsLookahead, Lookahead};
+
+    ghost Value = { Lookahead };
+
+    ghost view = { λ o. record {
+      film = o.film.now;
+      setup = o.setup.now;
+      context = o.context.now;
+      rate = o.rate;
+      span = o.span;
+    } };
+
+    ghost invariant = { λ o. IsLookahead (record {
+      film = o.film.now;
+      setup = o.setup.now;
+      context = o.context.now;
+      rate = o.rate;
+      span = o.span;
+    }) };
 }
 
 /// What is foretold of a segment on a rung.
@@ -37,38 +59,33 @@ pub(crate) const NOTHING: Foretold = Foretold {
 };
 
 impl Outlook<'_> {
-    /// The milliseconds in which a segment is foretold to come.
-    fn wait(&self, seg: u16, rung: u8) -> u64
-        requires outlook { IsOutlook self.now }
-        requires segment { seg < segments_of self.now.film.now }
-        requires rung { rung < ladder_of self.now }
-        ensures value { result ≡ wait_at self.now seg rung }
-        ensures limit { result ≤ 200000000000 }
+    /// The number of rungs of the ladder, 1 to 16.
+    pub(crate) fn rungs(&self) -> u8
+        ensures value { result ≡ ladder_of self.now }
+        ensures lookahead { IsLookahead self.now }
     {
-        (1000 * self.film.size(seg, rung) as u64).div_ceil(self.rate)
+        self.film.rungs()
     }
 
     /// What is foretold of a segment on a rung.
     fn foretold(&self, seg: u16, rung: u8) -> Foretold
-        requires outlook { IsOutlook self.now }
-        requires segment { seg < segments_of self.now.film.now }
+        requires segment { seg < segments_of self.now.film }
         requires rung { rung < ladder_of self.now }
         ensures { IsForetold self.now seg rung result }
     {
         Foretold {
-            wait: self.wait(seg, rung),
+            wait: (1000 * self.film.size(seg, rung) as u64).div_ceil(self.rate),
             utility: self.setup.weights.utility(seg, rung),
         }
     }
 
     /// What is foretold of a segment, rung by rung.
     pub(crate) fn row(&self, seg: u16) -> [Foretold; MOST_RUNGS]
-        requires outlook { IsOutlook self.now }
-        requires segment { seg < segments_of self.now.film.now }
+        requires { seg < segments_of self.now.film }
         ensures { IsForetoldRow self.now seg result }
     {
         let mut row = [NOTHING; MOST_RUNGS];
-        for rung in 0..self.rungs {
+        for rung in 0..self.rungs() {
             row[rung as usize] = self.foretold(seg, rung);
         }
         row

@@ -5,101 +5,115 @@
 //! even a full buffer stalls. No list adds more than the price of the media in hand and that is loaded before its last
 //! segment, and the greatest promises of its segments.
 
-ghost use Rattle.std.specs.Prelude.{◌≡◌, ℕ, ◌+◌, ◌-◌, ◌*◌, ◌<◌, ◌≤◌, ◌≤ℤ◌};
-ghost use Rattle.std.specs.List.{All};
-ghost use Rattle.mpc_rule.specs.Search.{IsDraft, IsForecast, completions, ladder_of, weights_of};
-ghost use Rattle.mpc_rule.specs.Relaxations.{IsRelaxation, IsPromise, IsUnder, promise_at};
+ghost use Rattle.std.specs.Prelude.{◌≡◌, ℕ, ◌<◌, ◌≤◌, ◌≤ℤ◌};
+ghost use Rattle.mpc_rule.specs.Lookahead.{ladder_of, weights_of};
+ghost use Rattle.mpc_rule.specs.Search.{IsDraft};
+ghost use Rattle.mpc_rule.specs.Relaxations.{IsCeiling, IsPromise, promise_at};
 
 use crate::forecast::{Draft, Forecast, LONGEST};
+use std::marker::Model;
 
-/// What so many segments to come can add at most, at a price of a millisecond of media.
-#[derive(Clone, Copy)]
-pub(crate) struct Relaxation {
+/// What the segments to come can add at most, at a price of a millisecond of media.
+#[derive(Drop)]
+pub(crate) struct Relaxation<'a> {
+    forecast: &'a Forecast<'a>,
     /// The price in thousandths of a point, at most the weight of a millisecond of stall.
-    pub(crate) price: u32,
-    /// What the last segments of the horizon can add, the last alone at first, then the last two, and so on.
-    pub(crate) most: [i64; LONGEST],
+    price: u32,
+    /// What the last segments can add, the last alone at first, then the last two, and so on.
+    sums: [i64; LONGEST],
+}
+
+impl<'a> Model for Relaxation<'a> {
+    ghost use Rattle.mpc_rule.specs.Lookahead.{Lookahead};
+    ghost use Rattle.mpc_rule.specs.Relaxations.{IsRelaxation};
+
+    ghost Value = { Lookahead };
+
+    ghost view = { λ r. r.forecast.now };
+
+    ghost invariant = { λ r. IsRelaxation r.forecast.now r.price r.sums };
 }
 
 impl Forecast<'_> {
     /// What a rung of the segment after so many promises at a price.
     fn promise(&self, price: u32, count: u8, rung: u8) -> i64
-        requires forecast { IsForecast self.now }
-        requires price { price ≤ (weights_of self.now.outlook).stall }
-        requires segment { count < self.now.length }
-        requires rung { rung < ladder_of self.now.outlook }
+        requires price { price ≤ (weights_of self.now).stall }
+        requires segment { count < self.now.span }
+        requires rung { rung < ladder_of self.now }
         ensures value { result ≡ promise_at self.now price count rung }
         ensures limits { IsPromise result }
     {
         let told = self.foretold(count, rung);
-        let room = self.outlook.setup.buffer_ms - self.outlook.film.seg_ms();
-        let rest = self.outlook.setup.weights.stall() - price;
-        let stall = told.wait.saturating_sub(room as u64);
+        let rest = self.stall_weight() - price;
+        let stall = told.wait.saturating_sub(self.room() as u64);
         1000 * told.utility as i64 - (price as u64 * told.wait + rest as u64 * stall) as i64
     }
 
     /// The greatest promise of the rungs of the segment after so many.
     fn greatest_promise(&self, price: u32, count: u8) -> i64
-        requires forecast { IsForecast self.now }
-        requires price { price ≤ (weights_of self.now.outlook).stall }
-        requires segment { count < self.now.length }
-        ensures most { (rung : ℕ) → rung < ladder_of self.now.outlook
+        requires price { price ≤ (weights_of self.now).stall }
+        requires segment { count < self.now.span }
+        ensures most { (rung : ℕ) → rung < ladder_of self.now
             → promise_at self.now price count rung ≤ℤ result }
         ensures limits { IsPromise result }
     {
+        let rungs = self.rungs();
         let mut most = self.promise(price, count, 0);
-        for rung in 1..self.outlook.rungs {
+        for rung in 1..rungs {
             most = most.max(self.promise(price, count, rung));
         }
         most
     }
+}
 
+impl<'a> Relaxation<'a> {
     /// What the segments to come can add at most, at a price.
-    pub(crate) fn relaxation(&self, price: u32) -> Relaxation
-        requires forecast { IsForecast self.now }
-        requires price { price ≤ (weights_of self.now.outlook).stall }
-        ensures { IsRelaxation self.now result }
+    pub(crate) fn at(forecast: &'a Forecast<'a>, price: u32) -> Relaxation<'a>
+        requires { price ≤ (weights_of forecast.now).stall }
+        ensures { result ≡ forecast.entry.now }
     {
-        let load = (price as u64 * self.outlook.film.seg_ms() as u64) as i64;
-        let mut sum = self.greatest_promise(price, self.length - 1);
-        let mut most = [sum; LONGEST];
-        for n in 1..self.length {
-            sum += load + self.greatest_promise(price, self.length - 1 - n);
-            most[n as usize] = sum;
+        let load = (price as u64 * forecast.seg_ms() as u64) as i64;
+        let span = forecast.span();
+        let mut sum = forecast.greatest_promise(price, span - 1);
+        let mut sums = [sum; LONGEST];
+        for n in 1..span {
+            sum += load + forecast.greatest_promise(price, span - 1 - n);
+            sums[n as usize] = sum;
         }
-        Relaxation { price, most }
+        Relaxation {
+            forecast,
+            price,
+            sums,
+        }
     }
 
-    /// The most that a list can come to by its segments to come, by this relaxation.
-    pub(crate) fn bound(&self, relaxation: &Relaxation, draft: &Draft, more: u8) -> i64
-        requires forecast { IsForecast self.now }
-        requires relaxation { IsRelaxation self.now relaxation.now }
-        requires draft { IsDraft self.now.outlook draft.now more }
-        requires some { 0 < more }
-        requires whole { draft.now.count + more ≡ self.now.length }
-        ensures { All (IsUnder result) (completions self.now.outlook more draft.now) }
+    /// The most that a list can come to by its segments to come.
+    pub(crate) fn bound(&self, draft: &Draft) -> i64
+        requires draft { IsDraft self.now draft.now }
+        requires room { draft.now.count < self.now.span }
+        ensures { IsCeiling self.now draft.now result }
     {
-        let price = relaxation.price as u64 * draft.level as u64;
-        draft.score + price as i64 + relaxation.most[more as usize - 1]
+        let more = self.forecast.span() - draft.count;
+        let price = self.price as u64 * draft.level as u64;
+        draft.score + price as i64 + self.sums[more as usize - 1]
     }
 
-    /// A relaxation that bounds closely: the price is sought by halves, where what the whole horizon can come to is least.
-    pub(crate) fn tight_relaxation(&self) -> Relaxation
-        requires { IsForecast self.now }
-        ensures { IsRelaxation self.now result }
+    /// A relaxation that bounds closely: the price is sought by halves, where what a whole list can come to is least.
+    pub(crate) fn tight(forecast: &'a Forecast<'a>) -> Relaxation<'a>
+        ensures { result ≡ forecast.entry.now }
     {
-        let start = self.start();
-        let (mut low, mut high) = (0, self.outlook.setup.weights.stall());
+        let start = forecast.start();
+        let (mut low, mut high) = (0, forecast.stall_weight());
         while low < high {
             let middle = low + (high - low) / 2;
-            let here = self.bound(&self.relaxation(middle), &start, self.length);
-            let above = self.bound(&self.relaxation(middle + 1), &start, self.length);
+            let here = Relaxation::at(&*forecast, middle).bound(&start);
+            let above = Relaxation::at(&*forecast, middle + 1).bound(&start);
             if here <= above {
                 high = middle;
             } else {
                 low = middle + 1;
             }
         }
-        self.relaxation(low)
+        Relaxation::at(forecast, low)
     }
 }

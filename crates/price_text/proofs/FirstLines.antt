@@ -9,11 +9,11 @@ use Rattle.certificate_text.specs.Fields.{line_refusal, read_word}
 use Rattle.certificate_text.specs.Line.{Line, ends, fields_of, known, read_line, stop_of, within, word}
 use Rattle.certificate_text.specs.Grammar.{end_line, gap_bound_line, plan_line, rungs_line, score_line, segments_line, start_line}
 use Rattle.certificate_text.specs.Form.{GapParts}
-use Rattle.certificate_text.specs.Reading.{bound_at, certificate_behind, certificate_of, counts_at, gap_of, head_at, version_at}
+use Rattle.certificate_text.specs.Reading.{certificate_behind, certificate_of, gap_of, read_bound, read_counts, read_head, read_version}
 use Rattle.certificate_text.specs.Spelling.{chains_lines, gap_spelling, lines_text, spelling, table_lines, version_number}
 use Rattle.certificate_text.proofs.FieldLaws.{field_again, is_free, word_again}
 use Rattle.price_bounds.specs.Verdict.{PriceParts}
-use Rattle.price_text.specs.Reading.{counts_at as price_counts_at, head_at as price_head_at, prices_of}
+use Rattle.price_text.specs.Reading.{counts_at, head_at, prices_of}
 use Rattle.price_text.specs.Spelling.{prices_text, value_lines, window_lines}
 
 -- another word is refused
@@ -61,20 +61,20 @@ gap_begun c = refl
 
 -- a plain certificate's reader refuses the first line of one by prices
 pub not_plain : (c : PriceParts) → certificate_of (prices_text c) ≡ Err (line_refusal 1)
-unfolding certificate_behind head_at counts_at version_at
+unfolding certificate_behind read_head read_counts read_version
 not_plain c = ap certificate_of (prices_begun c) ∙ rw (first_refused (codes "certificate") (codes "prices") (within 1 2 ends) (behind_prices c) refl refl refl) refl
 
 -- that of a gap certificate does
 pub not_gap : (c : PriceParts) → gap_of (prices_text c) ≡ Err (line_refusal 1)
-unfolding gap_of bound_at
+unfolding gap_of read_bound
 not_gap c = ap gap_of (prices_begun c) ∙ rw (first_refused (codes "gap") (codes "prices") (known 1 ends) (behind_prices c) refl refl refl) refl
 
 -- the reader of one by prices refuses that of a plain one
 pub not_of_plain : (c : CertificateParts) → prices_of (spelling c) ≡ Err (line_refusal 1)
-unfolding prices_of price_head_at price_counts_at
+unfolding prices_of head_at counts_at
 not_of_plain c = ap prices_of (certificate_begun c) ∙ rw (first_refused (codes "prices") (codes "certificate") (known 1 ends) (behind_certificate c) refl refl refl) refl
 
 -- and that of a gap certificate
 pub not_of_gap : (c : GapParts) → prices_of (gap_spelling c) ≡ Err (line_refusal 1)
-unfolding prices_of price_head_at price_counts_at
+unfolding prices_of head_at counts_at
 not_of_gap c = ap prices_of (gap_begun c) ∙ rw (first_refused (codes "prices") (codes "gap") (known 1 ends) (behind_gap c) refl refl refl) refl

@@ -1,10 +1,9 @@
 -- How long the text of a certificate by prices may be.
-use Rattle.std.proofs.Common.{◌≡◌, ◌+◌, ◌*◌, ◌^◌, ◌≤◌, ◌++◌, ℕ, List, [], ◌∷◌, codes, length, length-append, map, ap, arith, lit≤}
+use Rattle.std.proofs.Common.{◌*◌, ◌≤◌, ◌++◌, List, [], ◌∷◌, codes, length, map, arith, lit≤}
 use Rattle.std.specs.List.{All}
 use Rattle.std.specs.Fmt.{decimal}
 use Rattle.std.proofs.lemmas.List.Elements.{All-head, All-tail}
 use Rattle.lab_io.specs.Piece.{fields_line}
-use Rattle.labels.specs.Form.{HasDigits}
 use Rattle.certificate_text.specs.Line.{fields_of}
 use Rattle.certificate_text.specs.Grammar.{end_line, gap_bound_line, plan_line, rungs_line, score_line, segments_line}
 use Rattle.certificate_text.specs.Spelling.{lines_text}
@@ -12,8 +11,8 @@ use Rattle.certificate_text.proofs.Length.{bound_short, count_short, digits_shor
 use Rattle.price_bounds.specs.declared.window.Window.{Window}
 use Rattle.price_bounds.specs.Verdict.{PriceParts}
 use Rattle.price_text.specs.Form.{IsPrices, IsSpelledWindow, most_bytes}
-use Rattle.price_text.specs.Grammar.{prices_line, window_line, windows_line}
-use Rattle.price_text.specs.Spelling.{count_lines, price_lines, prices_text, value_lines, window_fields, window_lines}
+use Rattle.price_text.specs.Grammar.{prices_line, windows_line}
+use Rattle.price_text.specs.Spelling.{count_lines, prices_text, value_lines, window_fields, window_lines}
 
 window_short : (w : Window) → IsSpelledWindow w → length (fields_line (window_fields w)) ≤ 25
 window_short w h =

@@ -11,7 +11,7 @@ ghost use Rattle.price_text.specs.Reading.{behind, counts_at, counts_of, head_at
 ghost use Rattle.price_text.specs.Spelling.{prices_text};
 
 use certificate_text::{
-    Limits, MOST_RUNGS, MOST_SEGMENTS, NumberList, RUNG_DIGITS, push, read_amount, read_count,
+    MOST_RUNGS, MOST_SEGMENTS, NumberList, NumberRange, RUNG_DIGITS, push, read_amount, read_count,
     read_known, read_last, read_list, read_number, read_within, read_word, small_numbers,
 };
 use lab_model::InputFault;
@@ -21,7 +21,7 @@ use std::alloc::Global;
 /// The most windows.
 const MOST_WINDOWS: u32 = 4000;
 /// How many windows there may be.
-const WINDOW_COUNTS: Limits = Limits {
+const WINDOW_COUNTS: NumberRange = NumberRange {
     low: 0,
     high: MOST_WINDOWS,
 };

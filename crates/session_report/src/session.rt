@@ -42,11 +42,9 @@ fn score_of(s: &Session, w: &Weights) -> i128
     score(&s.played, s.stall_ms, s.startup_ms, w)
 }
 
-fn put_summary<O: Sink>(out: &mut O, s: &Session, w: &Weights) -> Result<(), PutErr>
-    requires { CanReport (shown s.now) w.now }
-    ensures { Puts (O.seen out.old)
-        (counter_lines (shown s.now) (session_score (shown s.now) w.now))
-        (O.seen out.new) result }
+// The seven counters, of which the score is the last.
+fn put_summary<O: Sink>(out: &mut O, s: &Session, score: i128) -> Result<(), PutErr>
+    ensures { Puts (O.seen out.old) (counter_lines (shown s.now) score) (O.seen out.new) result }
 {
     put_counters(
         out,
@@ -57,7 +55,7 @@ fn put_summary<O: Sink>(out: &mut O, s: &Session, w: &Weights) -> Result<(), Put
             [Word("seeking"), Number(s.seek_ms as i128)],
             [Word("wasted"), Number(s.wasted_bits as i128)],
             [Word("end"), Number(s.end as i128)],
-            [Word("score"), Number(score_of(s, w))],
+            [Word("score"), Number(score)],
         ],
     )
 }
@@ -73,7 +71,7 @@ pub fn write_session<O: Sink>(s: &Session, w: &Weights, out: &mut O) -> Result<(
     ensures { Puts (O.seen out.old) (session_text (shown s.now) w.now) (O.seen out.new) result }
 {
     put_events(out, &s.events)?;
-    put_summary(out, s, w)
+    put_summary(out, s, score_of(s, w))
 }
 
 /// Puts the row of a rule in a comparison: `rule NAME` and the seven counters, in one line.

@@ -1,5 +1,5 @@
 -- Whether all players have ended.
-use Rattle.std.proofs.Common.{◌≡◌, ◌∙◌, ℕ, zero, suc, ◌<◌, ◌&&◌, true, false, refl, sym, ap, ⊎_elim, arith}
+use Rattle.std.proofs.Common.{◌≡◌, ◌∙◌, ℕ, zero, suc, ◌<◌, true, false, refl, sym, ap, ⊎_elim, arith}
 use Rattle.std.proofs.lemmas.Bool.{and_from, and_parts, cases_Bool, cases_eq, false_from_ne_true, true≢false}
 use Rattle.player_core.specs.Parts.{is_ended}
 use Rattle.player_core.specs.State.{Player}

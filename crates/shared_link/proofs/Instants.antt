@@ -4,7 +4,7 @@ use Rattle.lab_model.specs.Rules.{RuleKind}
 use Rattle.player_core.specs.declared.body.Body.{Body}
 use Rattle.player_core.specs.declared.course.Course.{Course}
 use Rattle.player_core.specs.Course.{case_on}
-use Rattle.player_core.specs.Parts.{instant, is_ended, request, stopped}
+use Rattle.player_core.specs.Parts.{is_ended, request, stopped}
 use Rattle.player_core.specs.Ready.{CanRequest}
 use Rattle.player_core.specs.Seen.{Hears, KnowsEnd, StepsOn, mode_of, seen}
 use Rattle.player_core.specs.State.{Case, Player}

@@ -1,5 +1,5 @@
 -- A joint session is single sessions on one network, the share of the link: so it ends, and of one rule it is that rule's session.
-use Rattle.std.proofs.Common.{◌≡◌, ◌∙◌, ℕ, zero, suc, ◌+◌, ◌-◌, ◌*◌, ◌<◌, ◌≤◌, max, true, false, cond, ltb, List, [], ◌∷◌, length, get_or, refl, sym, ap, subst, ⊎_elim, arith}
+use Rattle.std.proofs.Common.{◌≡◌, ◌∙◌, ℕ, zero, suc, ◌<◌, ◌≤◌, max, true, false, cond, [], ◌∷◌, get_or, refl, sym, ap, subst, ⊎_elim, arith}
 use Rattle.std.proofs.lemmas.Bool.{cases_Bool, cases_lt, cond-true, cond-false, false_from_ne_true, true≢false}
 use Rattle.std.proofs.lemmas.List.Elements.{All-nil}
 use Rattle.lab_model.specs.declared.trace.Period.{Period}
@@ -16,14 +16,14 @@ use Rattle.player_core.specs.Limits.{latest_ms}
 use Rattle.player_core.specs.Parts.{instant, is_ended, pass_in, pass_ms, player_ms}
 use Rattle.player_core.specs.Session.{end_of, ends_at, last_player, player_after, session_of, shown_by}
 use Rattle.player_core.specs.Sound.{IsCase, Sound}
-use Rattle.player_core.specs.State.{Case, Player, first_player}
+use Rattle.player_core.specs.State.{Case, Player}
 use Rattle.player_core.proofs.Counts.{turns_now}
 use Rattle.player_core.proofs.Ends.{end_before, end_early, end_found, last_sound, last_t}
 use Rattle.player_core.proofs.Over.{after_end}
 use Rattle.player_core.proofs.Players.{instant_t, player_sound}
 use Rattle.shared_link.specs.Calm.{takers_at}
 use Rattle.shared_link.specs.Joint.{IsJoint, JointCase, all_end_at, case_at, instants, joint_end, joint_session, passes, players_after, players_of}
-use Rattle.shared_link.specs.Laws.{AloneIsLone, JointEnds, JointSessionsEnd, SessionsAreOwn, own_case, share_at}
+use Rattle.shared_link.specs.Laws.{AloneIsLone, JointEnds, own_case, share_at}
 use Rattle.shared_link.proofs.Ended.{all_from_each, each_from_all}
 use Rattle.shared_link.proofs.Takers.{takers_few}
 

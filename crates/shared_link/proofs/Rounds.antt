@@ -1,6 +1,5 @@
 -- The lists that a turn of the loop reads and writes: a loop's Vec lent as a slice has its elements, and has what was written when it comes back.
-use Rattle.std.proofs.Common.{◌≡◌, ◌∙◌, ℕ, ◌≤◌, List, ◌++◌, length, map, take, drop, sym, ap, subst, append-nil, arith}
-use Rattle.std.specs.List.{All}
+use Rattle.std.proofs.Common.{◌≡◌, ◌∙◌, ℕ, List, ◌++◌, length, take, drop, sym, ap, subst, append-nil, arith}
 use Rattle.std.proofs.lemmas.List.{drop_all, take_all}
 use Rattle.lab_model.specs.Rules.{RuleKind}
 use Rattle.player_core.specs.declared.body.Body.{Body}

@@ -1,7 +1,7 @@
 -- Calm stretches: as long as nothing happens to any player the takers stay, so the share of the link is a lane, and each player's milliseconds pass at once.
-use Rattle.std.proofs.Common.{◌≡◌, ◌∙◌, ℕ, zero, suc, ◌+◌, ◌-◌, ◌<◌, ◌≤◌, Bool, true, false, eqb, cond, ltb, List, Option, Some, None, IfSome, option_map, refl, sym, ap, ap₂, subst, eq-eqb, ⊎_elim, below_more, add-one, arith}
+use Rattle.std.proofs.Common.{◌≡◌, ◌∙◌, ℕ, zero, suc, ◌+◌, ◌-◌, ◌<◌, ◌≤◌, true, false, eqb, cond, ltb, Option, Some, None, IfSome, option_map, refl, sym, ap, ap₂, subst, eq-eqb, ⊎_elim, below_more, arith}
 use Rattle.std.specs.Option.{option_map_or}
-use Rattle.std.proofs.lemmas.Bool.{cases_Bool, cases_eq, cases_lt, false_from_ne_true, true≢false}
+use Rattle.std.proofs.lemmas.Bool.{cases_Bool, cases_eq, cases_lt, false_from_ne_true}
 use Rattle.lab_model.specs.declared.trace.Period.{Period}
 use Rattle.network_clock.specs.declared.job.Job.{Job}
 use Rattle.network_clock.specs.Network.{done_on, first_at, first_on, job_on, lands_on, lane_at, longest_ms, parted, period_at, spends, start_job}
@@ -10,7 +10,7 @@ use Rattle.network_clock.proofs.Laws.{job_apart, left_after, same_jobs}
 use Rattle.network_clock.proofs.Search.{least_before}
 use Rattle.player_core.specs.Parts.{instant, is_ended, pass_ms, takes, takes_any}
 use Rattle.player_core.specs.Quiet.{IsQuiet, IsUntouched, glides, moves_in, taken_ms}
-use Rattle.player_core.specs.Session.{end_of, ends_at, last_player, player_after}
+use Rattle.player_core.specs.Session.{ends_at, player_after}
 use Rattle.player_core.specs.Sound.{IsCase, DownloadRuns, asked_size}
 use Rattle.player_core.specs.State.{Case, Download, Player}
 use Rattle.player_core.proofs.Over.{after_end, last_idle}
@@ -21,7 +21,7 @@ use Rattle.player_core.proofs.Waits.{passes_passed}
 use Rattle.shared_link.specs.Calm.{AreCalm, IsCalm, takers_at}
 use Rattle.shared_link.specs.Joint.{IsJoint, JointCase, case_at, instants, players_after, players_of, takes_bits}
 use Rattle.shared_link.specs.Laws.{own_case, share_at}
-use Rattle.shared_link.proofs.Own.{after_last, end_by, going_before, own, own_flows, own_instant, own_is_case}
+use Rattle.shared_link.proofs.Own.{after_last, end_by, going_before, own, own_instant, own_is_case}
 use Rattle.shared_link.proofs.Takers.{takers_same}
 
 -- at an instant before that at which a job lands something is left of it

@@ -1,7 +1,6 @@
 -- The turns of a joint session: what bodies and rules stand for at the top of each, after its instant and after its millisecond.
-use Rattle.std.proofs.Common.{◌≡◌, ◌∙◌, ℕ, zero, suc, ◌+◌, ◌<◌, ◌≤◌, ◌↔◌, Bool, true, false, List, [], ◌∷◌, length, get_or, map, refl, sym, ap, subst, ⊎_elim, add-one, arith}
+use Rattle.std.proofs.Common.{◌≡◌, ◌∙◌, ℕ, suc, ◌+◌, ◌<◌, ◌≤◌, true, false, List, [], ◌∷◌, length, get_or, map, refl, sym, ap, subst, ⊎_elim, arith}
 use Rattle.lab_model.specs.Limits.{all_ahead}
-use Rattle.std.specs.Bool.{IsTrue}
 use Rattle.std.specs.List.{All}
 use Rattle.std.proofs.lemmas.Bool.{cases_Bool, cases_lt, cond-true, cond-false, false_from_ne_true, true≢false}
 use Rattle.std.proofs.lemmas.List.{get_or-map, length-map}
@@ -13,9 +12,9 @@ use Rattle.player_core.specs.declared.course.Course.{Course}
 use Rattle.player_core.specs.declared.session.Session.{Session}
 use Rattle.player_core.specs.Course.{case_on}
 use Rattle.player_core.specs.Limits.{latest_ms}
-use Rattle.player_core.specs.Parts.{instant, is_ended, pass_in, pass_ms}
+use Rattle.player_core.specs.Parts.{instant, is_ended, pass_in}
 use Rattle.player_core.specs.Seen.{KnowsEnd, StandsFor, mode_of, seen}
-use Rattle.player_core.specs.Session.{ends_at, player_after, shown, shown_by}
+use Rattle.player_core.specs.Session.{ends_at, player_after, shown_by}
 use Rattle.player_core.specs.Sound.{IsCase, Sound}
 use Rattle.player_core.specs.State.{Case, Player, case_of, first_player}
 use Rattle.player_core.proofs.Follow.{Now, any_history, pass_ready}
@@ -23,11 +22,11 @@ use Rattle.player_core.proofs.Players.{instant_sound, instant_t, player_sound}
 use Rattle.player_core.proofs.Soundness.{IsOpen}
 use Rattle.player_core.proofs.Turned.{none_timed, pass_told}
 use Rattle.player_core.proofs.Waits.{IsStill, instant_still}
-use Rattle.shared_link.specs.Joint.{IsJoint, JointCase, all_end_at, all_ended, case_at, instants, joint_end, joint_session, passes, players_after, players_of}
+use Rattle.shared_link.specs.Joint.{IsJoint, JointCase, all_end_at, case_at, instants, joint_end, joint_session, passes, players_after}
 use Rattle.shared_link.specs.Laws.{own_case, share_at}
 use Rattle.shared_link.specs.Table.{AllCanMeet, AllCanPass, AllMeet, AllPass, AreFirstBodies, AreSessions, AreShown, BodyGoesOn, HasEnded, IsPlainCourse, Passes, Stand, joint_on_course}
 use Rattle.shared_link.proofs.Ended.{all_from_each, each_from_all}
-use Rattle.shared_link.proofs.Own.{any_sound, going_before, joint_before, joint_ends, own, own_instant, own_is_case}
+use Rattle.shared_link.proofs.Own.{any_sound, going_before, joint_ends, own, own_instant, own_is_case}
 
 -- bodies and rules stand for players with rules of these kinds
 pub record Sit {R : Type 0} (kind : R → RuleKind) (stands_for : R → List ℕ → Type 0) (o : Course) (kinds : List RuleKind) (ps : ℕ → Player) (bs : List Body) (rs : List R) : Type 0 where

@@ -1,9 +1,9 @@
 -- A whole turn of the joint session from event to event: what can come after an instant, and what a calm stretch leaves.
-use Rattle.std.proofs.Common.{◌≡◌, ◌∙◌, ℕ, zero, suc, ◌+◌, ◌-◌, ◌&&◌, ◌<◌, ◌≤◌, Bool, true, false, eqb, List, length, get_or, Option, Some, None, IfSome, option_map, refl, sym, ap, subst, ⊎_elim, add-one, arith}
+use Rattle.std.proofs.Common.{◌≡◌, ◌∙◌, ℕ, suc, ◌+◌, ◌-◌, ◌<◌, ◌≤◌, true, false, eqb, List, length, get_or, Option, Some, None, IfSome, option_map, refl, sym, ap, subst, ⊎_elim, arith}
 use Rattle.network_clock.specs.Limits.{most_left}
 use Rattle.std.specs.List.{All}
 use Rattle.std.specs.Option.{option_map_or}
-use Rattle.std.proofs.lemmas.Bool.{cases_Bool, cases_lt, cond-true, eqb-false, false_from_ne_true, false≢true, true≢false}
+use Rattle.std.proofs.lemmas.Bool.{cases_Bool, cases_lt, cond-true, eqb-false, false_from_ne_true, true≢false}
 use Rattle.lab_model.specs.declared.trace.Period.{Period}
 use Rattle.lab_model.specs.Film.{IsWithin}
 use Rattle.lab_model.specs.Rules.{RuleKind, fixed}
@@ -13,27 +13,26 @@ use Rattle.network_clock.proofs.Laws.{job_apart, left_after}
 use Rattle.player_core.specs.declared.body.Body.{Body}
 use Rattle.player_core.specs.declared.course.Course.{Course}
 use Rattle.player_core.specs.declared.running.Running.{Running}
-use Rattle.player_core.specs.Course.{case_on}
 use Rattle.player_core.specs.Limits.{latest_ms}
 use Rattle.player_core.specs.Parts.{instant, is_ended, pass_in, pass_ms, takes_any}
 use Rattle.player_core.specs.Quiet.{IsUntouched, glides}
 use Rattle.player_core.specs.Seen.{CanGlide, CanIdle, CanTake, IsTimed, KnowsEnd, StandsFor, download_of, mode_of, seen}
 use Rattle.player_core.specs.Session.{ends_at, player_after}
 use Rattle.player_core.specs.Sound.{IsCase, DownloadRuns, asked_size}
-use Rattle.player_core.specs.State.{Case, Download, Player, case_of}
+use Rattle.player_core.specs.State.{Case, Download, Player}
 use Rattle.player_core.proofs.Follow.{Now, body_instant, body_sound, glide_ready, idle_ready, take_ready}
 use Rattle.player_core.proofs.Players.{pass_t, player_next}
 use Rattle.player_core.proofs.Soundness.{IsOpen, pass_sound}
 use Rattle.player_core.proofs.Stretch.{next_ahead, pass_next, stretch}
 use Rattle.player_core.proofs.Waits.{passes_passed}
 use Rattle.shared_link.specs.Calm.{AllGlide, AreCalm, CanCome, CanRestTogether, Glides, IsCalm, StaysCalm, lane_case, takers_at}
-use Rattle.shared_link.specs.Joint.{IsJoint, JointCase, all_end_at, all_ended, case_at, instants, passes, players_after, players_of, takes_bits}
+use Rattle.shared_link.specs.Joint.{IsJoint, all_end_at, case_at, instants, players_after}
 use Rattle.shared_link.specs.Laws.{own_case, share_at}
 use Rattle.shared_link.specs.Table.{AllPass, BodyGoesOn, HasEnded, IsPlainCourse, joint_on_course}
 use Rattle.shared_link.proofs.Stretches.{calm_ended, calm_player, calm_whole}
 use Rattle.shared_link.proofs.Ended.{each_from_all, one_goes}
 use Rattle.shared_link.proofs.Own.{going_before, own, own_instant, own_is_case}
-use Rattle.shared_link.proofs.Top.{AtTop, Sit, own_at, own_goes, own_going, own_now, own_sound, own_stands, own_still, plain_case, players_next, some_of, top_early}
+use Rattle.shared_link.proofs.Top.{AtTop, Sit, own_at, own_goes, own_now, own_sound, own_still, plain_case, players_next, some_of}
 
 -- at the top of a turn not all have ended after an earlier instant, and each turn took a millisecond
 pub record AtEvent {R : Type 0} (kind : R → RuleKind) (stands_for : R → List ℕ → Type 0) (o : Course) (kinds : List RuleKind) (turns n : ℕ) (bs : List Body) (rs : List R) : Type 0 where

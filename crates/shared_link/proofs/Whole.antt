@@ -1,5 +1,5 @@
 -- What the sessions of a joint session within the limits keep.
-use Rattle.std.proofs.Common.{◌≡◌, ◌∙◌, ℕ, ◌<◌, ◌≤◌, false, List, length, get_or, map, sym, ap, subst, arith}
+use Rattle.std.proofs.Common.{◌≡◌, ◌∙◌, ◌<◌, false, List, length, get_or, map, sym, ap, subst, arith}
 use Rattle.lab_model.specs.Limits.{all_ahead}
 use Rattle.std.specs.List.{All}
 use Rattle.std.proofs.lemmas.List.{length-map}

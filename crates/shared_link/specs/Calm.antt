@@ -1,7 +1,7 @@
 -- Not part of the model: what the proofs keep.
 -- Calm stretches: milliseconds of several players in which nothing happens to any of them, as long as so many take.
 use Rattle.std.specs.Prelude.{◌≡◌, ℕ, ◌+◌, ◌-◌, ◌<◌, ◌≤◌, List, true, false, IfSome, length, get_or}
-use Rattle.network_clock.specs.Limits.{most_left}
+use Rattle.network_clock.specs.Limits.{latest_answer, most_left}
 use Rattle.std.specs.List.{All}
 use Rattle.lab_model.specs.declared.trace.Period.{Period}
 use Rattle.lab_model.specs.Film.{IsWithin}
@@ -9,10 +9,12 @@ use Rattle.lab_model.specs.Rules.{RuleKind}
 use Rattle.network_clock.specs.Network.{first_at, lands_on, lane_at, period_at, spends}
 use Rattle.player_core.specs.declared.body.Body.{Body}
 use Rattle.player_core.specs.declared.course.Course.{Course}
+use Rattle.player_core.specs.declared.running.Running.{Running}
 use Rattle.player_core.specs.Course.{case_on}
+use Rattle.player_core.specs.Limits.{latest_ms}
 use Rattle.player_core.specs.Parts.{is_ended}
 use Rattle.player_core.specs.Quiet.{IsUntouched, glides}
-use Rattle.player_core.specs.Seen.{CanGlide, CanIdle, Follows, KnowsEnd, seen}
+use Rattle.player_core.specs.Seen.{CanGlide, CanIdle, CanTake, Follows, KnowsEnd, seen}
 use Rattle.player_core.specs.Sound.{asked_size}
 use Rattle.player_core.specs.State.{Case, Player}
 use Rattle.shared_link.specs.Joint.{JointCase, case_at, instants, players_after, players_of, takers_in, takes_bits}
@@ -38,6 +40,24 @@ pub record CanRestTogether (o : Course) (period : Period) (b : Body) : Type 0 wh
   pub idles : CanIdle o.scene.now.film o.scene.now.setup o.scene.now.ahead b
   pub left : IfSome b.download (λ r. IsWithin 1 most_left r.job.left)
   pub begins : IfSome b.download (λ r. spends period r.job ≡ false → b.t < r.begins)
+
+-- the same of a body whose instant lies in this period
+pub record RestsAt (o : Course) (period : Period) (b : Body) : Type 0 where
+  pub here : period ≡ period_at o.scene.now.periods b.t
+  pub instant : b.t < latest_ms
+  pub rest : CanRestTogether o period b
+
+-- the same of each body that goes on, at one instant
+pub record AllRestAt (o : Course) (period : Period) (t : ℕ) (bs : List Body) : Type 0 where
+  pub here : period ≡ period_at o.scene.now.periods t
+  pub instant : t < latest_ms
+  pub rest : All (λ b. BodyGoesOn b → (b.t ≡ t) × CanRestTogether o period b) bs
+
+-- a download can come from one instant to another at once
+pub record CanRunOn (d : Running) (from until : ℕ) : Type 0 where
+  pub later : from ≤ until
+  pub instant : until ≤ latest_answer
+  pub job : CanTake d
 
 -- after its instant nothing happens to a body before another instant, as long as so many take
 pub record StaysCalm (o : Course) (takers until : ℕ) (b : Body) : Type 0 where

@@ -4,6 +4,7 @@
 
 mod calm;
 mod joint;
+mod lane;
 mod laws;
 mod play;
 mod table;

@@ -6,14 +6,14 @@ ghost use Rattle.std.specs.List.{All};
 ghost use Rattle.lab_model.specs.Film.{IsWithin};
 ghost use Rattle.lab_model.specs.Fit.{SetupFits};
 ghost use Rattle.lab_model.specs.Rules.{KindFits, fixed};
-ghost use Rattle.network_clock.specs.Shared.{shared};
 ghost use Rattle.player_core.specs.Session.{session_of, shown};
 ghost use Rattle.player_core.specs.State.{case_of};
 ghost use Rattle.shared_link.specs.Joint.{IsJoint, joint_of};
-ghost use Rattle.shared_link.specs.Table.{AreSessions, IsPlainCourse, IsWholeSession, joint_on_course};
+ghost use Rattle.shared_link.specs.Table.{AreSessions, IsWholeSession, joint_on_course};
 
 use crate::calm::{all_calm_until, glide_all};
 use crate::joint::Joint;
+use crate::lane::{Lane, Stage};
 use crate::table::{count_takers, first_bodies, have_all_ended, meet_all, pass_all, sessions_of};
 use lab_model::{Manifest, NoMemory, Rule, Setup, Trace};
 use network_clock::{Link, share_of};
@@ -22,35 +22,38 @@ use player_core::limits::LATEST_MS;
 use player_core::parts::Course;
 use std::alloc::Global;
 
-/// The joint session of a course without seeks on a film on demand, on the link of its network.
+/// The joint session on a stage, whose link is for as many players as there are rules.
 fn play_on<T: Rule + Drop>(
     alloc: Global,
-    course: &Course<'_>,
-    link: &Link,
+    stage: &Stage<'_>,
     rules: Vec<T>,
 ) -> Result<Joint, NoMemory>
-    requires joint { IsJoint (joint_on_course course.now (map T.kind rules.items)) }
-    requires plain { IsPlainCourse course.now }
-    requires link { link.now ≡ shared course.now.scene.now.periods (length rules.items) }
+    requires joint { IsJoint (joint_on_course stage.now.course.now (map T.kind rules.items)) }
+    requires players { stage.now.link.now.most ≡ length rules.items }
     requires told { All (λ r. T.stands_for r []) rules.items }
     ensures { IfOk result (λ g.
-        AreSessions (joint_on_course course.now (map T.kind rules.items)) g.sessions.items) }
+        AreSessions (joint_on_course stage.now.course.now (map T.kind rules.items))
+        g.sessions.items) }
 {
     let mut rules = rules;
     let mut bodies = first_bodies(alloc, rules.len())?;
     let mut t = 0u64;
     for _turn in 0..LATEST_MS {
-        meet_all(course, &mut bodies, &mut rules)?;
+        meet_all(stage.course, &mut bodies, &mut rules)?;
         if have_all_ended(&bodies) {
             return Ok(Joint {
                 sessions: sessions_of(alloc, bodies)?,
             });
         }
-        let period = link.clock().period_at(t);
-        let takers = count_takers(&bodies, period);
-        let until = all_calm_until(course, link, &bodies, period, takers, t);
-        pass_all(course, &mut bodies, share_of(period, takers))?;
-        glide_all(course, link, &mut bodies, takers, until);
+        let period = stage.link.clock().period_at(t);
+        let takers = count_takers(&bodies, period) as u8;
+        let lane = Lane {
+            stage: *stage,
+            takers,
+        };
+        let until = all_calm_until(&lane, &bodies, period, t);
+        pass_all(stage.course, &mut bodies, share_of(period, takers))?;
+        glide_all(&lane, &mut bodies, until);
         t = until;
     }
     unreachable!()
@@ -84,5 +87,9 @@ pub fn play_shared<T: Rule + Drop>(
         scene: &scene,
         seeks: &[],
     };
-    play_on(alloc, &course, &link, rules)
+    let stage = Stage {
+        course: &course,
+        link: &link,
+    };
+    play_on(alloc, &stage, rules)
 }

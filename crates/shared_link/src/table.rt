@@ -70,14 +70,13 @@ fn takes_bits(body: &Body, period: Period) -> bool
     }
 }
 
-/// How many players, of at most 8, take bits in a millisecond of this period.
-pub fn count_takers(bodies: &[Body], period: Period) -> u8
-    requires { length bodies.now ≤ 8 }
+/// How many players take bits in a millisecond of this period.
+pub fn count_takers(bodies: &[Body], period: Period) -> usize
     ensures few { result ≤ length bodies.now }
     ensures takers { (ps : ℕ → Player) → Stand ps bodies.now
         → result ≡ takers_in period ps (length bodies.now) }
 {
-    let mut takers = 0u8;
+    let mut takers = 0;
     for body in bodies {
         if takes_bits(body, period) {
             takers += 1;

@@ -10,18 +10,18 @@ use Rattle.lab_model.specs.Ladder.{greatest_rung}
 use Rattle.lab_model.specs.Rates.{last_of}
 use Rattle.lab_model.specs.Throughput.{least, least_mean, rung_within, throughput_choice, window_mean}
 use Rattle.lab_model.proofs.Rungs.{greatest_more, greatest_none}
-use Rattle.throughput_rule.specs.Windows.{Kept, HoldLast, mean_of}
+use Rattle.throughput_rule.specs.Windows.{RateWindow, HoldLast, mean_of}
 
-Keeps : List ℕ → Kept → Type 0
+Keeps : List ℕ → RateWindow → Type 0
 Keeps history k = k.rates ≡ last_of k.width history
 
 -- the means of windows are those of the history
-means_are : (ks : List Kept) (history : List ℕ) → HoldLast ks history → map mean_of ks ≡ map (window_mean history) (map (λ k. k.width) ks)
+means_are : (ks : List RateWindow) (history : List ℕ) → HoldLast ks history → map mean_of ks ≡ map (window_mean history) (map (λ k. k.width) ks)
 means_are [] history all = refl
 means_are (k ∷ ks) history all =
-    let here : mean_of k ≡ window_mean history k.width = ap (λ (xs : List ℕ). sum xs / length xs) (All-head (λ (q : Kept). q.rates ≡ last_of q.width history) k ks all) in
+    let here : mean_of k ≡ window_mean history k.width = ap (λ (xs : List ℕ). sum xs / length xs) (All-head (λ (q : RateWindow). q.rates ≡ last_of q.width history) k ks all) in
     ap (λ (m : ℕ). m ∷ map mean_of ks) here
-    ∙ ap (λ (ms : List ℕ). window_mean history k.width ∷ ms) (means_are ks history (All-tail (λ (q : Kept). q.rates ≡ last_of q.width history) k ks all))
+    ∙ ap (λ (ms : List ℕ). window_mean history k.width ∷ ms) (means_are ks history (All-tail (λ (q : RateWindow). q.rates ≡ last_of q.width history) k ks all))
 
 -- without samples each mean is 0
 none_mean : (w : ℕ) → window_mean [] w ≡ 0
@@ -45,7 +45,7 @@ none_within f (suc n) is few =
     ap (greatest_rung passes) (sym (add-one n)) ∙ greatest_more passes n ∙ ap (λ (b : Bool). cond b n (greatest_rung passes n)) fails ∙ none_within f n is (omega (arith, few))
 
 -- the choice
-pub chosen : (ks : List Kept) (f : Film) (history : List ℕ) (mean rung : ℕ) → IsFilm f → HoldLast ks history
+pub chosen : (ks : List RateWindow) (f : Film) (history : List ℕ) (mean rung : ℕ) → IsFilm f → HoldLast ks history
     → mean ≡ least (map mean_of ks) → rung ≡ greatest_rung (λ q. nat_le (1000 * bitrate_of f q) (9 * mean / 10)) (rungs_of f) → rung ≡ throughput_choice (map (λ k. k.width) ks) f history
 chosen ks f [] mean rung is all m r =
     let none : mean ≡ 0 = m ∙ ap least (means_are ks [] all) ∙ least_of_none (map (λ k. k.width) ks) in

@@ -5,7 +5,7 @@ ghost use Rattle.std.specs.List.{All, reduce};
 ghost use Rattle.lab_model.specs.Film.{IsWithin};
 ghost use Rattle.lab_model.specs.Rules.{throughput};
 ghost use Rattle.lab_model.specs.Throughput.{least};
-ghost use Rattle.throughput_rule.specs.Windows.{AreWindows, Kept, HoldLast, throughput_of, mean_of, told, untold};
+ghost use Rattle.throughput_rule.specs.Windows.{AreWindows, HoldLast, RateWindow, empty_window, mean_of, most_rate, throughput_of, widest_window, window_after};
 
 use crate::window::Window;
 use lab_model::{Context, Manifest, Rule, Sample, Setup};
@@ -59,9 +59,9 @@ pub struct Throughput {
 
 impl Model for Throughput {
     ghost use Rattle.std.specs.Prelude.{List};
-    ghost use Rattle.throughput_rule.specs.Windows.{Kept};
+    ghost use Rattle.throughput_rule.specs.Windows.{RateWindow};
 
-    ghost Value = { List Kept };
+    ghost Value = { List RateWindow };
 
     ghost view = { λ t. t.windows.items };
 }
@@ -75,9 +75,9 @@ fn are_windows(windows: &[u8]) -> bool
 }
 
 /// A window of each of these widths, without any rate yet.
-fn untold_windows(alloc: Global, widths: &[u8]) -> Result<Vec<Window>, RuleErr>
-    requires { All (IsWithin 1 100) widths.now }
-    ensures ok { IfOk result (λ ws. ws.items ≡ map untold widths.now) }
+fn empty_windows(alloc: Global, widths: &[u8]) -> Result<Vec<Window>, RuleErr>
+    requires { All (IsWithin 1 widest_window) widths.now }
+    ensures ok { IfOk result (λ ws. ws.items ≡ map empty_window widths.now) }
     ensures err { IsErrOf result RuleErr.BadWindows → ⊥ }
 {
     let mut windows = Vec::new(alloc);
@@ -90,7 +90,7 @@ fn untold_windows(alloc: Global, widths: &[u8]) -> Result<Vec<Window>, RuleErr>
 /// The least of the means of windows, if there is one.
 fn least_of_means(windows: &[Window]) -> Option<u64>
     ensures value { result ≡ reduce min (map mean_of windows.now) }
-    ensures limit { IfSome result (λ m. m ≤ 10000000000) }
+    ensures limit { IfSome result (λ m. m ≤ most_rate) }
 {
     windows.iter().map(|w| w.mean()).min()
 }
@@ -98,18 +98,17 @@ fn least_of_means(windows: &[Window]) -> Option<u64>
 /// The least of the means of windows, at most 10^10, and 0 where there is none.
 fn least_mean(windows: &[Window]) -> u64
     ensures value { result ≡ least (map mean_of windows.now) }
-    ensures limit { result ≤ 10000000000 }
+    ensures limit { result ≤ most_rate }
 {
     least_of_means(windows).unwrap_or(0)
 }
 
-/// Tells each window the next rate.
-fn tell(windows: &mut Vec<Window>, rate: u64)
-    requires { rate ≤ 10000000000 }
-    ensures { windows.new.items ≡ map (told rate) windows.old.items }
+/// Tells each window the next sample.
+fn tell(windows: &mut Vec<Window>, s: Sample)
+    ensures { windows.new.items ≡ map (window_after s.rate) windows.old.items }
 {
     for window in windows.iter_mut() {
-        window.push(rate);
+        window.push(s);
     }
 }
 
@@ -126,7 +125,7 @@ impl Throughput {
             return Err(RuleErr::BadWindows);
         }
         Ok(Throughput {
-            windows: untold_windows(alloc, windows)?,
+            windows: empty_windows(alloc, windows)?,
         })
     }
 }
@@ -142,7 +141,7 @@ impl Rule for Throughput {
     }
 
     fn observe(&mut self, s: Sample) {
-        tell(&mut self.windows, s.rate);
+        tell(&mut self.windows, s);
     }
 
     fn choose(&self, m: &Manifest, set: &Setup, c: &Context) -> u8 {

@@ -3,7 +3,7 @@ use Rattle.std.specs.List.{All, slice_get}
 use Rattle.lab_io.proofs.Puts.{puts_as}
 use Rattle.lab_inputs.specs.Stages.{network_of}
 use Rattle.shared_link.specs.Joint.{joint_of, joint_session}
-use Rattle.shared_link.specs.Table.{AreSessions, IsWhole}
+use Rattle.shared_link.specs.Table.{AreSessions, IsWholeSession}
 use Rattle.abrlab_top.specs.Answer.{printed}
 use Rattle.abrlab_top.specs.Players.{joint_on, joint_text, play_jointly}
 use Rattle.abrlab_top.specs.Rules.{kind_of}
@@ -49,7 +49,7 @@ pub write_players-requires : goal.write_players-requires
 write_players-requires g c =
     let i = c.args.inputs.now in
     all_reported c.manifest.result.now c.setup.result.now c.setup-2.result.now c.deref.result.now (rw (c.setup.ensures, c.manifest.ensures) (all_settled i c.fit.result _ c.in_ok-fit.was c.fit.ensures).1.setup) (c.setup-2.ensures ∙ sym c.setup.ensures)
-    (subst (All (IsWhole c.manifest.result.now)) (sym c.deref.ensures.value) c.in_ok-joint.ensures.whole)
+    (subst (All (IsWholeSession c.manifest.result.now)) (sym c.deref.ensures.value) c.in_ok-joint.ensures.whole)
 
 pub returns-in_err-write_players : goal.returns-in_err-write_players
 returns-in_err-write_players g c =

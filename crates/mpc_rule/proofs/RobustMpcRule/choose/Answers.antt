@@ -9,13 +9,14 @@ use Rattle.mpc_rule.specs.Recall.{Recall}
 use Rattle.mpc_rule.proofs.History.{choice_is}
 use Rattle.mpc_rule.proofs.RobustMpcRule.choose.Goals as goal
 
-pub best_rung-requires-clause-outlook : goal.best_rung-requires-clause-outlook
-best_rung-requires-clause-outlook c = record {
+pub invariant_of-outlook : goal.invariant_of-outlook
+invariant_of-outlook c = record {
   film = c.segments.ensures.film;
   weights = c.count.ensures.weighing;
   setup = c.requires.setup;
-  rungs = c.count.ensures.value ∙ c.requires.setup.utilities.rungs;
-  segment = c.requires.segment;
+  some = omega arith;
+  few = omega arith;
+  segments = omega arith;
   level = c.requires.level;
   last = c.requires.last;
   rate = c.rate_ahead.ensures.limits;

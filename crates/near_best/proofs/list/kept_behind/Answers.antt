@@ -15,7 +15,7 @@ kept_of-requires-clause-label c =
     let made = c.new.ensures.value in
     let task = subst IsTask (ap (λ (l : OnRung). l.scene) made) c.next-label.ensures.within.task in
     let label : c.next-label.result ≡ next_label g c.args.segment old.rung old.label c.args.rung =
-        c.next-label.ensures.label ∙ ap (λ (l : OnRung). next_label l.scene (l.segment + 1) l.rung l.label c.args.rung) made
-        ∙ ap (λ n. next_label g n old.rung old.label c.args.rung) (omega (arith, some)) in
+    c.next-label.ensures.label ∙ ap (λ (l : OnRung). next_label l.scene (l.segment + 1) l.rung l.label c.args.rung) made
+    ∙ ap (λ n. next_label g n old.rung old.label c.args.rung) (omega (arith, some)) in
     subst (IsInReach c.args.segment) (sym label)
     (later_reach g task c.args.segment old.rung c.args.rung old.label some c.requires.segment.1 kept.rung c.requires.rung kept.reach)

@@ -9,5 +9,5 @@ abbrev pub invariant-loop-body : goal.invariant-loop-body
 invariant-loop-body l = record {
   later : l.t < l.until;
   limit : l.until ≤ l.t + latest_ms;
-  calm : (i : ℕ) (b : Body) → i < l.body-index → BodyGoesOn (get_or l.bodies i b) → StaysCalm l.course l.takers l.until (get_or l.bodies i b);
+  calm : (i : ℕ) (b : Body) → i < l.body-index → BodyGoesOn (get_or l.bodies i b) → StaysCalm l.lane.stage.course.now l.lane.takers l.until (get_or l.bodies i b);
 }

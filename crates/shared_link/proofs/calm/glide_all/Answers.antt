@@ -10,5 +10,5 @@ loop-body-preserved c =
     let count = c.loop-body.invariant.count in
     let here : c.loop-body.body-index < length c.loop-body.bodies = omega (arith, inside, count) in
     let body = get_or c.loop-body.bodies c.loop-body.body-index c.body-item.result in
-    below_next (Glides c.args.course.now c.args.takers c.args.until) c.args.bodies.now c.loop-body.bodies c.loop-body.body-index body c.glide.new.body
+    below_next (Glides c.args.lane.now.stage.course.now c.args.lane.now.takers c.args.until) c.args.bodies.now c.loop-body.bodies c.loop-body.body-index body c.glide.new.body
     c.loop-body.invariant here (get_or_default c.loop-body.bodies c.loop-body.body-index c.body-item.result body here) c.glide.ensures

@@ -10,10 +10,10 @@ pub returns-then-d-until-clause-takes : goal.returns-then-d-until-clause-takes
 returns-then-d-until-clause-takes c = λ case begins.
     let d = c.args.d in
     ap₂ (λ (j : Job) (f : Option ℕ). record (download_of d) { job = j; first = f }) c.advance.ensures
-    (first_past c.args.link.now.periods c.requires.trace c.args.takers d.asked (size_of case.film d.segment d.rung) d.begins c.args.from c.args.until begins c.requires.later c.if-d-until.true)
+    (first_past c.args.lane.now.stage.link.now.periods c.args.lane.now.stage.trace c.args.lane.now.takers d.asked (size_of case.film d.segment d.rung) d.begins c.args.from c.args.until begins c.requires.later c.if-d-until.true)
 
 pub returns-else-d-until-clause-takes : goal.returns-else-d-until-clause-takes
 returns-else-d-until-clause-takes c = λ case begins.
     let d = c.args.d in
     ap₂ (λ (j : Job) (f : Option ℕ). record (download_of d) { job = j; first = f }) c.advance.ensures
-    (first_ahead c.args.link.now.periods c.requires.trace c.args.takers d.asked (size_of case.film d.segment d.rung) d.begins c.args.from c.args.until begins c.requires.later c.if-d-until.false)
+    (first_ahead c.args.lane.now.stage.link.now.periods c.args.lane.now.stage.trace c.args.lane.now.takers d.asked (size_of case.film d.segment d.rung) d.begins c.args.from c.args.until begins c.requires.later c.if-d-until.false)

@@ -1,10 +1,8 @@
-use Rattle.std.proofs.Common.{◌≡◌, ◌∙◌, ℕ, ◌+◌, ◌<◌, ◌≤◌, true, false, List, ◌++◌, length, get_or, take, drop, map, refl, sym, ap, ap₂, subst, arith}
+use Rattle.std.proofs.Common.{◌≡◌, ◌∙◌, ℕ, ◌<◌, false, ◌++◌, length, take, drop, map, refl, sym, ap, ap₂, subst, arith}
 use Rattle.std.specs.List.{All}
 use Rattle.std.proofs.lemmas.Bool.{true≢false}
 use Rattle.lab_model.specs.declared.trace.Period.{Period}
 use Rattle.network_clock.specs.Network.{parted, period_at}
-use Rattle.network_clock.specs.Shared.{Shared}
-use Rattle.player_core.specs.declared.body.Body.{Body}
 use Rattle.shared_link.specs.Calm.{AllGlide, CanCome, CanRestTogether, StaysCalm, takers_at}
 use Rattle.shared_link.specs.Joint.{all_end_at, instants, players_after, takers_in}
 use Rattle.shared_link.specs.Laws.{share_at}
@@ -16,7 +14,7 @@ use Rattle.shared_link.proofs.play.play_on.Goals as goal
 
 pub loop-turn-init : goal.loop-turn-init
 loop-turn-init g c = record {
-  top = top_first c.args.course.now (map g.T.Rule.kind c.args.rules.items) c.requires.joint c.requires.plain g.T.Rule.kind g.T.Rule.stands_for c.in_ok-bodies.bodies.items c.args.rules.items refl
+  top = top_first c.args.stage.now.course.now (map g.T.Rule.kind c.args.rules.items) c.requires.joint c.args.stage.now.plain g.T.Rule.kind g.T.Rule.stands_for c.in_ok-bodies.bodies.items c.args.rules.items refl
       (subst (λ k. AreFirstBodies k c.in_ok-bodies.bodies.items) (c.len.ensures ∙ c.args.rules.ok.0) c.in_ok-bodies.ensures) c.requires.told;
   later = omega arith;
 }
@@ -25,10 +23,10 @@ pub meet_all-requires : goal.meet_all-requires
 meet_all-requires g c =
     let kind = g.T.Rule.kind in
     let stands = g.T.Rule.stands_for in
-    let o = c.args.course.now in
+    let o = c.args.stage.now.course.now in
     let kinds = map g.T.Rule.kind c.args.rules.items in
     let is = c.requires.joint in
-    let plain = c.requires.plain in
+    let plain = c.args.stage.now.plain in
     let n = c.loop-turn.t in
     let top = c.loop-turn.invariant.top in
     round_meets o kinds is plain kind stands n c.loop-turn.bodies.items c.deref_mut.result.now c.loop-turn.rules.items c.deref_mut-in-loop-turn.result.now c.deref_mut.ensures.value c.deref_mut-in-loop-turn.ensures.value top
@@ -37,10 +35,10 @@ pub returns-then-have_all_ended : goal.returns-then-have_all_ended
 returns-then-have_all_ended g c =
     let kind = g.T.Rule.kind in
     let stands = g.T.Rule.stands_for in
-    let o = c.args.course.now in
+    let o = c.args.stage.now.course.now in
     let kinds = map g.T.Rule.kind c.args.rules.items in
     let is = c.requires.joint in
-    let plain = c.requires.plain in
+    let plain = c.args.stage.now.plain in
     let n = c.loop-turn.t in
     let top = c.loop-turn.invariant.top in
     let j = joint_on_course o kinds in
@@ -61,26 +59,14 @@ returns-then-have_all_ended g c =
     let sit : Sit kind stands o kinds (instants j (players_after j n)) v1 h1 = subst (λ bs. Sit kind stands o kinds (instants j (players_after j n)) bs h1) (sym back1) met in
     ended_sessions o kinds is plain kind stands n v1 h1 c.in_ok-sessions_of.field-0.items sit top.going all c.in_ok-sessions_of.ensures
 
-pub all_calm_until-until-requires-clause-instant : goal.all_calm_until-until-requires-clause-instant
-all_calm_until-until-requires-clause-instant g c =
+pub all_calm_until-until-requires : goal.all_calm_until-until-requires
+all_calm_until-until-requires g c =
     let kind = g.T.Rule.kind in
     let stands = g.T.Rule.stands_for in
-    let o = c.args.course.now in
+    let o = c.args.stage.now.course.now in
     let kinds = map g.T.Rule.kind c.args.rules.items in
     let is = c.requires.joint in
-    let plain = c.requires.plain in
-    let n = c.loop-turn.t in
-    let top = c.loop-turn.invariant.top in
-    top_early o kinds is plain n top.going
-
-pub all_calm_until-until-requires-clause-rest : goal.all_calm_until-until-requires-clause-rest
-all_calm_until-until-requires-clause-rest g c =
-    let kind = g.T.Rule.kind in
-    let stands = g.T.Rule.stands_for in
-    let o = c.args.course.now in
-    let kinds = map g.T.Rule.kind c.args.rules.items in
-    let is = c.requires.joint in
-    let plain = c.requires.plain in
+    let plain = c.args.stage.now.plain in
     let n = c.loop-turn.t in
     let top = c.loop-turn.invariant.top in
     let j = joint_on_course o kinds in
@@ -96,19 +82,23 @@ all_calm_until-until-requires-clause-rest g c =
     round_met o kinds is plain kind stands n v0 d0 c.loop-turn.rules.items r0 c.deref_mut.ensures.value c.deref_mut-in-loop-turn.ensures.value top b1 h1 c.in_ok-meet_all.ensures in
     let back1 = written size v0 b1 was long1 in
     let early : n < 1000000000000000 = top_early o kinds is plain n top.going in
-    let period : c.period_at-period.result ≡ period_at o.scene.now.periods n = c.period_at-period.ensures.value ∙ ap (λ ps. period_at ps n) (c.clock.ensures.value ∙ ap (λ (s : Shared). s.periods) c.requires.link) in
+    let period : c.period_at-period.result ≡ period_at o.scene.now.periods n = c.period_at-period.ensures.value ∙ ap (λ ps. period_at ps n) (c.clock.ensures.value ∙ c.args.stage.now.same) in
     let rest : All (λ b. BodyGoesOn b → (b.t ≡ n) × CanRestTogether o (period_at o.scene.now.periods n) b) b1 = λ i b low. all_can_rest o kinds is plain kind stands n 0 0 b1 h1 met i b low in
-    subst (All (λ b. BodyGoesOn b → (b.t ≡ n) × CanRestTogether o c.period_at-period.result b)) (sym (c.deref-in-loop-turn-2.ensures.value ∙ back1))
-    (subst (λ p. All (λ b. BodyGoesOn b → (b.t ≡ n) × CanRestTogether o p b) b1) (sym period) rest)
+    record {
+      here = period;
+      instant = early;
+      rest = subst (All (λ b. BodyGoesOn b → (b.t ≡ n) × CanRestTogether o c.period_at-period.result b)) (sym (c.deref-in-loop-turn-2.ensures.value ∙ back1))
+          (subst (λ p. All (λ b. BodyGoesOn b → (b.t ≡ n) × CanRestTogether o p b) b1) (sym period) rest);
+    }
 
 pub pass_all-requires : goal.pass_all-requires
 pass_all-requires g c =
     let kind = g.T.Rule.kind in
     let stands = g.T.Rule.stands_for in
-    let o = c.args.course.now in
+    let o = c.args.stage.now.course.now in
     let kinds = map g.T.Rule.kind c.args.rules.items in
     let is = c.requires.joint in
-    let plain = c.requires.plain in
+    let plain = c.args.stage.now.plain in
     let n = c.loop-turn.t in
     let top = c.loop-turn.invariant.top in
     let j = joint_on_course o kinds in
@@ -126,14 +116,14 @@ pass_all-requires g c =
     let early : n < 1000000000000000 = top_early o kinds is plain n top.going in
     subst AllCanPass (sym (c.deref_mut-in-loop-turn-2.ensures.value ∙ back1)) (all_can_pass o kinds is plain kind stands n b1 h1 met early)
 
-pub glide_all-requires-clause-comes : goal.glide_all-requires-clause-comes
-glide_all-requires-clause-comes g c =
+pub glide_all-requires : goal.glide_all-requires
+glide_all-requires g c =
     let kind = g.T.Rule.kind in
     let stands = g.T.Rule.stands_for in
-    let o = c.args.course.now in
+    let o = c.args.stage.now.course.now in
     let kinds = map g.T.Rule.kind c.args.rules.items in
     let is = c.requires.joint in
-    let plain = c.requires.plain in
+    let plain = c.args.stage.now.plain in
     let n = c.loop-turn.t in
     let top = c.loop-turn.invariant.top in
     let j = joint_on_course o kinds in
@@ -149,7 +139,7 @@ glide_all-requires-clause-comes g c =
     round_met o kinds is plain kind stands n v0 d0 c.loop-turn.rules.items r0 c.deref_mut.ensures.value c.deref_mut-in-loop-turn.ensures.value top b1 h1 c.in_ok-meet_all.ensures in
     let back1 = written size v0 b1 was long1 in
     let early : n < 1000000000000000 = top_early o kinds is plain n top.going in
-    let period : c.period_at-period.result ≡ period_at o.scene.now.periods n = c.period_at-period.ensures.value ∙ ap (λ ps. period_at ps n) (c.clock.ensures.value ∙ ap (λ (s : Shared). s.periods) c.requires.link) in
+    let period : c.period_at-period.result ≡ period_at o.scene.now.periods n = c.period_at-period.ensures.value ∙ ap (λ ps. period_at ps n) (c.clock.ensures.value ∙ c.args.stage.now.same) in
     let listed : c.deref-in-loop-turn.result.now ≡ b1 = c.deref-in-loop-turn.ensures.value ∙ back1 in
     let takers = c.count_takers-takers.result in
     let stand : Stand (instants j (players_after j n)) c.deref-in-loop-turn.result.now = subst (Stand (instants j (players_after j n))) (sym listed) met.stand in
@@ -174,10 +164,10 @@ pub loop-turn-preserved : goal.loop-turn-preserved
 loop-turn-preserved g c =
     let kind = g.T.Rule.kind in
     let stands = g.T.Rule.stands_for in
-    let o = c.args.course.now in
+    let o = c.args.stage.now.course.now in
     let kinds = map g.T.Rule.kind c.args.rules.items in
     let is = c.requires.joint in
-    let plain = c.requires.plain in
+    let plain = c.args.stage.now.plain in
     let n = c.loop-turn.t in
     let top = c.loop-turn.invariant.top in
     let j = joint_on_course o kinds in
@@ -193,7 +183,7 @@ loop-turn-preserved g c =
     round_met o kinds is plain kind stands n v0 d0 c.loop-turn.rules.items r0 c.deref_mut.ensures.value c.deref_mut-in-loop-turn.ensures.value top b1 h1 c.in_ok-meet_all.ensures in
     let back1 = written size v0 b1 was long1 in
     let early : n < 1000000000000000 = top_early o kinds is plain n top.going in
-    let period : c.period_at-period.result ≡ period_at o.scene.now.periods n = c.period_at-period.ensures.value ∙ ap (λ ps. period_at ps n) (c.clock.ensures.value ∙ ap (λ (s : Shared). s.periods) c.requires.link) in
+    let period : c.period_at-period.result ≡ period_at o.scene.now.periods n = c.period_at-period.ensures.value ∙ ap (λ ps. period_at ps n) (c.clock.ensures.value ∙ c.args.stage.now.same) in
     let listed : c.deref-in-loop-turn.result.now ≡ b1 = c.deref-in-loop-turn.ensures.value ∙ back1 in
     let takers = c.count_takers-takers.result in
     let stand : Stand (instants j (players_after j n)) c.deref-in-loop-turn.result.now = subst (Stand (instants j (players_after j n))) (sym listed) met.stand in
@@ -236,10 +226,10 @@ pub unreachable-requires : goal.unreachable-requires
 unreachable-requires g c =
     let kind = g.T.Rule.kind in
     let stands = g.T.Rule.stands_for in
-    let o = c.args.course.now in
+    let o = c.args.stage.now.course.now in
     let kinds = map g.T.Rule.kind c.args.rules.items in
     let is = c.requires.joint in
-    let plain = c.requires.plain in
+    let plain = c.args.stage.now.plain in
     let n = c.loop-turn.t in
     let top = c.loop-turn.invariant.top in
     let early = top_early o kinds is plain n top.going in

@@ -1,4 +1,4 @@
-use Rattle.std.proofs.Common.{◌≡◌, ◌∙◌, ◌+◌, true, false, sym, ap, add-zero, arith}
+use Rattle.std.proofs.Common.{◌≡◌, ◌∙◌, true, false, sym, arith}
 use Rattle.shared_link.proofs.Takers.{takers_more, takers_none}
 use Rattle.shared_link.proofs.table.count_takers.Goals as goal
 use Rattle.shared_link.proofs.table.count_takers.Goals.{then-takes_bits, else-takes_bits}

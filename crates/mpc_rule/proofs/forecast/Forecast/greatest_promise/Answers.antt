@@ -7,7 +7,7 @@ use Rattle.mpc_rule.proofs.forecast.Forecast.greatest_promise.Goals as goal
 
 pub loop-rung-preserved : goal.loop-rung-preserved
 loop-rung-preserved c =
-    let o = c.args.self.now.outlook in let segment = o.context.now.next + c.args.count in
+    let o = c.args.self.now in let segment = o.context.next + c.args.count in
     let value = c.max-most.ensures.value in let promise = c.promise.ensures.value in
     let own = c.max-most.ensures.self_bound in let other = c.max-most.ensures.other_bound in
     record {

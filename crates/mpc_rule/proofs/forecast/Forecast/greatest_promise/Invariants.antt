@@ -5,6 +5,6 @@ use Rattle.mpc_rule.proofs.forecast.Forecast.greatest_promise.Given as goal
 
 abbrev pub invariant-loop-rung : goal.invariant-loop-rung
 invariant-loop-rung l = record {
-  most : (rung : ℕ) → rung < l.rung → promise_of l.self.outlook l.price (l.self.outlook.context.now.next + l.count) rung ≤ℤ l.most;
+  most : (rung : ℕ) → rung < l.rung → promise_of l.self l.price (l.self.context.next + l.count) rung ≤ℤ l.most;
   limits : IsPromise l.most;
 }

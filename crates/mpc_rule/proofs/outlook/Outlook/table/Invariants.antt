@@ -7,5 +7,5 @@ use Rattle.mpc_rule.proofs.outlook.Outlook.table.Given as goal
 abbrev pub invariant-loop-k : goal.invariant-loop-k
 invariant-loop-k l = record {
   places : length l.rows ≡ 5;
-  filled : (k : ℕ) (d : List Foretold) → k < l.k → IsForetoldRow l.self (l.self.context.now.next + k) (slice_index_or l.rows k d);
+  filled : (k : ℕ) (d : List Foretold) → k < l.k → IsForetoldRow l.self (l.self.context.next + k) (slice_index_or l.rows k d);
 }

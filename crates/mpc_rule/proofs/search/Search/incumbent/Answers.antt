@@ -5,6 +5,6 @@ use Rattle.mpc_rule.proofs.search.Search.incumbent.Goals.{then-incumbent-list, e
 
 pub loop-rung-preserved : goal.loop-rung-preserved
 loop-rung-preserved c = elim c.if-incumbent-list.branch [
-  | then-incumbent-list w ↦ subst (IsWholeDraft c.args.self.now.forecast) (sym w.incumbent-is) c.constant-list.ensures
-  | else-incumbent-list w ↦ subst (IsWholeDraft c.args.self.now.forecast) (sym w.incumbent-is) c.loop-rung.invariant
+  | then-incumbent-list w ↦ subst (IsWholeDraft c.args.self.now) (sym w.incumbent-is) c.constant-list.ensures
+  | else-incumbent-list w ↦ subst (IsWholeDraft c.args.self.now) (sym w.incumbent-is) c.loop-rung.invariant
 ]

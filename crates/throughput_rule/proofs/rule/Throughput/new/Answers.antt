@@ -1,5 +1,5 @@
-use Rattle.throughput_rule.proofs.Histories.{stands_untold}
+use Rattle.throughput_rule.proofs.Histories.{hold_none}
 use Rattle.throughput_rule.proofs.rule.Throughput.new.Goals as goal
 
 pub returns-clause-stands : goal.returns-clause-stands
-returns-clause-stands c = rw c.in_ok-untold_windows.ensures.ok (stands_untold c.args.windows.now)
+returns-clause-stands c = rw c.in_ok-empty_windows.ensures.ok (hold_none c.args.windows.now)

@@ -1,0 +1,10 @@
+pub mod Rows
+pub mod Greatest
+pub mod Bounded
+pub mod Along
+pub mod Tight
+pub mod Sizes
+pub mod Grids
+pub mod CellLaws
+pub mod Gains
+pub mod LayerLaws

@@ -1,0 +1,5 @@
+//! Completion bounds: tables of cases.
+#![tactic(auto)]
+
+#[cfg(test)]
+mod tests;
