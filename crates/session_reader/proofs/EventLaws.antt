@@ -216,23 +216,25 @@ pub record TakesEvents (most : ℕ) (bytes : Text) (x : List Event × Text) : Ty
   pub few : length x.0 ≤ most
   pub text : bytes ≡ lines_text (map event_fields x.0) ++ x.1
 
+-- an event, where there is one, and those behind it
+one_more : (more : ℕ) (bytes : Text) (later : (rest : Text) → TakesEvents more rest (read_events more rest)) (r : Read Event) → read_event 1 bytes ≡ r
+    → TakesEvents (suc more) bytes (if_read r (λ x. event_before x.0 (read_events more x.1)) ([], bytes))
+one_more more bytes later (Ok x) h =
+    let own = event_takes 1 bytes x h in
+    let others = later x.1 in
+    let es = read_events more x.1 in
+    record {
+      told = All-cons IsTold x.0 es.0 own.told others.told;
+      few = omega (arith, others.few);
+      text = own.text ∙ ap (λ (t : Text). fields_line (event_fields x.0) ++ t) others.text ∙ sym (append_assoc (fields_line (event_fields x.0)) (lines_text (map event_fields es.0)) es.1);
+    }
+one_more more bytes later (Err e) h = record { told = All-nil IsTold; few = omega arith; text = refl }
+
 -- events that were read stand in their lines
 pub events_take : (most : ℕ) (bytes : Text) → TakesEvents most bytes (read_events most bytes)
 unfolding read_events
 events_take zero bytes = record { told = All-nil IsTold; few = omega arith; text = refl }
-events_take (suc more) bytes = go (read_event 1 bytes) refl
-  where
-    go : (r : Read Event) → read_event 1 bytes ≡ r → TakesEvents (suc more) bytes (if_read r (λ x. event_before x.0 (read_events more x.1)) ([], bytes))
-    go (Ok x) h =
-        let own = event_takes 1 bytes x h in
-        let later = events_take more x.1 in
-        let es = read_events more x.1 in
-        record {
-          told = All-cons IsTold x.0 es.0 own.told later.told;
-          few = omega (arith, later.few);
-          text = own.text ∙ ap (λ (t : Text). fields_line (event_fields x.0) ++ t) later.text ∙ sym (append_assoc (fields_line (event_fields x.0)) (lines_text (map event_fields es.0)) es.1);
-        }
-    go (Err e) h = record { told = All-nil IsTold; few = omega arith; text = refl }
+events_take (suc more) bytes = one_more more bytes (λ rest. events_take more rest) (read_event 1 bytes) refl
 
 -- events are read from their lines, up to a line that is none
 pub events_again : (most : ℕ) (es : List Event) (rest : Text) → length es ≤ most → All IsTold es → Refuses (read_event 1 rest) → read_events most (lines_text (map event_fields es) ++ rest) ≡ (es, rest)
@@ -248,7 +250,7 @@ events_again (suc more) (e ∷ es) rest few told none =
 -- ---- a line that is none
 
 not_number : (row : ℕ) (rest : Text) → read_number row time_digits 32 (codes "startup" ++ 32 ∷ rest) ≡ Err (line_refusal row)
-unfolding read_number, numeral
+unfolding read_number numeral
 not_number row rest = rw (field_again row 32 (codes "startup") rest refl) refl
 
 no_instant : (row : ℕ) (more : Line) (make : Values (at_line more) → Event) (bytes : Text) (e : Refusal) → stop_of more ≡ 32 → read_number row time_digits 32 bytes ≡ Err e → Refuses (read_as (at_line more) make row bytes)
