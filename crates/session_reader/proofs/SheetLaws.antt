@@ -252,13 +252,13 @@ number_first n fields more held =
     ap begins_players (append_assoc (decimal n) (later_fields fields) more) ∙ digit_first (decimal n) (later_fields fields ++ more) (omega (arith, s.some)) d.0 d.1
 
 event_first : (e : Event) (more : Text) → IsTold e → begins_players (fields_line (event_fields e) ++ more) ≡ false
-event_first (event.Request at segment rung) more told = number_first at _ more told.0
-event_first (event.Arrive at segment rung first rate) more told = number_first at _ more told.0
-event_first (event.Abandon at segment rung to got) more told = number_first at _ more told.0
-event_first (event.Seek at to wasted) more told = number_first at _ more told.0
-event_first (event.Play at segment rung) more told = number_first at _ more told.0
-event_first (event.Stall at) more told = number_first at _ more told.0
-event_first (event.End at) more told = number_first at _ more told.0
+event_first (event.Request at segment rung) more told = number_first at (codes "request" ∷ decimal segment ∷ decimal rung ∷ []) more told.0
+event_first (event.Arrive at segment rung first rate) more told = number_first at (codes "arrive" ∷ decimal segment ∷ decimal rung ∷ codes "first" ∷ decimal first ∷ codes "rate" ∷ decimal rate ∷ []) more told.0
+event_first (event.Abandon at segment rung to got) more told = number_first at (codes "abandon" ∷ decimal segment ∷ decimal rung ∷ codes "to" ∷ decimal to ∷ codes "got" ∷ decimal got ∷ []) more told.0
+event_first (event.Seek at to wasted) more told = number_first at (codes "seek" ∷ decimal to ∷ codes "wasted" ∷ decimal wasted ∷ []) more told.0
+event_first (event.Play at segment rung) more told = number_first at (codes "play" ∷ decimal segment ∷ decimal rung ∷ []) more told.0
+event_first (event.Stall at) more told = number_first at (codes "stall" ∷ []) more told.0
+event_first (event.End at) more told = number_first at (codes "end" ∷ []) more told.0
 
 -- the text of a session alone isn't that of players
 telling_first : (es : List Event) (c : Counters) (more : Text) → All IsTold es → begins_players ((lines_text (map event_fields es) ++ lines_text (counter_lines c)) ++ more) ≡ false
