@@ -1,34 +1,50 @@
-use Rattle.std.proofs.Common.{rules, ◌≡◌, ◌+◌, ◌≤◌, Ok, IfOk, length, map, ℕ, ◌-◌, ◌*◌, ◌<◌, ◌/◌, ◌%◌, Bool, true, false, nat_eq, nat_lt, List, [], ◌∷◌, ◌++◌, slice_index_or, slice_set, bit_and, bit_or, Fits, w8, w32, w64, Bor, MutBor}
-use Rattle.lab_model.specs.Reading.{Gives}
-use Rattle.lab_model.specs.Weighing.{Weighing}
-use Rattle.player_core.specs.Session.{Shown}
-use Rattle.session_report.specs.Session.{session_text}
-use Rattle.certificate_text.specs.Reading.{read_nothing}
-use Rattle.session_reader.specs.Form.{IsTelling, Tellings, alone, line_count, most_events, most_players, telling, telling_of, tellings}
-use Rattle.session_reader.specs.Reading.{HasText, begins_players, read_alone, read_events, read_players, read_telling, sheet_of}
-use Rattle.session_reader.specs.Spelling.{sheet_text}
+use Rattle.std.proofs.Common.{◌≡◌, ◌∙◌, ◌+◌, ◌<◌, length, map, refl, sym, ap, arith}
+use Rattle.std.proofs.lemmas.Bool.Decides.{nat_tests}
+use Rattle.std.proofs.lemmas.List.{map_push}
+use Rattle.lab_model.specs.Steps.{◌>>=◌}
+use Rattle.lab_model.proofs.Refusals.{fails_on, gives_error}
+use Rattle.session_reader.specs.Form.{line_count, most_players, telling}
+use Rattle.session_reader.proofs.Loops.{players_ended, players_full, players_more, players_stopped, players_unnamed}
 use Rattle.session_reader.proofs.reader.read_players.Goals as goal
 
--- src/reader.rt:99:13
 pub returns-then-is_empty : goal.returns-then-is_empty
-returns-then-is_empty c = ?
+returns-then-is_empty c =
+    let none : length c.loop-i.rest.now ≡ 0 = grind (arith, nat_tests, c.if-is_empty.ensures) in
+    sym c.loop-i.invariant.sessions ∙ players_ended (map telling c.loop-i.sessions.items) _ _ c.loop-i.row c.loop-i.rest.now none
 
--- src/reader.rt:101:22
 pub returns-in_err-behind : goal.returns-in_err-behind
-returns-in_err-behind c = ?
+returns-in_err-behind c =
+    let some : 0 < length c.loop-i.rest.now = grind (arith, nat_tests, c.if-is_empty.ensures) in
+    gives_error _ c.from_residual.result c.in_err-behind.field-0.0 _ c.from_residual.ensures.1
+    (fails_on _ _ _ c.in_err-behind.ensures
+    (λ y h. sym c.loop-i.invariant.sessions ∙ players_unnamed (map telling c.loop-i.sessions.items) most_players c.loop-i.i c.loop-i.row c.loop-i.rest.now y c.loop-i-test.true some h))
 
--- src/reader.rt:102:30
 pub returns-in_err-told : goal.returns-in_err-told
-returns-in_err-told c = ?
+returns-in_err-told c =
+    let some : 0 < length c.loop-i.rest.now = grind (arith, nat_tests, c.if-is_empty.ensures) in
+    gives_error _ c.from_residual-in_err-told.result c.in_err-told.field-0.0 _ c.from_residual-in_err-told.ensures.1
+    (fails_on _ _ _ c.in_err-told.ensures.told
+    (λ y h. sym c.loop-i.invariant.sessions
+    ∙ players_stopped (map telling c.loop-i.sessions.items) most_players c.loop-i.i c.loop-i.row c.loop-i.rest.now c.in_ok-behind.behind.now y c.loop-i-test.true some c.in_ok-behind.ensures h))
 
--- src/reader.rt:97:5
 pub loop-i-preserved : goal.loop-i-preserved
-loop-i-preserved c = ?
+loop-i-preserved c =
+    let some : 0 < length c.loop-i.rest.now = grind (arith, nat_tests, c.if-is_empty.ensures) in
+    let own = telling c.in_ok-told.told in
+    let further : c.loop-i.row + (1 + line_count own) ≡ c.loop-i.row + 1 + line_count own = omega arith in
+    record {
+      sessions = rw (c.in_ok-push.ensures.ok, map_push telling c.loop-i.sessions.items c.in_ok-told.told, c.line_count.ensures, further)
+          (players_more (map telling c.loop-i.sessions.items) own most_players c.loop-i.i c.loop-i.row c.loop-i.rest.now c.in_ok-behind.behind.now c.in_ok-told.behind.now c.loop-i-test.true some c.in_ok-behind.ensures c.in_ok-told.ensures.told
+          ∙ c.loop-i.invariant.sessions);
+      low = omega (arith, c.loop-i.invariant.low, c.line_count.ensures, c.in_ok-told.ensures.few);
+    }
 
--- src/reader.rt:107:5
 pub returns-in_err-read_nothing : goal.returns-in_err-read_nothing
-returns-in_err-read_nothing c = ?
+returns-in_err-read_nothing c =
+    gives_error _ c.from_residual-in_err-read_nothing.result c.in_err-read_nothing.field-0.0 _ c.from_residual-in_err-read_nothing.ensures.1
+    (fails_on _ _ _ c.in_err-read_nothing.ensures
+    (λ y h. sym c.loop-i.invariant.sessions ∙ players_full (map telling c.loop-i.sessions.items) most_players c.loop-i.i (c.loop-i.i + 1) c.loop-i.row c.loop-i.rest.now c.loop-i-test.false ∙ rw h refl))
 
--- src/reader.rt:91:1
 pub returns : goal.returns
-returns c = ?
+returns c =
+    sym c.loop-i.invariant.sessions ∙ players_full (map telling c.loop-i.sessions.items) most_players c.loop-i.i (c.loop-i.i + 1) c.loop-i.row c.loop-i.rest.now c.loop-i-test.false ∙ rw c.in_ok-read_nothing.ensures refl
