@@ -1,10 +1,9 @@
 -- Events: what is read is of the form and spelled so, and what is of the form is read from its spelling.
-use Rattle.std.proofs.Common.{◌≡◌, ◌∙◌, ◌+◌, ◌<◌, ◌≤◌, ◌^◌, ◌==◌, ◌++◌, ℕ, zero, suc, List, [], ◌∷◌, Bool, true, false, Result, Ok, Err, codes, if◌then◌else◌, length, map, refl, sym, ap, subst, append_assoc, arith, lit<, lit≤}
+use Rattle.std.proofs.Common.{◌≡◌, ◌∙◌, ◌≤◌, ◌==◌, ◌++◌, ℕ, zero, suc, List, [], ◌∷◌, Bool, true, false, Result, Ok, Err, codes, if◌then◌else◌, length, map, refl, sym, ap, subst, append_assoc, arith, lit<, lit≤}
 use Rattle.std.specs.List.{All}
 use Rattle.std.specs.Fmt.{decimal}
 use Rattle.std.proofs.lemmas.List.Elements.{All-cons, All-head, All-nil, All-tail}
 use Rattle.lab_model.proofs.Steps.{then_ok}
-use Rattle.lab_model.specs.Steps.{◌>>=◌}
 use Rattle.lab_model.specs.declared.fault.Refusal.{Refusal}
 use Rattle.lab_io.specs.Sink.{Text}
 use Rattle.lab_io.specs.Number.{numeral}
@@ -20,7 +19,7 @@ use Rattle.certificate_text.proofs.FieldLaws.{field_again, number_again, word_ta
 use Rattle.certificate_text.proofs.Loops.{ok_is}
 use Rattle.certificate_text.proofs.LineLaws.{IsSpellable, line_again, line_takes}
 use Rattle.session_reader.specs.Form.{IsTold}
-use Rattle.session_reader.specs.Grammar.{abandon_line, arrive_line, at_line, bits_digits, download_line, end_line, part_digits, play_line, request_line, seek_line, segment_digits, stall_line, time_digits}
+use Rattle.session_reader.specs.Grammar.{abandon_line, arrive_line, at_line, bits_digits, end_line, part_digits, play_line, request_line, seek_line, segment_digits, stall_line, time_digits}
 use Rattle.session_reader.specs.Reading.{abandon_of, arrive_of, end_of, event_before, if_read, or_else, play_of, read_as, read_event, read_events, request_of, seek_of, stall_of}
 
 -- ---- what was read

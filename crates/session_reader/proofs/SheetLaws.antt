@@ -1,7 +1,7 @@
 -- Sessions: what is read has a text and is spelled so, and what has a text is read from it.
-use Rattle.std.proofs.Common.{◌≡◌, ◌∙◌, ◌+◌, ◌<◌, ◌≤◌, ◌^◌, ◌==◌, ◌++◌, ℕ, zero, suc, List, [], ◌∷◌, Bool, true, false, Result, Ok, Err, codes, if◌then◌else◌, get_or, length, map, refl, sym, ap, subst, append_assoc, append-nil, arith, lit<, lit≤}
+use Rattle.std.proofs.Common.{◌≡◌, ◌∙◌, ◌+◌, ◌<◌, ◌≤◌, ◌^◌, ◌++◌, ℕ, zero, suc, List, [], ◌∷◌, Bool, true, false, Result, Ok, Err, codes, if◌then◌else◌, get_or, length, map, refl, sym, ap, subst, append_assoc, append-nil, arith, lit<, lit≤}
 use Rattle.std.specs.Prelude.{IfOk}
-use Rattle.std.specs.List.{All, flat_map}
+use Rattle.std.specs.List.{All}
 use Rattle.std.specs.Fmt.{decimal}
 use Rattle.std.proofs.lemmas.Bool.Decides.{nat_tests}
 use Rattle.std.proofs.lemmas.List.Elements.{All-cons, All-head, All-nil, All-tail}
@@ -32,7 +32,7 @@ use Rattle.session_reader.specs.declared.told.Counters.{Counters}
 use Rattle.session_reader.specs.declared.told.Sheet.{Sheet}
 use Rattle.session_reader.specs.Form.{AreTold, IsTelling, IsTold, Telling, Tellings, alone, line_count, most_events, most_players, telling_of, tellings}
 use Rattle.session_reader.specs.Grammar.{bits_digits, counter_line, part_digits, player_line, time_digits}
-use Rattle.session_reader.specs.Reading.{HasText, IsCount, begins_players, read_alone, read_counters, read_event, read_events, read_players, read_telling, sheet_of}
+use Rattle.session_reader.specs.Reading.{HasText, IsCount, begins_players, read_alone, read_counters, read_events, read_players, read_telling, sheet_of}
 use Rattle.session_reader.specs.Spelling.{counter_fields, counter_lines, players_text, sheet_text, telling_text, text_by}
 use Rattle.session_reader.proofs.EventLaws.{events_again, events_take, no_event}
 

@@ -3,7 +3,6 @@ use Rattle.std.specs.Prelude.{ℕ, codes}
 use Rattle.lab_io.specs.Sink.{Text}
 use Rattle.labels.specs.Form.{rung_digits}
 use Rattle.certificate_text.specs.Line.{Line, ends, known, number, word}
-use Rattle.certificate_text.specs.Grammar.{score_line}
 
 -- the digits of an instant, or of a time, in milliseconds
 abbrev pub time_digits : ℕ

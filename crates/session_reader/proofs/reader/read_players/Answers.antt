@@ -1,7 +1,6 @@
-use Rattle.std.proofs.Common.{◌≡◌, ◌∙◌, ◌+◌, ◌<◌, length, map, refl, sym, ap, arith}
+use Rattle.std.proofs.Common.{◌≡◌, ◌∙◌, ◌+◌, ◌<◌, length, map, refl, sym, arith}
 use Rattle.std.proofs.lemmas.Bool.Decides.{nat_tests}
 use Rattle.std.proofs.lemmas.List.{map_push}
-use Rattle.lab_model.specs.Steps.{◌>>=◌}
 use Rattle.lab_model.proofs.Refusals.{fails_on, gives_error}
 use Rattle.session_reader.specs.Form.{line_count, most_players, telling}
 use Rattle.session_reader.proofs.Loops.{players_ended, players_full, players_more, players_stopped, players_unnamed}
