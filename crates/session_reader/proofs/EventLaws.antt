@@ -262,12 +262,13 @@ unfolding read_event
 no_event row rest =
     let bytes = codes "startup" ++ 32 ∷ rest in
     let h = not_number row rest in
-    let last = no_instant row (word (codes "end") ends) end_of bytes (line_refusal row) refl h in
-    (last.0,
-    skipped _ _ _ (no_instant row (word (codes "request") (number segment_digits (number rung_digits ends))) request_of bytes (line_refusal row) refl h)
-    (skipped _ _ _ (no_instant row (word (codes "arrive") (number segment_digits (number rung_digits (word (codes "first") (number time_digits (word (codes "rate") (number bits_digits ends))))))) arrive_of bytes (line_refusal row) refl h)
-    (skipped _ _ _ (no_instant row (word (codes "abandon") (number segment_digits (number rung_digits (word (codes "to") (number rung_digits (word (codes "got") (number part_digits ends))))))) abandon_of bytes (line_refusal row) refl h)
-    (skipped _ _ _ (no_instant row (word (codes "seek") (number segment_digits (word (codes "wasted") (number bits_digits ends)))) seek_of bytes (line_refusal row) refl h)
-    (skipped _ _ _ (no_instant row (word (codes "play") (number segment_digits (number rung_digits ends))) play_of bytes (line_refusal row) refl h)
-    (skipped _ _ _ (no_instant row (word (codes "stall") ends) stall_of bytes (line_refusal row) refl h)
-    last.1))))))
+    let last = no_instant row (word (codes "end") ends) end_of bytes (line_refusal row) refl h in (
+      last.0,
+      skipped _ _ _ (no_instant row (word (codes "request") (number segment_digits (number rung_digits ends))) request_of bytes (line_refusal row) refl h)
+          (skipped _ _ _ (no_instant row (word (codes "arrive") (number segment_digits (number rung_digits (word (codes "first") (number time_digits (word (codes "rate") (number bits_digits ends))))))) arrive_of bytes (line_refusal row) refl h)
+          (skipped _ _ _ (no_instant row (word (codes "abandon") (number segment_digits (number rung_digits (word (codes "to") (number rung_digits (word (codes "got") (number part_digits ends))))))) abandon_of bytes (line_refusal row) refl h)
+          (skipped _ _ _ (no_instant row (word (codes "seek") (number segment_digits (word (codes "wasted") (number bits_digits ends)))) seek_of bytes (line_refusal row) refl h)
+          (skipped _ _ _ (no_instant row (word (codes "play") (number segment_digits (number rung_digits ends))) play_of bytes (line_refusal row) refl h)
+          (skipped _ _ _ (no_instant row (word (codes "stall") ends) stall_of bytes (line_refusal row) refl h)
+          last.1))))),
+    )

@@ -1,7 +1,12 @@
 // Texts of sessions, good ones and spoiled ones.
+ghost use Rattle.std.specs.Prelude.{◌≡◌, ◌∷◌, [], IfOk};
+ghost use Rattle.lab_model.specs.Weighing.{weighing};
+
 use crate::read_sessions;
-use lab_model::{InputFault, Key, Kind, Refusal};
-use player_core::Event;
+use lab_io::SureSink;
+use lab_model::{InputFault, Key, Kind, Played, Refusal, Weights};
+use player_core::{Event, Session};
+use session_report::write_session;
 use std::alloc::Global;
 use std::test::Fail;
 
@@ -161,8 +166,14 @@ fn parts_of_a_text(rt: HostRuntime) -> Result<(), Fail> {
         assert_eq!(rt; told.events.get(3), Some(&arrival));
         assert_eq!(rt; told.events.get(5), Some(&Event::Stall { at: 6500 }));
         let counters = told.counters;
-        assert_eq!(rt; (counters.startup_ms, counters.stall_ms, counters.stalls), (5500, 9000, 2));
-        assert_eq!(rt; (counters.seek_ms, counters.wasted_bits, counters.end), (0, 300000, 17500));
+        assert_eq!(rt;
+            (counters.startup_ms, counters.stall_ms, counters.stalls),
+            (5500, 9000, 2)
+        );
+        assert_eq!(rt;
+            (counters.seek_ms, counters.wasted_bits, counters.end),
+            (0, 300000, 17500)
+        );
         assert_eq!(rt; counters.score, -905500);
     }
     Ok(())
@@ -193,5 +204,89 @@ fn players_in_order(rt: HostRuntime) -> Result<(), Fail> {
     assert_eq!(rt; refusal_of(alloc, nine.as_bytes()), line_refusal(129));
     assert_eq!(rt; refusal_of(alloc, b"player 2\n"), line_refusal(1));
     assert_eq!(rt; refusal_of(alloc, b"player 1\n"), line_refusal(2));
+    Ok(())
+}
+
+/// The text of a film of three segments, and that of the same film live.
+const WORKED: [&str; 2] = [
+    "0 request 0 1\n1000 arrive 0 1 first 0 rate 2000000\n1000 request 1 1\n1000 play 0 1\n\
+    2000 arrive 1 1 first 1000 rate 2000000\n2000 request 2 1\n2000 play 1 1\n\
+    3000 arrive 2 1 first 2000 rate 2000000\n3000 play 2 1\n4000 end\n\
+    startup 1000\nstall 0\nstalls 0\nseeking 0\nwasted 0\nend 4000\nscore 29000\n",
+    "1000 request 0 1\n2000 arrive 0 1 first 1000 rate 2000000\n2000 request 1 1\n2000 play 0 1\n\
+    3000 arrive 1 1 first 2000 rate 2000000\n3000 request 2 1\n3000 play 1 1\n\
+    4000 arrive 2 1 first 3000 rate 2000000\n4000 play 2 1\n5000 end\n\
+    startup 2000\nstall 0\nstalls 0\nseeking 0\nwasted 0\nend 5000\nscore 28000\n",
+];
+
+#[test]
+fn worked_sessions(rt: HostRuntime) -> Result<(), Fail> {
+    let alloc = rt.alloc();
+    let mut startup_ms = 1000u64;
+    for text in WORKED {
+        let read = read_sessions(alloc, text.as_bytes())?;
+        assert_eq!(rt; (read.joint, read.sessions.len()), (false, 1));
+        for told in &read.sessions {
+            let last = Event::End {
+                at: startup_ms.saturating_add(3000),
+            };
+            assert_eq!(rt; (told.events.len(), told.events.last()), (10, Some(&last)));
+            assert_eq!(rt; told.counters.startup_ms, startup_ms);
+        }
+        startup_ms = startup_ms.saturating_add(1000);
+    }
+    Ok(())
+}
+
+// Utilities 0 and 10, and a weight of 100 for stalls and of 1 for startup.
+fn weights(alloc: Global) -> Result<Weights, Fail>
+    ensures { IfOk result (λ w. w ≡ weighing (0 ∷ 10 ∷ []) 0 100 1) }
+{
+    match Weights::from_parts(vec![in alloc; 0, 10]?, 0, 100, 1) {
+        Some(w) => Ok(w),
+        None => Err(Fail::new("no weights")),
+    }
+}
+
+#[test]
+fn what_was_written(rt: HostRuntime) -> Result<(), Fail> {
+    let alloc = rt.alloc();
+    let seek = Event::Seek {
+        at: 7000,
+        to: 2,
+        wasted: 200000,
+    };
+    let session = Session {
+        events: vec![in alloc; seek, Event::Stall { at: 7000 }, Event::End { at: 17500 }]?,
+        played: vec![in alloc;
+            Played {
+                segment: 2,
+                rung: 1
+            },
+        ]?,
+        startup_ms: 5500,
+        stall_ms: 9000,
+        seek_ms: 70,
+        stalls: 2,
+        wasted_bits: 200000,
+        end: 17500,
+    };
+    let mut out = SureSink::new(alloc);
+    write_session(&session, &weights(alloc)?, &mut out)?;
+    let read = read_sessions(alloc, out.written())?;
+    assert_eq!(rt; (read.joint, read.sessions.len()), (false, 1));
+    for told in &read.sessions {
+        assert_eq!(rt; (told.events.len(), told.events.first()), (3, Some(&seek)));
+        let counters = told.counters;
+        assert_eq!(rt;
+            (counters.startup_ms, counters.stall_ms, counters.stalls),
+            (5500, 9000, 2)
+        );
+        assert_eq!(rt;
+            (counters.seek_ms, counters.wasted_bits, counters.end),
+            (70, 200000, 17500)
+        );
+        assert_eq!(rt; counters.score, -895500);
+    }
     Ok(())
 }
