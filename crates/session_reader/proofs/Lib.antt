@@ -1,0 +1,3 @@
+pub mod EventLaws
+pub mod Loops
+pub mod SheetLaws

@@ -1,0 +1,4 @@
+pub mod Grammar
+pub mod Form
+pub mod Spelling
+pub mod Reading
