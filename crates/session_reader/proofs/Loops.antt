@@ -7,7 +7,7 @@ use Rattle.player_core.specs.declared.session.Event.{Event}
 use Rattle.certificate_text.specs.Line.{read_line}
 use Rattle.certificate_text.specs.Reading.{read_nothing}
 use Rattle.session_reader.specs.Form.{Telling, line_count}
-use Rattle.session_reader.specs.Grammar.{player_line}
+use Rattle.session_reader.specs.Grammar.{told_player_line}
 use Rattle.session_reader.specs.Reading.{event_before, events_behind, read_event, read_events, read_players, read_telling}
 
 -- ---- events
@@ -48,7 +48,7 @@ players_regrouped before t (Ok ts) = ap (λ (all : List Telling). Ok all) (sym (
 players_regrouped before t (Err e) = refl
 
 -- one more player
-pub players_more : (before : List Telling) (t : Telling) (most i row : ℕ) (rest behind later : Text) → i < most → 0 < length rest → read_line row (player_line (i + 1)) rest ≡ Ok (tt, behind) → read_telling (row + 1) behind ≡ Ok (t, later)
+pub players_more : (before : List Telling) (t : Telling) (most i row : ℕ) (rest behind later : Text) → i < most → 0 < length rest → read_line row (told_player_line (i + 1)) rest ≡ Ok (tt, behind) → read_telling (row + 1) behind ≡ Ok (t, later)
     → players_behind (before ++ t ∷ []) (read_players (most - (i + 1)) (i + 1 + 1) (row + 1 + line_count t) later) ≡ players_behind before (read_players (most - i) (i + 1) row rest)
 unfolding read_players
 players_more before t most i row [] behind later lt some h k = absurd (omega (arith, some))
@@ -57,7 +57,7 @@ players_more before t most i row (b ∷ bytes) behind later lt some h k =
     rw (m, h, k) (sym (players_regrouped before t (read_players (most - (i + 1)) (i + 1 + 1) (row + 1 + line_count t) later)))
 
 -- a line that is none of a player's
-pub players_unnamed : (before : List Telling) (most i row : ℕ) (rest : Text) (y : Refusal) → i < most → 0 < length rest → read_line row (player_line (i + 1)) rest ≡ Err y
+pub players_unnamed : (before : List Telling) (most i row : ℕ) (rest : Text) (y : Refusal) → i < most → 0 < length rest → read_line row (told_player_line (i + 1)) rest ≡ Err y
     → players_behind before (read_players (most - i) (i + 1) row rest) ≡ Err y
 unfolding read_players
 players_unnamed before most i row [] y lt some h = absurd (omega (arith, some))
@@ -66,7 +66,7 @@ players_unnamed before most i row (b ∷ bytes) y lt some h =
     rw (m, h) refl
 
 -- a session that is refused
-pub players_stopped : (before : List Telling) (most i row : ℕ) (rest behind : Text) (y : Refusal) → i < most → 0 < length rest → read_line row (player_line (i + 1)) rest ≡ Ok (tt, behind) → read_telling (row + 1) behind ≡ Err y
+pub players_stopped : (before : List Telling) (most i row : ℕ) (rest behind : Text) (y : Refusal) → i < most → 0 < length rest → read_line row (told_player_line (i + 1)) rest ≡ Ok (tt, behind) → read_telling (row + 1) behind ≡ Err y
     → players_behind before (read_players (most - i) (i + 1) row rest) ≡ Err y
 unfolding read_players
 players_stopped before most i row [] behind y lt some h k = absurd (omega (arith, some))

@@ -30,10 +30,10 @@ use Rattle.certificate_text.proofs.LineLaws.{IsSpellable, line_again, line_takes
 use Rattle.certificate_text.proofs.Loops.{ok_is}
 use Rattle.session_reader.specs.declared.told.Counters.{Counters}
 use Rattle.session_reader.specs.declared.told.Sheet.{Sheet}
-use Rattle.session_reader.specs.Form.{AreTold, IsTelling, IsTold, Telling, Tellings, alone, line_count, most_events, most_players, telling_of, tellings}
-use Rattle.session_reader.specs.Grammar.{bits_digits, counter_line, part_digits, player_line, time_digits}
+use Rattle.session_reader.specs.Form.{AreTold, IsTelling, IsToldBy, Telling, Tellings, alone, line_count, most_events, most_players, telling_of, tellings}
+use Rattle.session_reader.specs.Grammar.{bits_digits, counter_line, part_digits, told_player_line, time_digits}
 use Rattle.session_reader.specs.Reading.{HasText, IsCount, begins_players, read_alone, read_counters, read_events, read_players, read_telling, sheet_of}
-use Rattle.session_reader.specs.Spelling.{counter_fields, counter_lines, players_text, sheet_text, telling_text, text_by}
+use Rattle.session_reader.specs.Spelling.{told_counter, told_counters, told_players_text, sheet_text, telling_text, text_by}
 use Rattle.session_reader.proofs.EventLaws.{events_again, events_take, no_event}
 
 -- ---- steps and lines
@@ -62,20 +62,20 @@ can_counter text digits free some short = (free, ((some, short), tt))
 
 -- a counter that was read is spelled so
 counter_takes : (row : ℕ) (text : Text) (digits : ℕ) (bytes : Text) (x : (ℕ × Unit {0}) × Text) → is_free 32 text ≡ true → 1 ≤ digits → digits ≤ 64
-    → read_line row (counter_line text digits) bytes ≡ Ok x → HasDigits digits x.0.0 × (bytes ≡ fields_line (counter_fields text digits x.0.0) ++ x.1)
+    → read_line row (counter_line text digits) bytes ≡ Ok x → HasDigits digits x.0.0 × (bytes ≡ fields_line (told_counter text digits x.0.0) ++ x.1)
 counter_takes row text digits bytes x free some short h =
     let t = line_takes row (counter_line text digits) bytes x (can_counter text digits free some short) (lit≤ tt) h in
     (t.holds.0, t.text)
 
 -- a counter is read from its line
 counter_again : (row : ℕ) (text : Text) (digits n : ℕ) (rest : Text) → is_free 32 text ≡ true → 1 ≤ digits → digits ≤ 64 → HasDigits digits n
-    → read_line row (counter_line text digits) (fields_line (counter_fields text digits n) ++ rest) ≡ Ok ((n, tt), rest)
+    → read_line row (counter_line text digits) (fields_line (told_counter text digits n) ++ rest) ≡ Ok ((n, tt), rest)
 counter_again row text digits n rest free some short held = line_again row (counter_line text digits) (n, tt) rest (can_counter text digits free some short) (lit≤ tt) (held, tt)
 
 -- what was read as counters
 record TakesCounters (bytes : Text) (x : Counters × Text) : Type 0 where
   told : AreTold x.0
-  text : bytes ≡ lines_text (counter_lines x.0) ++ x.1
+  text : bytes ≡ lines_text (told_counters x.0) ++ x.1
 
 counters_take : (row : ℕ) (bytes : Text) (x : Counters × Text) → read_counters row bytes ≡ Ok x → TakesCounters bytes x
 unfolding read_counters
@@ -97,14 +97,14 @@ counters_take row bytes x h =
     let made : Counters = record { startup_ms = a.0.0.0; stall_ms = b.0.0.0; stalls = c.0.0.0; seek_ms = d.0.0.0; wasted_bits = e.0.0.0; end = f.0.0.0; score = g.0.0.0 } in
     subst (TakesCounters bytes) (ok_is (made, g.0.1) x g.2) (record {
       told = record { startup = ta.0; stall = tb.0; stalls = tc.0; seeking = td.0; wasted = te.0; end_at = tf.0; score = tg.holds.0 };
-      text = line_before (counter_fields (codes "startup") time_digits a.0.0.0) _ _ _ ta.1 (line_before (counter_fields (codes "stall") time_digits b.0.0.0) _ _ _ tb.1 (line_before (counter_fields (codes "stalls") part_digits c.0.0.0) _ _ _ tc.1 (line_before (counter_fields (codes "seeking") time_digits d.0.0.0) _ _ _ td.1 (line_before (counter_fields (codes "wasted") bits_digits e.0.0.0) _ _ _ te.1 (line_before (counter_fields (codes "end") time_digits f.0.0.0) _ _ _ tf.1 tg.text)))))
-          ∙ sym (lines_behind (counter_lines made) g.0.1);
+      text = line_before (told_counter (codes "startup") time_digits a.0.0.0) _ _ _ ta.1 (line_before (told_counter (codes "stall") time_digits b.0.0.0) _ _ _ tb.1 (line_before (told_counter (codes "stalls") part_digits c.0.0.0) _ _ _ tc.1 (line_before (told_counter (codes "seeking") time_digits d.0.0.0) _ _ _ td.1 (line_before (told_counter (codes "wasted") bits_digits e.0.0.0) _ _ _ te.1 (line_before (told_counter (codes "end") time_digits f.0.0.0) _ _ _ tf.1 tg.text)))))
+          ∙ sym (lines_behind (told_counters made) g.0.1);
     })
 
-counters_again : (row : ℕ) (c : Counters) (rest : Text) → AreTold c → read_counters row (lines_text (counter_lines c) ++ rest) ≡ Ok (c, rest)
+counters_again : (row : ℕ) (c : Counters) (rest : Text) → AreTold c → read_counters row (lines_text (told_counters c) ++ rest) ≡ Ok (c, rest)
 unfolding read_counters
 counters_again row c rest told =
-    ap (read_counters row) (lines_behind (counter_lines c) rest)
+    ap (read_counters row) (lines_behind (told_counters c) rest)
     ∙ then_is _ _ _ _ (counter_again row (codes "startup") time_digits c.startup_ms _ refl (lit≤ tt) (lit≤ tt) told.startup)
     (then_is _ _ _ _ (counter_again (row + 1) (codes "stall") time_digits c.stall_ms _ refl (lit≤ tt) (lit≤ tt) told.stall)
     (then_is _ _ _ _ (counter_again (row + 2) (codes "stalls") part_digits c.stalls _ refl (lit≤ tt) (lit≤ tt) told.stalls)
@@ -130,14 +130,14 @@ telling_takes row bytes x h =
     let made : Telling = record { events = es.0; counters = c.0.0 } in
     subst (TakesTelling bytes) (ok_is (made, c.0.1) x c.2) (record {
       is = record { few = te.few; events = te.told; counters = tc.told };
-      text = te.text ∙ ap (λ (t : Text). lines_text (map event_fields es.0) ++ t) tc.text ∙ sym (append_assoc (lines_text (map event_fields es.0)) (lines_text (counter_lines c.0.0)) c.0.1);
+      text = te.text ∙ ap (λ (t : Text). lines_text (map event_fields es.0) ++ t) tc.text ∙ sym (append_assoc (lines_text (map event_fields es.0)) (lines_text (told_counters c.0.0)) c.0.1);
     })
 
 telling_again : (row : ℕ) (t : Telling) (rest : Text) → IsTelling t → read_telling row (telling_text t ++ rest) ≡ Ok (t, rest)
 unfolding read_telling
 telling_again row t rest is =
-    let later = lines_text (counter_lines t.counters) ++ rest in
-    ap (read_telling row) (append_assoc (lines_text (map event_fields t.events)) (lines_text (counter_lines t.counters)) rest)
+    let later = lines_text (told_counters t.counters) ++ rest in
+    ap (read_telling row) (append_assoc (lines_text (map event_fields t.events)) (lines_text (told_counters t.counters)) rest)
     ∙ rw (events_again most_events t.events later is.few is.events (no_event 1 _)) (then_is _ _ _ _ (counters_again (row + length t.events) t.counters rest is.counters) refl)
 
 -- ---- a session alone
@@ -168,33 +168,33 @@ alone_again t is = then_is _ _ _ _ (telling_again 1 t [] is) refl
 
 -- ---- players
 
-can_player : (n : ℕ) → IsSpellable (player_line n)
+can_player : (n : ℕ) → IsSpellable (told_player_line n)
 can_player n = (refl, tt)
 
 -- what was read as the sessions of players, so many at most
 record TakesPlayers (most n : ℕ) (bytes : Text) (ts : List Telling) : Type 0 where
   few : length ts ≤ most
   sessions : All IsTelling ts
-  text : bytes ≡ players_text n ts
+  text : bytes ≡ told_players_text n ts
 
 players_take : (most n row : ℕ) (bytes : Text) (ts : List Telling) → read_players most n row bytes ≡ Ok ts → TakesPlayers most n bytes ts
 unfolding read_players
 players_take most n row [] ts h = subst (TakesPlayers most n []) (ok_is [] ts h) (record { few = omega arith; sessions = All-nil IsTelling; text = refl })
 players_take zero n row (b ∷ bytes) ts h = absurd cc
 players_take (suc more) n row (b ∷ bytes) ts h =
-    let p = then_ok (read_line row (player_line n) (b ∷ bytes)) _ ts h in
+    let p = then_ok (read_line row (told_player_line n) (b ∷ bytes)) _ ts h in
     let s = then_ok (read_telling (row + 1) p.0.1) _ ts p.2 in
     let o = then_ok (read_players more (n + 1) (row + 1 + line_count s.0.0) s.0.1) _ ts s.2 in
-    let head = line_takes row (player_line n) (b ∷ bytes) p.0 (can_player n) (lit≤ tt) p.1 in
+    let head = line_takes row (told_player_line n) (b ∷ bytes) p.0 (can_player n) (lit≤ tt) p.1 in
     let own = telling_takes (row + 1) p.0.1 s.0 s.1 in
     let others = players_take more (n + 1) (row + 1 + line_count s.0.0) s.0.1 o.0 o.1 in
-    let line = fields_of (player_line n) tt in
+    let line = fields_of (told_player_line n) tt in
     subst (TakesPlayers (suc more) n (b ∷ bytes)) (ok_is (s.0.0 ∷ o.0) ts o.2) (record {
       few = omega (arith, others.few);
       sessions = All-cons IsTelling s.0.0 o.0 own.is others.sessions;
-      text = line_before line (b ∷ bytes) p.0.1 (telling_text s.0.0 ++ players_text (n + 1) o.0) head.text
+      text = line_before line (b ∷ bytes) p.0.1 (telling_text s.0.0 ++ told_players_text (n + 1) o.0) head.text
           (own.text ∙ ap (λ (w : Text). telling_text s.0.0 ++ w) others.text)
-          ∙ sym (lines_behind (line ∷ []) (telling_text s.0.0 ++ players_text (n + 1) o.0));
+          ∙ sym (lines_behind (line ∷ []) (telling_text s.0.0 ++ told_players_text (n + 1) o.0));
     })
 
 -- a number that has no more digits than a place
@@ -204,21 +204,21 @@ fits_place n count le = omega (arith, le, ten)
     ten : 1000000 < 10 ^ 7
     ten = lit< tt
 
-players_again : (most n row : ℕ) (ts : List Telling) → length ts ≤ most → n + length ts ≤ 1000000 → All IsTelling ts → read_players most n row (players_text n ts) ≡ Ok ts
+players_again : (most n row : ℕ) (ts : List Telling) → length ts ≤ most → n + length ts ≤ 1000000 → All IsTelling ts → read_players most n row (told_players_text n ts) ≡ Ok ts
 unfolding read_players
 players_again most n row [] few small told = refl
 players_again zero n row (t ∷ ts) few small told = absurd (omega (arith, few))
 players_again (suc more) n row (t ∷ ts) few small told =
-    let line = fields_of (player_line n) tt in
-    let later = telling_text t ++ players_text (n + 1) ts in
+    let line = fields_of (told_player_line n) tt in
+    let later = telling_text t ++ told_players_text (n + 1) ts in
     ap (read_players (suc more) n row) (lines_behind (line ∷ []) later)
-    ∙ then_is _ _ _ _ (line_again row (player_line n) tt later (can_player n) (lit≤ tt) (fits_place n (length ts) small, tt))
-    (then_is _ _ _ _ (telling_again (row + 1) t (players_text (n + 1) ts) (All-head IsTelling t ts told))
+    ∙ then_is _ _ _ _ (line_again row (told_player_line n) tt later (can_player n) (lit≤ tt) (fits_place n (length ts) small, tt))
+    (then_is _ _ _ _ (telling_again (row + 1) t (told_players_text (n + 1) ts) (All-head IsTelling t ts told))
     (then_is _ _ _ _ (players_again more (n + 1) (row + 1 + line_count t) ts (omega (arith, few)) (omega (arith, small)) (All-tail IsTelling t ts told)) refl))
 
 -- ---- the whole
 
-some_players : (bytes : Text) (ts : List Telling) → begins_players bytes ≡ true → bytes ≡ players_text 1 ts → 1 ≤ length ts
+some_players : (bytes : Text) (ts : List Telling) → begins_players bytes ≡ true → bytes ≡ told_players_text 1 ts → 1 ≤ length ts
 some_players bytes [] b e = absurd (none (sym b ∙ ap begins_players e))
   where
     none : true ≡ false → ⊥
@@ -251,7 +251,7 @@ number_first n fields more held =
     let d = digit_at (decimal n) 0 s.digits s.some in
     ap begins_players (append_assoc (decimal n) (later_fields fields) more) ∙ digit_first (decimal n) (later_fields fields ++ more) (omega (arith, s.some)) d.0 d.1
 
-event_first : (e : Event) (more : Text) → IsTold e → begins_players (fields_line (event_fields e) ++ more) ≡ false
+event_first : (e : Event) (more : Text) → IsToldBy e → begins_players (fields_line (event_fields e) ++ more) ≡ false
 event_first (event.Request at segment rung) more told = number_first at (codes "request" ∷ decimal segment ∷ decimal rung ∷ []) more told.0
 event_first (event.Arrive at segment rung first rate) more told = number_first at (codes "arrive" ∷ decimal segment ∷ decimal rung ∷ codes "first" ∷ decimal first ∷ codes "rate" ∷ decimal rate ∷ []) more told.0
 event_first (event.Abandon at segment rung to got) more told = number_first at (codes "abandon" ∷ decimal segment ∷ decimal rung ∷ codes "to" ∷ decimal to ∷ codes "got" ∷ decimal got ∷ []) more told.0
@@ -261,13 +261,13 @@ event_first (event.Stall at) more told = number_first at (codes "stall" ∷ []) 
 event_first (event.End at) more told = number_first at (codes "end" ∷ []) more told.0
 
 -- the text of a session alone isn't that of players
-telling_first : (es : List Event) (c : Counters) (more : Text) → All IsTold es → begins_players ((lines_text (map event_fields es) ++ lines_text (counter_lines c)) ++ more) ≡ false
+telling_first : (es : List Event) (c : Counters) (more : Text) → All IsToldBy es → begins_players ((lines_text (map event_fields es) ++ lines_text (told_counters c)) ++ more) ≡ false
 telling_first [] c more told = refl
 telling_first (e ∷ es) c more told =
     let first = fields_line (event_fields e) in
     let others = lines_text (map event_fields es) in
-    let counts = lines_text (counter_lines c) in
-    ap begins_players (append_assoc (first ++ others) counts more ∙ append_assoc first others (counts ++ more)) ∙ event_first e (others ++ (counts ++ more)) (All-head IsTold e es told)
+    let counts = lines_text (told_counters c) in
+    ap begins_players (append_assoc (first ++ others) counts more ∙ append_assoc first others (counts ++ more)) ∙ event_first e (others ++ (counts ++ more)) (All-head IsToldBy e es told)
 
 text_again : (joint : Bool) (ts : List Telling) → IsCount joint (length ts) → All IsTelling ts → sheet_of (text_by joint ts) ≡ Ok (record { joint = joint; sessions = ts })
 unfolding sheet_of
@@ -301,5 +301,5 @@ alone_has t is = record { count = refl; sessions = All-cons IsTelling t [] is (A
 pub written_text : (s : Shown) (w : Weighing) → session_text s w ≡ sheet_text (alone (telling_of s w))
 unfolding sheet_text
 written_text s w =
-    let counts = lines_text (counter_lines (telling_of s w).counters) in
+    let counts = lines_text (told_counters (telling_of s w).counters) in
     ap (λ (t : Text). t ++ counts) (sym (flat_map-map fields_line event_fields s.events)) ∙ sym (append-nil (lines_text (map event_fields s.events) ++ counts))

@@ -11,7 +11,7 @@ use Rattle.certificate_text.specs.Line.{Holds}
 use Rattle.session_reader.specs.declared.told.Counters.{Counters}
 use Rattle.session_reader.specs.declared.told.Told.{Told}
 use Rattle.session_reader.specs.declared.told.Sheet.{Sheet}
-use Rattle.session_reader.specs.Grammar.{abandon_line, arrive_line, bits_digits, end_line, part_digits, play_line, request_line, seek_line, stall_line, time_digits}
+use Rattle.session_reader.specs.Grammar.{abandon_line, arrive_line, bits_digits, end_event_line, part_digits, play_line, request_line, seek_line, stall_line, time_digits}
 
 -- the most events of a session that a text tells
 abbrev pub most_events : ℕ
@@ -60,14 +60,14 @@ abbrev pub telling_of : Shown → Weighing → Telling
 telling_of s w = record { events = s.events; counters = counters_of s w }
 
 -- an event that its line can hold
-abbrev pub IsTold : Event → Type 0
-IsTold (event.Request at segment rung) = Holds request_line (at, (segment, (rung, tt)))
-IsTold (event.Arrive at segment rung first rate) = Holds arrive_line (at, (segment, (rung, (first, (rate, tt)))))
-IsTold (event.Abandon at segment rung to got) = Holds abandon_line (at, (segment, (rung, (to, (got, tt)))))
-IsTold (event.Seek at to wasted) = Holds seek_line (at, (to, (wasted, tt)))
-IsTold (event.Play at segment rung) = Holds play_line (at, (segment, (rung, tt)))
-IsTold (event.Stall at) = Holds stall_line (at, tt)
-IsTold (event.End at) = Holds end_line (at, tt)
+abbrev pub IsToldBy : Event → Type 0
+IsToldBy (event.Request at segment rung) = Holds request_line (at, (segment, (rung, tt)))
+IsToldBy (event.Arrive at segment rung first rate) = Holds arrive_line (at, (segment, (rung, (first, (rate, tt)))))
+IsToldBy (event.Abandon at segment rung to got) = Holds abandon_line (at, (segment, (rung, (to, (got, tt)))))
+IsToldBy (event.Seek at to wasted) = Holds seek_line (at, (to, (wasted, tt)))
+IsToldBy (event.Play at segment rung) = Holds play_line (at, (segment, (rung, tt)))
+IsToldBy (event.Stall at) = Holds stall_line (at, tt)
+IsToldBy (event.End at) = Holds end_event_line (at, tt)
 
 -- counters that have no more digits than their lines allow
 pub record AreTold (c : Counters) : Type 0 where
@@ -82,7 +82,7 @@ pub record AreTold (c : Counters) : Type 0 where
 -- a session that has a text
 pub record IsTelling (t : Telling) : Type 0 where
   pub few : length t.events ≤ most_events
-  pub events : All IsTold t.events
+  pub events : All IsToldBy t.events
   pub counters : AreTold t.counters
 
 -- how many lines its text has

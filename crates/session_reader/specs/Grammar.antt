@@ -53,13 +53,13 @@ abbrev pub stall_line : Line
 stall_line = at_line (word (codes "stall") ends)
 
 -- the end of the events
-abbrev pub end_line : Line
-end_line = at_line (word (codes "end") ends)
+abbrev pub end_event_line : Line
+end_event_line = at_line (word (codes "end") ends)
 
 -- a counter: its word and a number of at most so many digits; the last counter has certificates' `score_line`
 abbrev pub counter_line : Text → ℕ → Line
 counter_line text digits = word text (number digits ends)
 
 -- the line before the session of a player, who has this number
-abbrev pub player_line : ℕ → Line
-player_line n = word (codes "player") (known n ends)
+abbrev pub told_player_line : ℕ → Line
+told_player_line n = word (codes "player") (known n ends)

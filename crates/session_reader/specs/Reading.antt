@@ -12,17 +12,17 @@ use Rattle.certificate_text.specs.Line.{Line, Values, read_line}
 use Rattle.certificate_text.specs.Reading.{read_nothing}
 use Rattle.session_reader.specs.declared.told.Counters.{Counters}
 use Rattle.session_reader.specs.Form.{IsTelling, Telling, Tellings, alone, line_count, most_events, most_players}
-use Rattle.session_reader.specs.Grammar.{abandon_line, arrive_line, bits_digits, counter_line, end_line, part_digits, play_line, player_line, request_line, seek_line, stall_line, time_digits}
+use Rattle.session_reader.specs.Grammar.{abandon_line, arrive_line, bits_digits, counter_line, end_event_line, part_digits, play_line, told_player_line, request_line, seek_line, stall_line, time_digits}
 
 -- ---- the events
 
 -- the event of a line of this form
-abbrev pub read_as : (line : Line) → (Values line → Event) → ℕ → Text → Read Event
-read_as line make row bytes = read_line row line bytes >>= λ x. Ok (make x.0, x.1)
+abbrev pub reads_sheet : (line : Line) → (Values line → Event) → ℕ → Text → Read Event
+reads_sheet line make row bytes = read_line row line bytes >>= λ x. Ok (make x.0, x.1)
 
 -- a request
-abbrev pub request_of : Values request_line → Event
-request_of v = event.Request v.0 v.1.0 v.1.1.0
+abbrev pub read_request : Values request_line → Event
+read_request v = event.Request v.0 v.1.0 v.1.1.0
 
 -- an arrival
 abbrev pub arrive_of : Values arrive_line → Event
@@ -45,8 +45,8 @@ abbrev pub stall_of : Values stall_line → Event
 stall_of v = event.Stall v.0
 
 -- the end
-abbrev pub end_of : Values end_line → Event
-end_of v = event.End v.0
+abbrev pub read_end : Values end_event_line → Event
+read_end v = event.End v.0
 
 -- the first of two readings that goes well
 abbrev pub or_else : {X : Type 0} → Read X → Read X → Read X
@@ -56,13 +56,13 @@ or_else (Err e) other = other
 -- an event: the first of seven forms that the line has
 unfoldable pub read_event : ℕ → Text → Read Event
 read_event row bytes =
-    or_else (read_as request_line request_of row bytes)
-    (or_else (read_as arrive_line arrive_of row bytes)
-    (or_else (read_as abandon_line abandon_of row bytes)
-    (or_else (read_as seek_line seek_of row bytes)
-    (or_else (read_as play_line play_of row bytes)
-    (or_else (read_as stall_line stall_of row bytes)
-    (read_as end_line end_of row bytes))))))
+    or_else (reads_sheet request_line read_request row bytes)
+    (or_else (reads_sheet arrive_line arrive_of row bytes)
+    (or_else (reads_sheet abandon_line abandon_of row bytes)
+    (or_else (reads_sheet seek_line seek_of row bytes)
+    (or_else (reads_sheet play_line play_of row bytes)
+    (or_else (reads_sheet stall_line stall_of row bytes)
+    (reads_sheet end_event_line read_end row bytes))))))
 
 -- an event before those that follow it
 abbrev pub event_before : Event → List Event × Text → List Event × Text
@@ -118,7 +118,7 @@ unfoldable pub read_players : ℕ → ℕ → ℕ → Text → Result (List Tell
 read_players more n row [] = Ok []
 read_players zero n row (b ∷ bytes) = read_nothing row (b ∷ bytes) >>= λ done. Ok []
 read_players (suc more) n row (b ∷ bytes) = do
-  head ← read_line row (player_line n) (b ∷ bytes)
+  head ← read_line row (told_player_line n) (b ∷ bytes)
   session ← read_telling (row + 1) head.1
   others ← read_players more (n + 1) (row + 1 + line_count session.0) session.1
   Ok (session.0 ∷ others)
