@@ -20,7 +20,7 @@ use Rattle.certificate_text.proofs.Loops.{ok_is}
 use Rattle.certificate_text.proofs.LineLaws.{IsSpellable, line_again, line_takes}
 use Rattle.session_reader.specs.Form.{IsToldBy}
 use Rattle.session_reader.specs.Grammar.{abandon_line, arrive_line, at_line, bits_digits, end_event_line, part_digits, play_line, request_line, seek_line, segment_digits, stall_line, time_digits}
-use Rattle.session_reader.specs.Reading.{abandon_of, arrive_of, read_end, event_before, if_read, or_else, play_of, reads_sheet, read_event, read_events, read_request, seek_of, stall_of}
+use Rattle.session_reader.specs.Reading.{abandon_event, arrive_event, end_event, event_before, if_read, or_else, play_event, read_line_as, read_event, read_events, request_event, seek_event, stall_event}
 
 -- ---- what was read
 
@@ -31,7 +31,7 @@ pub record TakesEvent (bytes : Text) (x : Event × Text) : Type 0 where
 
 -- a reading by a form whose values are those of an event
 as_takes : (line : Line) (make : Values line → Event) → IsSpellable line → 1 ≤ field_count line → ((v : Values line) → Holds line v → IsToldBy (make v)) → ((v : Values line) → fields_of line v ≡ event_fields (make v))
-    → (row : ℕ) (bytes : Text) (x : Event × Text) → reads_sheet line make row bytes ≡ Ok x → TakesEvent bytes x
+    → (row : ℕ) (bytes : Text) (x : Event × Text) → read_line_as line make row bytes ≡ Ok x → TakesEvent bytes x
 as_takes line make can some told same row bytes x h =
     let r = then_ok (read_line row line bytes) (λ y. Ok (make y.0, y.1)) x h in
     let t = line_takes row line bytes r.0 can some r.1 in
@@ -70,20 +70,20 @@ else_takes bytes x (Err e) other first later h = later h
 pub event_takes : (row : ℕ) (bytes : Text) (x : Event × Text) → read_event row bytes ≡ Ok x → TakesEvent bytes x
 unfolding read_event
 event_takes row bytes x h =
-    let one = reads_sheet request_line read_request row bytes in
-    let two = reads_sheet arrive_line arrive_of row bytes in
-    let three = reads_sheet abandon_line abandon_of row bytes in
-    let four = reads_sheet seek_line seek_of row bytes in
-    let five = reads_sheet play_line play_of row bytes in
-    let six = reads_sheet stall_line stall_of row bytes in
-    let seven = reads_sheet end_event_line read_end row bytes in
-    else_takes bytes x one (or_else two (or_else three (or_else four (or_else five (or_else six seven))))) (as_takes request_line read_request can_request (lit≤ tt) (λ v held. held) (λ v. refl) row bytes)
-    (λ b. else_takes bytes x two (or_else three (or_else four (or_else five (or_else six seven)))) (as_takes arrive_line arrive_of can_arrive (lit≤ tt) (λ v held. held) (λ v. refl) row bytes)
-    (λ c. else_takes bytes x three (or_else four (or_else five (or_else six seven))) (as_takes abandon_line abandon_of can_abandon (lit≤ tt) (λ v held. held) (λ v. refl) row bytes)
-    (λ d. else_takes bytes x four (or_else five (or_else six seven)) (as_takes seek_line seek_of can_seek (lit≤ tt) (λ v held. held) (λ v. refl) row bytes)
-    (λ e. else_takes bytes x five (or_else six seven) (as_takes play_line play_of can_play (lit≤ tt) (λ v held. held) (λ v. refl) row bytes)
-    (λ f. else_takes bytes x six seven (as_takes stall_line stall_of can_stall (lit≤ tt) (λ v held. held) (λ v. refl) row bytes)
-    (λ g. as_takes end_event_line read_end can_end (lit≤ tt) (λ v held. held) (λ v. refl) row bytes x g) f) e) d) c) b) h
+    let one = read_line_as request_line request_event row bytes in
+    let two = read_line_as arrive_line arrive_event row bytes in
+    let three = read_line_as abandon_line abandon_event row bytes in
+    let four = read_line_as seek_line seek_event row bytes in
+    let five = read_line_as play_line play_event row bytes in
+    let six = read_line_as stall_line stall_event row bytes in
+    let seven = read_line_as end_event_line end_event row bytes in
+    else_takes bytes x one (or_else two (or_else three (or_else four (or_else five (or_else six seven))))) (as_takes request_line request_event can_request (lit≤ tt) (λ v held. held) (λ v. refl) row bytes)
+    (λ b. else_takes bytes x two (or_else three (or_else four (or_else five (or_else six seven)))) (as_takes arrive_line arrive_event can_arrive (lit≤ tt) (λ v held. held) (λ v. refl) row bytes)
+    (λ c. else_takes bytes x three (or_else four (or_else five (or_else six seven))) (as_takes abandon_line abandon_event can_abandon (lit≤ tt) (λ v held. held) (λ v. refl) row bytes)
+    (λ d. else_takes bytes x four (or_else five (or_else six seven)) (as_takes seek_line seek_event can_seek (lit≤ tt) (λ v held. held) (λ v. refl) row bytes)
+    (λ e. else_takes bytes x five (or_else six seven) (as_takes play_line play_event can_play (lit≤ tt) (λ v held. held) (λ v. refl) row bytes)
+    (λ f. else_takes bytes x six seven (as_takes stall_line stall_event can_stall (lit≤ tt) (λ v held. held) (λ v. refl) row bytes)
+    (λ g. as_takes end_event_line end_event can_end (lit≤ tt) (λ v held. held) (λ v. refl) row bytes x g) f) e) d) c) b) h
 
 -- ---- what is read again
 
@@ -117,30 +117,30 @@ word_refuses row text stop bytes d = go (read_word row text stop bytes) refl
 
 -- a line of an event that begins with an instant and another word
 refuses : (row : ℕ) (text : Text) (more : Line) (make : Values (at_line (word text more)) → Event) (bytes : Text) (at : ℕ) (behind : Text) → bytes ≡ decimal at ++ 32 ∷ behind → HasDigits time_digits at → differs text behind ≡ true
-    → Refuses (reads_sheet (at_line (word text more)) make row bytes)
+    → Refuses (read_line_as (at_line (word text more)) make row bytes)
 unfolding read_line
 refuses row text more make bytes at behind e held d =
     let w = word_refuses row text (stop_of more) behind d in
     let n : read_number row time_digits 32 bytes ≡ Ok (at, behind) = ap (read_number row time_digits 32) e ∙ number_again row time_digits 32 at behind (lit≤ tt) (lit≤ tt) (lit< tt) held in
     (w.0, rw (n, w.1) refl)
 
-not_request : (row : ℕ) (bytes : Text) (at : ℕ) (behind : Text) → bytes ≡ decimal at ++ 32 ∷ behind → HasDigits time_digits at → differs (codes "request") behind ≡ true → Refuses (reads_sheet request_line read_request row bytes)
-not_request row = refuses row (codes "request") (number segment_digits (number rung_digits ends)) read_request
+not_request : (row : ℕ) (bytes : Text) (at : ℕ) (behind : Text) → bytes ≡ decimal at ++ 32 ∷ behind → HasDigits time_digits at → differs (codes "request") behind ≡ true → Refuses (read_line_as request_line request_event row bytes)
+not_request row = refuses row (codes "request") (number segment_digits (number rung_digits ends)) request_event
 
-not_arrive : (row : ℕ) (bytes : Text) (at : ℕ) (behind : Text) → bytes ≡ decimal at ++ 32 ∷ behind → HasDigits time_digits at → differs (codes "arrive") behind ≡ true → Refuses (reads_sheet arrive_line arrive_of row bytes)
-not_arrive row = refuses row (codes "arrive") (number segment_digits (number rung_digits (word (codes "first") (number time_digits (word (codes "rate") (number bits_digits ends)))))) arrive_of
+not_arrive : (row : ℕ) (bytes : Text) (at : ℕ) (behind : Text) → bytes ≡ decimal at ++ 32 ∷ behind → HasDigits time_digits at → differs (codes "arrive") behind ≡ true → Refuses (read_line_as arrive_line arrive_event row bytes)
+not_arrive row = refuses row (codes "arrive") (number segment_digits (number rung_digits (word (codes "first") (number time_digits (word (codes "rate") (number bits_digits ends)))))) arrive_event
 
-not_abandon : (row : ℕ) (bytes : Text) (at : ℕ) (behind : Text) → bytes ≡ decimal at ++ 32 ∷ behind → HasDigits time_digits at → differs (codes "abandon") behind ≡ true → Refuses (reads_sheet abandon_line abandon_of row bytes)
-not_abandon row = refuses row (codes "abandon") (number segment_digits (number rung_digits (word (codes "to") (number rung_digits (word (codes "got") (number part_digits ends)))))) abandon_of
+not_abandon : (row : ℕ) (bytes : Text) (at : ℕ) (behind : Text) → bytes ≡ decimal at ++ 32 ∷ behind → HasDigits time_digits at → differs (codes "abandon") behind ≡ true → Refuses (read_line_as abandon_line abandon_event row bytes)
+not_abandon row = refuses row (codes "abandon") (number segment_digits (number rung_digits (word (codes "to") (number rung_digits (word (codes "got") (number part_digits ends)))))) abandon_event
 
-not_seek : (row : ℕ) (bytes : Text) (at : ℕ) (behind : Text) → bytes ≡ decimal at ++ 32 ∷ behind → HasDigits time_digits at → differs (codes "seek") behind ≡ true → Refuses (reads_sheet seek_line seek_of row bytes)
-not_seek row = refuses row (codes "seek") (number segment_digits (word (codes "wasted") (number bits_digits ends))) seek_of
+not_seek : (row : ℕ) (bytes : Text) (at : ℕ) (behind : Text) → bytes ≡ decimal at ++ 32 ∷ behind → HasDigits time_digits at → differs (codes "seek") behind ≡ true → Refuses (read_line_as seek_line seek_event row bytes)
+not_seek row = refuses row (codes "seek") (number segment_digits (word (codes "wasted") (number bits_digits ends))) seek_event
 
-not_play : (row : ℕ) (bytes : Text) (at : ℕ) (behind : Text) → bytes ≡ decimal at ++ 32 ∷ behind → HasDigits time_digits at → differs (codes "play") behind ≡ true → Refuses (reads_sheet play_line play_of row bytes)
-not_play row = refuses row (codes "play") (number segment_digits (number rung_digits ends)) play_of
+not_play : (row : ℕ) (bytes : Text) (at : ℕ) (behind : Text) → bytes ≡ decimal at ++ 32 ∷ behind → HasDigits time_digits at → differs (codes "play") behind ≡ true → Refuses (read_line_as play_line play_event row bytes)
+not_play row = refuses row (codes "play") (number segment_digits (number rung_digits ends)) play_event
 
-not_stall : (row : ℕ) (bytes : Text) (at : ℕ) (behind : Text) → bytes ≡ decimal at ++ 32 ∷ behind → HasDigits time_digits at → differs (codes "stall") behind ≡ true → Refuses (reads_sheet stall_line stall_of row bytes)
-not_stall row = refuses row (codes "stall") ends stall_of
+not_stall : (row : ℕ) (bytes : Text) (at : ℕ) (behind : Text) → bytes ≡ decimal at ++ 32 ∷ behind → HasDigits time_digits at → differs (codes "stall") behind ≡ true → Refuses (read_line_as stall_line stall_event row bytes)
+not_stall row = refuses row (codes "stall") ends stall_event
 
 skipped : (one other final : Read Event) → Refuses one → other ≡ final → or_else one other ≡ final
 skipped one other final r e = rw r.1 e
@@ -148,26 +148,26 @@ skipped one other final r e = rw r.1 e
 taken : (one other : Read Event) (x : Event × Text) → one ≡ Ok x → or_else one other ≡ Ok x
 taken one other x e = rw e refl
 
-as_again : (line : Line) (make : Values line → Event) (row : ℕ) (v : Values line) (rest : Text) → IsSpellable line → 1 ≤ field_count line → Holds line v → reads_sheet line make row (fields_line (fields_of line v) ++ rest) ≡ Ok (make v, rest)
+as_again : (line : Line) (make : Values line → Event) (row : ℕ) (v : Values line) (rest : Text) → IsSpellable line → 1 ≤ field_count line → Holds line v → read_line_as line make row (fields_line (fields_of line v) ++ rest) ≡ Ok (make v, rest)
 as_again line make row v rest can some held = rw (line_again row line v rest can some held) refl
 
 -- an event is read from its line
 pub event_again : (row : ℕ) (e : Event) (rest : Text) → IsToldBy e → read_event row (fields_line (event_fields e) ++ rest) ≡ Ok (e, rest)
 unfolding read_event
-event_again row (event.Request at segment rung) rest told = taken _ _ _ (as_again request_line read_request row (at, (segment, (rung, tt))) rest can_request (lit≤ tt) told)
+event_again row (event.Request at segment rung) rest told = taken _ _ _ (as_again request_line request_event row (at, (segment, (rung, tt))) rest can_request (lit≤ tt) told)
 event_again row (event.Arrive at segment rung first rate) rest told =
     let fields = codes "arrive" ∷ decimal segment ∷ decimal rung ∷ codes "first" ∷ decimal first ∷ codes "rate" ∷ decimal rate ∷ [] in
     let bytes = fields_line (decimal at ∷ fields) ++ rest in
     let e : bytes ≡ decimal at ++ (later_fields fields ++ rest) = append_assoc (decimal at) (later_fields fields) rest in
     skipped _ _ _ (not_request row bytes at _ e told.0 refl)
-    (taken _ _ _ (as_again arrive_line arrive_of row (at, (segment, (rung, (first, (rate, tt))))) rest can_arrive (lit≤ tt) told))
+    (taken _ _ _ (as_again arrive_line arrive_event row (at, (segment, (rung, (first, (rate, tt))))) rest can_arrive (lit≤ tt) told))
 event_again row (event.Abandon at segment rung to got) rest told =
     let fields = codes "abandon" ∷ decimal segment ∷ decimal rung ∷ codes "to" ∷ decimal to ∷ codes "got" ∷ decimal got ∷ [] in
     let bytes = fields_line (decimal at ∷ fields) ++ rest in
     let e : bytes ≡ decimal at ++ (later_fields fields ++ rest) = append_assoc (decimal at) (later_fields fields) rest in
     skipped _ _ _ (not_request row bytes at _ e told.0 refl)
     (skipped _ _ _ (not_arrive row bytes at _ e told.0 refl)
-    (taken _ _ _ (as_again abandon_line abandon_of row (at, (segment, (rung, (to, (got, tt))))) rest can_abandon (lit≤ tt) told)))
+    (taken _ _ _ (as_again abandon_line abandon_event row (at, (segment, (rung, (to, (got, tt))))) rest can_abandon (lit≤ tt) told)))
 event_again row (event.Seek at to wasted) rest told =
     let fields = codes "seek" ∷ decimal to ∷ codes "wasted" ∷ decimal wasted ∷ [] in
     let bytes = fields_line (decimal at ∷ fields) ++ rest in
@@ -175,7 +175,7 @@ event_again row (event.Seek at to wasted) rest told =
     skipped _ _ _ (not_request row bytes at _ e told.0 refl)
     (skipped _ _ _ (not_arrive row bytes at _ e told.0 refl)
     (skipped _ _ _ (not_abandon row bytes at _ e told.0 refl)
-    (taken _ _ _ (as_again seek_line seek_of row (at, (to, (wasted, tt))) rest can_seek (lit≤ tt) told))))
+    (taken _ _ _ (as_again seek_line seek_event row (at, (to, (wasted, tt))) rest can_seek (lit≤ tt) told))))
 event_again row (event.Play at segment rung) rest told =
     let fields = codes "play" ∷ decimal segment ∷ decimal rung ∷ [] in
     let bytes = fields_line (decimal at ∷ fields) ++ rest in
@@ -184,7 +184,7 @@ event_again row (event.Play at segment rung) rest told =
     (skipped _ _ _ (not_arrive row bytes at _ e told.0 refl)
     (skipped _ _ _ (not_abandon row bytes at _ e told.0 refl)
     (skipped _ _ _ (not_seek row bytes at _ e told.0 refl)
-    (taken _ _ _ (as_again play_line play_of row (at, (segment, (rung, tt))) rest can_play (lit≤ tt) told)))))
+    (taken _ _ _ (as_again play_line play_event row (at, (segment, (rung, tt))) rest can_play (lit≤ tt) told)))))
 event_again row (event.Stall at) rest told =
     let fields = codes "stall" ∷ [] in
     let bytes = fields_line (decimal at ∷ fields) ++ rest in
@@ -194,7 +194,7 @@ event_again row (event.Stall at) rest told =
     (skipped _ _ _ (not_abandon row bytes at _ e told.0 refl)
     (skipped _ _ _ (not_seek row bytes at _ e told.0 refl)
     (skipped _ _ _ (not_play row bytes at _ e told.0 refl)
-    (taken _ _ _ (as_again stall_line stall_of row (at, tt) rest can_stall (lit≤ tt) told))))))
+    (taken _ _ _ (as_again stall_line stall_event row (at, tt) rest can_stall (lit≤ tt) told))))))
 event_again row (event.End at) rest told =
     let fields = codes "end" ∷ [] in
     let bytes = fields_line (decimal at ∷ fields) ++ rest in
@@ -205,7 +205,7 @@ event_again row (event.End at) rest told =
     (skipped _ _ _ (not_seek row bytes at _ e told.0 refl)
     (skipped _ _ _ (not_play row bytes at _ e told.0 refl)
     (skipped _ _ _ (not_stall row bytes at _ e told.0 refl)
-    (as_again end_event_line read_end row (at, tt) rest can_end (lit≤ tt) told))))))
+    (as_again end_event_line end_event row (at, tt) rest can_end (lit≤ tt) told))))))
 
 -- ---- events in a row
 
@@ -252,7 +252,7 @@ not_number : (row : ℕ) (rest : Text) → read_number row time_digits 32 (codes
 unfolding read_number numeral
 not_number row rest = rw (field_again row 32 (codes "startup") rest refl) refl
 
-no_instant : (row : ℕ) (more : Line) (make : Values (at_line more) → Event) (bytes : Text) (e : Refusal) → stop_of more ≡ 32 → read_number row time_digits 32 bytes ≡ Err e → Refuses (reads_sheet (at_line more) make row bytes)
+no_instant : (row : ℕ) (more : Line) (make : Values (at_line more) → Event) (bytes : Text) (e : Refusal) → stop_of more ≡ 32 → read_number row time_digits 32 bytes ≡ Err e → Refuses (read_line_as (at_line more) make row bytes)
 unfolding read_line
 no_instant row more make bytes e stop h = (e, rw (stop, h) refl)
 
@@ -262,13 +262,13 @@ unfolding read_event
 no_event row rest =
     let bytes = codes "startup" ++ 32 ∷ rest in
     let h = not_number row rest in
-    let last = no_instant row (word (codes "end") ends) read_end bytes (line_refusal row) refl h in (
+    let last = no_instant row (word (codes "end") ends) end_event bytes (line_refusal row) refl h in (
       last.0,
-      skipped _ _ _ (no_instant row (word (codes "request") (number segment_digits (number rung_digits ends))) read_request bytes (line_refusal row) refl h)
-          (skipped _ _ _ (no_instant row (word (codes "arrive") (number segment_digits (number rung_digits (word (codes "first") (number time_digits (word (codes "rate") (number bits_digits ends))))))) arrive_of bytes (line_refusal row) refl h)
-          (skipped _ _ _ (no_instant row (word (codes "abandon") (number segment_digits (number rung_digits (word (codes "to") (number rung_digits (word (codes "got") (number part_digits ends))))))) abandon_of bytes (line_refusal row) refl h)
-          (skipped _ _ _ (no_instant row (word (codes "seek") (number segment_digits (word (codes "wasted") (number bits_digits ends)))) seek_of bytes (line_refusal row) refl h)
-          (skipped _ _ _ (no_instant row (word (codes "play") (number segment_digits (number rung_digits ends))) play_of bytes (line_refusal row) refl h)
-          (skipped _ _ _ (no_instant row (word (codes "stall") ends) stall_of bytes (line_refusal row) refl h)
+      skipped _ _ _ (no_instant row (word (codes "request") (number segment_digits (number rung_digits ends))) request_event bytes (line_refusal row) refl h)
+          (skipped _ _ _ (no_instant row (word (codes "arrive") (number segment_digits (number rung_digits (word (codes "first") (number time_digits (word (codes "rate") (number bits_digits ends))))))) arrive_event bytes (line_refusal row) refl h)
+          (skipped _ _ _ (no_instant row (word (codes "abandon") (number segment_digits (number rung_digits (word (codes "to") (number rung_digits (word (codes "got") (number part_digits ends))))))) abandon_event bytes (line_refusal row) refl h)
+          (skipped _ _ _ (no_instant row (word (codes "seek") (number segment_digits (word (codes "wasted") (number bits_digits ends)))) seek_event bytes (line_refusal row) refl h)
+          (skipped _ _ _ (no_instant row (word (codes "play") (number segment_digits (number rung_digits ends))) play_event bytes (line_refusal row) refl h)
+          (skipped _ _ _ (no_instant row (word (codes "stall") ends) stall_event bytes (line_refusal row) refl h)
           last.1))))),
     )

@@ -32,7 +32,7 @@ use Rattle.session_reader.specs.declared.told.Counters.{Counters}
 use Rattle.session_reader.specs.declared.told.Sheet.{Sheet}
 use Rattle.session_reader.specs.Form.{AreTold, IsTelling, IsToldBy, Telling, Tellings, alone, line_count, most_events, most_players, telling_of, tellings}
 use Rattle.session_reader.specs.Grammar.{bits_digits, counter_line, part_digits, told_player_line, time_digits}
-use Rattle.session_reader.specs.Reading.{HasText, IsCount, begins_players, read_alone, read_counters, read_events, read_players, read_telling, sheet_of}
+use Rattle.session_reader.specs.Reading.{HasToldText, IsCount, begins_players, read_alone, read_counters, read_events, read_players, read_telling, sheet_of}
 use Rattle.session_reader.specs.Spelling.{told_counter, told_counters, told_players_text, sheet_text, telling_text, text_by}
 use Rattle.session_reader.proofs.EventLaws.{events_again, events_take, no_event}
 
@@ -148,7 +148,7 @@ nothing_takes row (b ∷ bytes) u h = absurd cc
 
 -- what was read as sessions
 pub record TakesSheet (bytes : Text) (s : Tellings) : Type 0 where
-  pub has : HasText s
+  pub has : HasToldText s
   pub text : bytes ≡ sheet_text s
 
 alone_takes : (bytes : Text) (s : Tellings) → read_alone bytes ≡ Ok s → TakesSheet bytes s
@@ -280,21 +280,21 @@ text_again false (t ∷ []) count told =
 text_again false (t ∷ u ∷ ts) count told = absurd (omega (arith, count))
 
 -- what has a text is read from it
-pub sheet_again : (s : Tellings) → HasText s → sheet_of (sheet_text s) ≡ Ok s
+pub sheet_again : (s : Tellings) → HasToldText s → sheet_of (sheet_text s) ≡ Ok s
 unfolding sheet_text
 sheet_again s has = text_again s.joint s.sessions has.count has.sessions
 
 -- sessions with equal texts are equal
-pub same_sheet : (s t : Tellings) → HasText s → HasText t → sheet_text s ≡ sheet_text t → s ≡ t
+pub same_sheet : (s t : Tellings) → HasToldText s → HasToldText t → sheet_text s ≡ sheet_text t → s ≡ t
 same_sheet s t has other e = ok_is s t (sym (sheet_again s has) ∙ ap sheet_of e ∙ sheet_again t other)
 
 -- what is read of what a call gave
-pub sheet_found : (bytes : Text) (answer : Result Sheet InputFault) → Gives tellings answer (sheet_of bytes) → IfOk answer (λ s. HasText (tellings s) × (bytes ≡ sheet_text (tellings s)))
+pub sheet_found : (bytes : Text) (answer : Result Sheet InputFault) → Gives tellings answer (sheet_of bytes) → IfOk answer (λ s. HasToldText (tellings s) × (bytes ≡ sheet_text (tellings s)))
 sheet_found bytes (Ok s) h = let t = sheet_takes bytes (tellings s) h in (t.has, t.text)
 sheet_found bytes (Err fault) h = tt
 
 -- a session alone that has a text
-pub alone_has : (t : Telling) → IsTelling t → HasText (alone t)
+pub alone_has : (t : Telling) → IsTelling t → HasToldText (alone t)
 alone_has t is = record { count = refl; sessions = All-cons IsTelling t [] is (All-nil IsTelling) }
 
 -- what is written of a session is the text of what it tells

@@ -17,36 +17,36 @@ use Rattle.session_reader.specs.Grammar.{abandon_line, arrive_line, bits_digits,
 -- ---- the events
 
 -- the event of a line of this form
-abbrev pub reads_sheet : (line : Line) → (Values line → Event) → ℕ → Text → Read Event
-reads_sheet line make row bytes = read_line row line bytes >>= λ x. Ok (make x.0, x.1)
+abbrev pub read_line_as : (line : Line) → (Values line → Event) → ℕ → Text → Read Event
+read_line_as line make row bytes = read_line row line bytes >>= λ x. Ok (make x.0, x.1)
 
 -- a request
-abbrev pub read_request : Values request_line → Event
-read_request v = event.Request v.0 v.1.0 v.1.1.0
+abbrev pub request_event : Values request_line → Event
+request_event v = event.Request v.0 v.1.0 v.1.1.0
 
 -- an arrival
-abbrev pub arrive_of : Values arrive_line → Event
-arrive_of v = event.Arrive v.0 v.1.0 v.1.1.0 v.1.1.1.0 v.1.1.1.1.0
+abbrev pub arrive_event : Values arrive_line → Event
+arrive_event v = event.Arrive v.0 v.1.0 v.1.1.0 v.1.1.1.0 v.1.1.1.1.0
 
 -- an abandonment
-abbrev pub abandon_of : Values abandon_line → Event
-abandon_of v = event.Abandon v.0 v.1.0 v.1.1.0 v.1.1.1.0 v.1.1.1.1.0
+abbrev pub abandon_event : Values abandon_line → Event
+abandon_event v = event.Abandon v.0 v.1.0 v.1.1.0 v.1.1.1.0 v.1.1.1.1.0
 
 -- a seek
-abbrev pub seek_of : Values seek_line → Event
-seek_of v = event.Seek v.0 v.1.0 v.1.1.0
+abbrev pub seek_event : Values seek_line → Event
+seek_event v = event.Seek v.0 v.1.0 v.1.1.0
 
 -- a segment that begins to play
-abbrev pub play_of : Values play_line → Event
-play_of v = event.Play v.0 v.1.0 v.1.1.0
+abbrev pub play_event : Values play_line → Event
+play_event v = event.Play v.0 v.1.0 v.1.1.0
 
 -- a stall that begins
-abbrev pub stall_of : Values stall_line → Event
-stall_of v = event.Stall v.0
+abbrev pub stall_event : Values stall_line → Event
+stall_event v = event.Stall v.0
 
 -- the end
-abbrev pub read_end : Values end_event_line → Event
-read_end v = event.End v.0
+abbrev pub end_event : Values end_event_line → Event
+end_event v = event.End v.0
 
 -- the first of two readings that goes well
 abbrev pub or_else : {X : Type 0} → Read X → Read X → Read X
@@ -56,13 +56,13 @@ or_else (Err e) other = other
 -- an event: the first of seven forms that the line has
 unfoldable pub read_event : ℕ → Text → Read Event
 read_event row bytes =
-    or_else (reads_sheet request_line read_request row bytes)
-    (or_else (reads_sheet arrive_line arrive_of row bytes)
-    (or_else (reads_sheet abandon_line abandon_of row bytes)
-    (or_else (reads_sheet seek_line seek_of row bytes)
-    (or_else (reads_sheet play_line play_of row bytes)
-    (or_else (reads_sheet stall_line stall_of row bytes)
-    (reads_sheet end_event_line read_end row bytes))))))
+    or_else (read_line_as request_line request_event row bytes)
+    (or_else (read_line_as arrive_line arrive_event row bytes)
+    (or_else (read_line_as abandon_line abandon_event row bytes)
+    (or_else (read_line_as seek_line seek_event row bytes)
+    (or_else (read_line_as play_line play_event row bytes)
+    (or_else (read_line_as stall_line stall_event row bytes)
+    (read_line_as end_event_line end_event row bytes))))))
 
 -- an event before those that follow it
 abbrev pub event_before : Event → List Event × Text → List Event × Text
@@ -138,6 +138,6 @@ IsCount true count = (1 ≤ count) × (count ≤ most_players)
 IsCount false count = count ≡ 1
 
 -- sessions that have a text
-pub record HasText (s : Tellings) : Type 0 where
+pub record HasToldText (s : Tellings) : Type 0 where
   pub count : IsCount s.joint (length s.sessions)
   pub sessions : All IsTelling s.sessions

@@ -3,7 +3,7 @@ ghost use Rattle.std.specs.Prelude.{◌≡◌, ◌+◌, ◌≤◌, IfOk};
 ghost use Rattle.lab_model.specs.Reading.{Gives};
 ghost use Rattle.certificate_text.specs.Line.{read_line};
 ghost use Rattle.session_reader.specs.Grammar.{abandon_line, arrive_line, counter_line, end_event_line, play_line, told_player_line, request_line, seek_line, stall_line};
-ghost use Rattle.session_reader.specs.Reading.{abandon_of, arrive_of, read_end, play_of, reads_sheet, read_counters, read_event, read_request, seek_of, stall_of};
+ghost use Rattle.session_reader.specs.Reading.{abandon_event, arrive_event, end_event, play_event, read_line_as, read_counters, read_event, request_event, seek_event, stall_event};
 
 use crate::told::Counters;
 use certificate_text::{RUNG_DIGITS, read_amount, read_known, read_number, read_word};
@@ -21,8 +21,8 @@ const BITS_DIGITS: usize = 18;
 
 /// The line of a request.
 #[tactic(auto, unfolding(certificate_text::specs::Line::read_line))]
-fn read_request(row: u32, bytes: &[u8]) -> Result<(Event, &[u8]), InputFault>
-    ensures { Gives (λ x. (x.0, x.1.now)) result (reads_sheet request_line read_request row bytes.now) }
+fn request_event(row: u32, bytes: &[u8]) -> Result<(Event, &[u8]), InputFault>
+    ensures { Gives (λ x. (x.0, x.1.now)) result (read_line_as request_line request_event row bytes.now) }
 {
     let (at, rest) = read_number(row, TIME_DIGITS, b' ', bytes)?;
     let rest = read_word(row, "request", b' ', rest)?;
@@ -39,7 +39,7 @@ fn read_request(row: u32, bytes: &[u8]) -> Result<(Event, &[u8]), InputFault>
 /// The line of an arrival.
 #[tactic(auto, unfolding(certificate_text::specs::Line::read_line))]
 fn read_arrive(row: u32, bytes: &[u8]) -> Result<(Event, &[u8]), InputFault>
-    ensures { Gives (λ x. (x.0, x.1.now)) result (reads_sheet arrive_line arrive_of row bytes.now) }
+    ensures { Gives (λ x. (x.0, x.1.now)) result (read_line_as arrive_line arrive_event row bytes.now) }
 {
     let (at, rest) = read_number(row, TIME_DIGITS, b' ', bytes)?;
     let rest = read_word(row, "arrive", b' ', rest)?;
@@ -62,7 +62,7 @@ fn read_arrive(row: u32, bytes: &[u8]) -> Result<(Event, &[u8]), InputFault>
 /// The line of an abandonment.
 #[tactic(auto, unfolding(certificate_text::specs::Line::read_line))]
 fn read_abandon(row: u32, bytes: &[u8]) -> Result<(Event, &[u8]), InputFault>
-    ensures { Gives (λ x. (x.0, x.1.now)) result (reads_sheet abandon_line abandon_of row bytes.now) }
+    ensures { Gives (λ x. (x.0, x.1.now)) result (read_line_as abandon_line abandon_event row bytes.now) }
 {
     let (at, rest) = read_number(row, TIME_DIGITS, b' ', bytes)?;
     let rest = read_word(row, "abandon", b' ', rest)?;
@@ -85,7 +85,7 @@ fn read_abandon(row: u32, bytes: &[u8]) -> Result<(Event, &[u8]), InputFault>
 /// The line of a seek.
 #[tactic(auto, unfolding(certificate_text::specs::Line::read_line))]
 fn read_seek(row: u32, bytes: &[u8]) -> Result<(Event, &[u8]), InputFault>
-    ensures { Gives (λ x. (x.0, x.1.now)) result (reads_sheet seek_line seek_of row bytes.now) }
+    ensures { Gives (λ x. (x.0, x.1.now)) result (read_line_as seek_line seek_event row bytes.now) }
 {
     let (at, rest) = read_number(row, TIME_DIGITS, b' ', bytes)?;
     let rest = read_word(row, "seek", b' ', rest)?;
@@ -103,7 +103,7 @@ fn read_seek(row: u32, bytes: &[u8]) -> Result<(Event, &[u8]), InputFault>
 /// The line of a segment that begins to play.
 #[tactic(auto, unfolding(certificate_text::specs::Line::read_line))]
 fn read_play(row: u32, bytes: &[u8]) -> Result<(Event, &[u8]), InputFault>
-    ensures { Gives (λ x. (x.0, x.1.now)) result (reads_sheet play_line play_of row bytes.now) }
+    ensures { Gives (λ x. (x.0, x.1.now)) result (read_line_as play_line play_event row bytes.now) }
 {
     let (at, rest) = read_number(row, TIME_DIGITS, b' ', bytes)?;
     let rest = read_word(row, "play", b' ', rest)?;
@@ -120,7 +120,7 @@ fn read_play(row: u32, bytes: &[u8]) -> Result<(Event, &[u8]), InputFault>
 /// The line of a stall.
 #[tactic(auto, unfolding(certificate_text::specs::Line::read_line))]
 fn read_stall(row: u32, bytes: &[u8]) -> Result<(Event, &[u8]), InputFault>
-    ensures { Gives (λ x. (x.0, x.1.now)) result (reads_sheet stall_line stall_of row bytes.now) }
+    ensures { Gives (λ x. (x.0, x.1.now)) result (read_line_as stall_line stall_event row bytes.now) }
 {
     let (at, rest) = read_number(row, TIME_DIGITS, b' ', bytes)?;
     let rest = read_word(row, "stall", b'\n', rest)?;
@@ -129,8 +129,8 @@ fn read_stall(row: u32, bytes: &[u8]) -> Result<(Event, &[u8]), InputFault>
 
 /// The line of the end.
 #[tactic(auto, unfolding(certificate_text::specs::Line::read_line))]
-fn read_end(row: u32, bytes: &[u8]) -> Result<(Event, &[u8]), InputFault>
-    ensures { Gives (λ x. (x.0, x.1.now)) result (reads_sheet end_event_line read_end row bytes.now) }
+fn end_event(row: u32, bytes: &[u8]) -> Result<(Event, &[u8]), InputFault>
+    ensures { Gives (λ x. (x.0, x.1.now)) result (read_line_as end_event_line end_event row bytes.now) }
 {
     let (at, rest) = read_number(row, TIME_DIGITS, b' ', bytes)?;
     let rest = read_word(row, "end", b'\n', rest)?;
@@ -142,7 +142,7 @@ fn read_end(row: u32, bytes: &[u8]) -> Result<(Event, &[u8]), InputFault>
 pub(crate) fn read_event(row: u32, bytes: &[u8]) -> Result<(Event, &[u8]), InputFault>
     ensures { Gives (λ x. (x.0, x.1.now)) result (read_event row bytes.now) }
 {
-    match read_request(row, bytes) {
+    match request_event(row, bytes) {
         Err(InputFault::Refused(_)) => {}
         read => return read,
     }
@@ -166,7 +166,7 @@ pub(crate) fn read_event(row: u32, bytes: &[u8]) -> Result<(Event, &[u8]), Input
         Err(InputFault::Refused(_)) => {}
         read => return read,
     }
-    read_end(row, bytes)
+    end_event(row, bytes)
 }
 
 /// The line of a counter: its word and a number of at most so many digits, 18 or fewer.

@@ -6,7 +6,7 @@ ghost use Rattle.player_core.specs.Session.{Shown};
 ghost use Rattle.session_report.specs.Session.{session_text};
 ghost use Rattle.certificate_text.specs.Reading.{read_nothing};
 ghost use Rattle.session_reader.specs.Form.{IsTelling, Tellings, alone, line_count, most_events, most_players, telling, telling_of, tellings};
-ghost use Rattle.session_reader.specs.Reading.{HasText, begins_players, read_alone, read_events, read_players, read_telling, sheet_of};
+ghost use Rattle.session_reader.specs.Reading.{HasToldText, begins_players, read_alone, read_events, read_players, read_telling, sheet_of};
 ghost use Rattle.session_reader.specs.Spelling.{sheet_text};
 
 use crate::lines::{read_counters, read_event, read_player};
@@ -135,10 +135,10 @@ fn sheet_of(alloc: Global, bytes: &[u8]) -> Result<Sheet, InputFault>
 /// no spelling, with the first bad line.
 pub fn read_sessions(alloc: Global, bytes: &[u8]) -> Result<Sheet, InputFault>
     // What is read has a text, and the bytes are it.
-    ensures found { IfOk result (λ s. HasText (tellings s)
+    ensures found { IfOk result (λ s. HasToldText (tellings s)
         × (bytes.now ≡ sheet_text (tellings s))) }
     // What has a text is read from it.
-    ensures again { (s : Tellings) → HasText s → bytes.now ≡ sheet_text s
+    ensures again { (s : Tellings) → HasToldText s → bytes.now ≡ sheet_text s
         → Gives tellings result (Ok s) }
     // What is written of a session is read as its events and its counters.
     ensures written { (s : Shown) (w : Weighing) → IsTelling (telling_of s w)
